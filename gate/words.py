@@ -23,9 +23,9 @@ SCRIPT = "crates/mlir_work_script/src"
 BELOW = "crates/mlir_work_script_base/src"
 READERS = ("command", "session_command", "registry_command", "expected_refusal")
 # Refusals that no command answers.
-UNANSWERED = {"NotEmpty", "NotProved"}
+UNANSWERED = {"NotEmpty"}
 # Words after the first one of a line, which these files compare in the same way.
-BEHIND = {"at", "limit", "only", "trace", "width"}
+BEHIND = {"all", "at", "limit", "only", "proved", "trace", "width"}
 
 
 def source(path):
@@ -108,7 +108,7 @@ def kinds(text):
 
 def read_words():
     """The words by which a line is read."""
-    found = {it for file in READERS for it in re.findall(r'name [!=]= b"([\w-]+)"', source(f"{SCRIPT}/{file}.rt"))}
+    found = {it for file in READERS for it in re.findall(r'name [!=]= b"([\w!-]+)"', source(f"{SCRIPT}/{file}.rt"))}
     return found - BEHIND
 
 

@@ -134,7 +134,7 @@ def about(module, line, number, offset=None):
     """What follows the refusal of a line other than 60."""
     if offset is not None:
         word, rest = cut(line)
-        if word == "pattern":
+        if word in ("pattern", "pattern!"):
             return " about " + printing.string_text(expected.sentence(rest, number, offset).encode())
         text = text_in(line)
         return "" if text is None else cause_told(text.encode("latin-1"), number, offset)

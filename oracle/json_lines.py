@@ -10,6 +10,7 @@ MOST = 2 ** 32
 OF_WIDTH = (b"holds", b"empty", b"unrefuted", b"fails")
 OUTCOME = re.compile(rb"[-0-9].*|true|false|poison|undefined")
 VERDICTS = (*OF_WIDTH, b"unchecked")
+ANSWERS = (*OF_WIDTH, b"refused")
 VALUE = re.compile(rb"%v(N)\.(N)|%a(N)\.(N)\.(N)".replace(b"N", rb"0|[1-9][0-9]*"))
 # A cell ends at a blank outside quotes.
 CELL = re.compile(rb'(?:"[^"]*(?:"|\Z)|[^ "])*')
@@ -113,9 +114,17 @@ def is_unproved(line):
     return word == b"unproved" and cut(cut(rest)[1])[0] in VERDICTS and b"=" not in line
 
 
-def row_of_unproved(line):
-    name, said = cut(cut(line)[1])
-    return {"kind": "unproved", "name": shown(name), **verdict(said)}
+def is_checked(line):
+    """Whether a line names a pattern that was checked: the answer follows its name."""
+    word, rest = cut(line)
+    return word == b"checked" and cut(cut(rest)[1])[0] in ANSWERS and b"=" not in line
+
+
+def row_of_named(line):
+    """The line of a pattern that no check proves, or that was checked."""
+    kind, rest = cut(line)
+    name, said = cut(rest)
+    return {"kind": shown(kind), "name": shown(name), **verdict(said)}
 
 
 def names_value(word):
@@ -179,6 +188,8 @@ def changed(told, rest):
 def row_of_reason(line):
     op, rest = cut(cut(line)[1])
     rule, rest = cut(rest)
+    if not isinstance(number(rule), int):
+        return {"kind": "why", "op": shown(op), "name": shown(rule), "said": shown(rest)}
     word, rest = cut(rest)
     return {"kind": "why", "op": shown(op), "rule": number(rule), "word": shown(word), "said": shown(rest)}
 
@@ -210,8 +221,8 @@ def worded(line):
         return row_of_stay(line)
     if rest.startswith(b"#"):
         return row_of_symbols(line) if word in SYMBOLS else {"text": shown(line)}
-    if is_unproved(line):
-        return row_of_unproved(line)
+    if is_unproved(line) or is_checked(line):
+        return row_of_named(line)
     if OUTCOME.fullmatch(cut(rest)[0]):
         return row_of_check(line)
     if b"=" in line:

@@ -113,6 +113,7 @@ class Match:
         site.clean(site.x)
         self.constants = []
         self.match(pattern.old, ("v", site.x.id, 0))
+        need(all(map(is_T, self.types.values())))
         self.instance = Instance(pattern, self.types)
         need(all(site.type(value) == self.instance.type(term) for term, value in self.constants))
         self.numbers = {name: site.K(value) for name, value in self.values.items() if not name.startswith("%")}

@@ -432,8 +432,9 @@ def variable(term):
     return term.number.word if isinstance(term, Constant) and term.number.is_name() else None
 
 
-def read(text, known=()):
-    """The pattern that a text spells, apart from the names that are known; raises `Refused`."""
+def read(text, known=(), replaces=False):
+    """The pattern that a text spells, apart from the names that are known, or one that may have a known name; raises
+    `Refused`."""
     reader = Reader(text)
     start = reader.look(0).start
     name, at = reader.word(0)
@@ -443,8 +444,9 @@ def read(text, known=()):
     at = reader.expect(reader.expect(at, b"="), b">")
     new, at = reader.term(at, False, 1)
     made = Pattern(name, old, new, reader.conditions(at))
-    refuse(4, start, name in known)
-    refuse(11, start, len(known) == MOST_PATTERNS)
+    is_new = name not in known
+    refuse(4, start, not is_new and not replaces)
+    refuse(11, start, is_new and len(known) == MOST_PATTERNS)
     made.look_up()
     made.tell_types()
     return made

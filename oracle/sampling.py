@@ -1,5 +1,5 @@
-"""Samples a user pattern at wide types: edge values of the types, and pseudo-random values that are always the same. If
-none is a counterexample, that says nothing about other values."""
+"""Samples a user pattern at wide types: edge values of the types, pseudo-random values that are always the same, then
+values near the literals of the pattern. If none is a counterexample, that says nothing about other values."""
 import functools
 import itertools
 
@@ -7,8 +7,11 @@ from . import edits
 from .folds import width
 from .pattern_checks import Case, is_kept, rows_of, told_width, type_variables, widest_type
 from .pattern_uses import Instance
+from .patterns import Constant, walk
 
 MOST_WIDTH, MOST_TYPES, LEVELS, CASES, EDGES = 128, 4, 3, 4096, 1000
+# So many literals have values near them, and a variable has so many values in the cases near literals.
+MOST_LITERALS, CHOICES = 8, 41
 ONE = 2 ** 128
 
 
@@ -37,12 +40,37 @@ def value(w, i, j):
     return edges(w)[i // 10 ** (j % 3) % 10] if i < EDGES else chance(w, 16 * i + j)
 
 
-def counterexample(instance):
-    """The values of the first counterexample at types, and the results of both sides; or None."""
+def literals_of(number):
+    """The literals in a number, operands first; `neg` takes from 0, and `not` compares with -1."""
+    if number.is_literal():
+        return [number.word]
+    own = {"neg": [0], "not": [-1]}.get(number.word, []) if number.parts else []
+    return [it for part in number.parts or () for it in literals_of(part)] + own
+
+
+def near_literals(pattern):
+    """The first literals in the order of the text, each with the numbers before and after it."""
+    numbers = [term.number for side in (pattern.old, pattern.new) for term in walk(side) if isinstance(term, Constant)]
+    numbers += [part for condition in pattern.conditions for part in condition.numbers()]
+    found = [it for number in numbers for it in literals_of(number)][:MOST_LITERALS]
+    return [(it + offset) % ONE for it in found for offset in (0, -1, 1)]
+
+
+def near_value(near, w, i, j):
+    """The value of variable j in case i near literals. Any two variables have each pair of their values in some case:
+    the numbers near literals, the edges, and pseudo-random values."""
+    number = (i % CHOICES + j % CHOICES * (i // CHOICES % CHOICES)) % CHOICES
+    here = [it % 2 ** w for it in near] + list(edges(w))
+    return here[number] if number < len(here) else chance(w, 16 * i + j)
+
+
+def counterexample(instance, near):
+    """The values of the first counterexample at types, and the results of both sides; or None. The cases are the usual
+    ones, or those near some numbers."""
     pattern, tried = instance.pattern, set()
     widths = [width(instance.real(ty)) for ty in pattern.variables.values()]
-    for i in range(CASES):
-        numbers = tuple(value(w, i, j) for j, w in enumerate(widths))
+    for i in range(CHOICES ** 2 if near else CASES):
+        numbers = tuple(near_value(near, w, i, j) if near else value(w, i, j) for j, w in enumerate(widths))
         # (of narrow types the same values come again)
         if numbers in tried:
             continue
@@ -60,10 +88,13 @@ def sample(pattern, most):
     types = type_variables(pattern)
     edits.refuse(50, not 1 <= most <= MOST_WIDTH or len(types) > MOST_TYPES)
     widths_of = [[level_width(most, level) for level in range(LEVELS)]] * len(types)
-    # (two levels of one width repeat the same test, with the same result)
-    for widths in dict.fromkeys(itertools.product(*widths_of)):
-        instance = Instance(pattern, {ty: ("i", w) for ty, w in zip(types, widths)})
-        found = counterexample(instance) if instance.is_possible else None
-        if found:
-            return f"fails {max(widths) if widths else widest_type(pattern)}", rows_of(instance, found[0], *found[1])
+    near = near_literals(pattern)
+    for numbers in [[], near] if near else [[]]:
+        # (two levels of one width repeat the same test, with the same result)
+        for widths in dict.fromkeys(itertools.product(*widths_of)):
+            instance = Instance(pattern, {ty: ("i", w) for ty, w in zip(types, widths)})
+            found = counterexample(instance, numbers) if instance.is_possible else None
+            if found:
+                return (f"fails {max(widths) if widths else widest_type(pattern)}",
+                        rows_of(instance, found[0], *found[1]))
     return f"unrefuted {told_width(pattern, most)}", []

@@ -2,8 +2,8 @@
 import functools
 import re
 
-from . import (aliases, conversion, edits, everywhere, mixed, pattern_uses, patterns, reasons, rewrites, sampling,
-               unproved)
+from . import (aliases, conversion, edits, everywhere, mixed, pattern_reasons, pattern_uses, patterns, reasons,
+               rewrites, sampling, unproved)
 from .analyses import ANALYSES, KINDS, is_about, rows_of, unreached_ops
 from .culprits import about, about_text
 from .module import ids_text, printing, read, read_attr, read_op, rules, text_of
@@ -23,9 +23,11 @@ MOST_MARKS = 16
 FIRST = {"report", "print", "set-operand", "move", "set-attr", "drop-attr", "resync", "detach"}
 EDITS = FIRST | {"erase", "insert", "replace"}
 ALL = EDITS | {"begin", "commit", "rollback", "sweep", "canon", "convert", "apply", "attach", "rewrite", "pattern",
-               "patterns", "check", "forget", "why"}
+               "pattern!", "patterns", "check", "forget", "why"}
+# The methods of commands whose words are no names of Python's.
+METHODS = {"pattern!": "redefine"}
 # These leave the module, and have no listing, but where they are refused as no command.
-LOOKS = {"report", "print", "pattern", "patterns", "check", "forget", "why"}
+LOOKS = {"report", "print", "pattern", "pattern!", "patterns", "check", "forget", "why"}
 REFUSALS = {**rules.WORDS, **WORDS}
 NUMBERS = {word: number for number, word in REFUSALS.items()}
 MOST_LIMIT, LIMIT = 1000000, 1000
@@ -229,9 +231,15 @@ class Run:
         return ("converged" if is_done else "limit") + f" {count}", ""
 
     def why(self, text):
-        """Why rules don't apply at an operation: one, or those that there may be at its name."""
+        """Why rules don't apply at an operation: one, or those that there may be at its name; or why a pattern
+        doesn't."""
         words = re.split("[ \t]+", text)
         need(len(words) in (1, 2))
+        if words[1:] and words[1] in self.book:
+            op = op_of(words[0])
+            edits.refuse(20, op not in self.module.ops())
+            told = pattern_reasons.reason(self.book[words[1]], self.module, op) or "applies"
+            return "", f"why #{op} {words[1]} {told}\n"
         op, rule = op_of(words[0]), rule_of(words[1]) if len(words) == 2 else None
         edits.refuse(26, len(words) == 2 and rule is None)
         edits.refuse(20, op not in self.module.ops())
@@ -259,9 +267,13 @@ class Run:
         items = words[0].split(",")
         need("" not in items)
         asked = [it for item in items for it in self.meant(item)]
-        is_traced = words[1:2] == ["trace"]
-        limit = self.limited(words[1 + is_traced:])
+        is_proved = words[1:2] == ["proved"]
+        words = words[1 + is_proved:]
+        is_traced = words[:1] == ["trace"]
+        limit = self.limited(words[is_traced:])
         edits.refuse(26, None in asked)
+        named = self.unproved(asked)
+        edits.refuse(61, is_proved and named != "", named)
         return self.rewritten(asked, limit, is_traced)
 
     def convert(self, text):
@@ -306,6 +318,13 @@ class Run:
         found = patterns.read(text.encode("latin-1"), self.book)
         self.book = {**self.book, found.name: found}
 
+    def redefine(self, text):
+        """Defines a pattern in the place of the one of its name, whose verdict is forgotten."""
+        need(text != "")
+        found = patterns.read(text.encode("latin-1"), self.book, replaces=True)
+        self.book = {**self.book, found.name: found}
+        self.verdicts = {name: it for name, it in self.verdicts.items() if name != found.name}
+
     def patterns(self, text):
         need(text == "")
         rows = [f"{patterns.text_of(it)} // {self.verdicts.get(name, 'not checked')}\n" for name, it in
@@ -323,17 +342,31 @@ class Run:
         need(len(words) in (1, 3, 4) and words[1:2] in ([], ["width"]) and words[3:] in ([], ["sampled"]))
         most = number(words[2]) if words[1:] else None
         need(words[0] and not words[0][0].isdigit())
+        if words == ["all"] and "all" not in self.book:
+            return self.check_all()
         edits.refuse(26, words[0] not in self.book)
         verdict, rows = checked(patterns.text_of(self.book[words[0]]), most, bool(words[3:]))
         self.verdicts = {**self.verdicts, words[0]: verdict}
         return verdict, "".join(row + "\n" for row in rows)
+
+    def check_all(self):
+        """Checks each pattern. The reply is the verdict on the first wrong one, or `ok`."""
+        wrong, told = "", ""
+        for name in self.book:
+            try:
+                verdict, rows = self.check(name)
+            except edits.Refused as fault:
+                verdict, rows = f"refused {fault.number} {WORDS[fault.number]}", ""
+            wrong = wrong or (verdict if verdict.startswith("fails ") else "")
+            told += f"checked {name} {verdict}\n{rows}"
+        return wrong, told
 
     def reply(self, line):
         """The reply to a line that is no comment, and whether it has a listing."""
         word, rest = cut(line)
         try:
             need(word in self.commands)
-            after, below = getattr(self, word.replace("-", "_"))(rest) or ("", "")
+            after, below = getattr(self, METHODS.get(word, word.replace("-", "_")))(rest) or ("", "")
             return f" {after or 'ok'}\n{below}", word not in LOOKS
         except Bad:
             return " refused 60 BadCommand\n", True
@@ -345,7 +378,8 @@ class Run:
             below = f"{fault.stays}\n" if fault.stays and cut(rest)[0] == "trace" else ""
             return f" refused {fault.number} {WORDS[fault.number]}{op}\n{below}", True
         except edits.Refused as fault:
-            return f" refused {fault.number} {WORDS[fault.number]}{self.about(line, fault.number)}\n", word not in LOOKS
+            told = f" refused {fault.number} {WORDS[fault.number]}{self.about(line, fault.number)}\n"
+            return told + fault.below, word not in LOOKS
 
     def about(self, line, number, offset=None):
         """What follows a refusal with `--explain`."""

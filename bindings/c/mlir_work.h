@@ -183,6 +183,46 @@ void mlir_work_open_opaque(mlir_work_session *session, const uint8_t *text, size
    expected refusal. */
 void mlir_work_command(mlir_work_session *session, const uint8_t *line, size_t line_length, mlir_work_answer *answer);
 
+/* Defines the user patterns of a text, as `mlir_work --patterns FILE` does: a pattern a line, as `double
+   arith.addi(%a, %a) => arith.shli(%a, 1)`. Empty lines and lines that begin with `//` are skipped. The answer is
+   MLIR_WORK_OK with the number of patterns; or the refusal of the first pattern that is refused, whose line begins at
+   byte `*at` of the text, and the patterns before it stay. (This function is part of the header, not of the library,
+   and isn't proved.) */
+static inline void mlir_work_patterns(mlir_work_session *session, const uint8_t *text, size_t text_length, size_t *at,
+                                      mlir_work_answer *answer) {
+  static const char command[] = "pattern ";
+  uint8_t line[4096];
+  uint64_t count = 0;
+  answer->outcome = MLIR_WORK_OK;
+  answer->refusal = 0;
+  answer->number = answer->shown = 0;
+  for (size_t from = 0, end; from < text_length; from = end + 1) {
+    size_t first = from;
+    for (end = from; end < text_length && text[end] != '\n'; end++) {
+    }
+    while (first < end && (text[first] == ' ' || text[first] == '\t' || text[first] == '\r'))
+      first++;
+    if (first == end || (end - first > 1 && text[first] == '/' && text[first + 1] == '/'))
+      continue;
+    *at = from;
+    if (end - first > sizeof line - (sizeof command - 1)) {
+      answer->outcome = MLIR_WORK_REFUSED;
+      answer->refusal = MLIR_WORK_TOO_MANY;
+      return;
+    }
+    for (size_t i = 0; i < sizeof command - 1; i++)
+      line[i] = (uint8_t)command[i];
+    for (size_t i = first; i < end; i++)
+      line[sizeof command - 1 + (i - first)] = text[i];
+    mlir_work_command(session, line, sizeof command - 1 + (end - first), answer);
+    if (answer->outcome != MLIR_WORK_OK)
+      return;
+    count++;
+  }
+  answer->number = count;
+  answer->shown = 0;
+}
+
 /* Copies the output of the last line, from byte `from` on, into `into`, at most `into_length` bytes. Returns how many
    bytes were copied: 0 at the end of the output, and for a closed handle. */
 size_t mlir_work_read(mlir_work_session *session, size_t from, uint8_t *into, size_t into_length);
@@ -310,6 +350,41 @@ uint64_t mlir_work_argument_count(mlir_work_session *session, uint32_t operation
 /* Returns in which region of its parent an operation is. */
 uint64_t mlir_work_region_of(mlir_work_session *session, uint32_t operation);
 
+/* Reads of many operations, or of many values, by one call. Each call writes as many items as there is space for, from
+   the first item on, and returns how many it wrote: 0 for a closed handle. If a call that can write more than one item
+   for each input returns its capacity, there may be more items. */
+
+/* The number of the name of an operation, and its counts. If the module has no such operation, the name is
+   MLIR_WORK_NONE, and all counts are 0. */
+typedef struct mlir_work_head {
+  uint64_t name;
+  mlir_work_count counts;
+} mlir_work_head;
+
+/* Writes the heads of operations, one for each. */
+size_t mlir_work_heads(mlir_work_session *session, const uint32_t *operations, size_t count, mlir_work_head *heads,
+                       size_t capacity);
+
+/* Writes the operands of operations, one operation after the other. The heads say how many operands each one has. */
+size_t mlir_work_operands(mlir_work_session *session, const uint32_t *operations, size_t count,
+                          mlir_work_value *operands, size_t capacity);
+
+/* Writes the numbers of the types of values, one for each, and MLIR_WORK_NONE for a value that the module doesn't
+   have. */
+size_t mlir_work_types(mlir_work_session *session, const mlir_work_value *values, size_t count, uint64_t *types,
+                       size_t capacity);
+
+/* A use of one of several values: the index of the value, the operation, and the number of its operand. */
+typedef struct mlir_work_value_use {
+  size_t value;
+  uint32_t operation;
+  uint32_t operand;
+} mlir_work_value_use;
+
+/* Writes the uses of values, one value after the other; those of one value each once, and in any order. */
+size_t mlir_work_value_uses(mlir_work_session *session, const mlir_work_value *values, size_t count,
+                            mlir_work_value_use *uses, size_t capacity);
+
 /* Names, types and attributes are interned: a session has a number for each. Two names of a session are equal exactly
    if their numbers are equal, and so are two types and two attributes. A number keeps its meaning until the session is
    closed: neither an edit nor a rollback changes or releases it. Another session has other numbers. */
@@ -339,6 +414,106 @@ uint64_t mlir_work_attribute_by_key(mlir_work_session *session, uint32_t operati
 /* Returns the number of the name with this text, or MLIR_WORK_NONE if the session has no such name: then no operation
    has that name or key. Takes time proportional to the names of the session, so call it once a name. */
 uint64_t mlir_work_find_name(mlir_work_session *session, const uint8_t *text, size_t text_length);
+
+/* Get the number of the name, type or attribute with this text. A new one is interned, which changes nothing else. The
+   answer is MLIR_WORK_OK with the number; or MLIR_WORK_REFUSED_AT or MLIR_WORK_REFUSED. */
+void mlir_work_name(mlir_work_session *session, const uint8_t *text, size_t text_length, mlir_work_answer *answer);
+void mlir_work_type(mlir_work_session *session, const uint8_t *text, size_t text_length, mlir_work_answer *answer);
+void mlir_work_attribute(mlir_work_session *session, const uint8_t *text, size_t text_length, mlir_work_answer *answer);
+
+/* An integer attribute: its value, a number below 2^w of a type of w bits, in two parts of 64 bits; the number of its
+   type; and the width w, or 0 for index, which has 64 bits. */
+typedef struct mlir_work_integer_value {
+  uint64_t low;
+  uint64_t high;
+  uint32_t type;
+  uint32_t width;
+} mlir_work_integer_value;
+
+/* Returns whether an attribute is an integer, such as `5 : i32` or `true`, and writes it to `integer`. If it is none,
+   `integer` is unchanged. */
+bool mlir_work_integer(mlir_work_session *session, uint32_t attribute, mlir_work_integer_value *integer);
+
+/* Edits by the numbers of names, types and attributes. A number that the session doesn't have is refused (60
+   BadCommand), and nothing changes. */
+
+/* A new operation: where it is inserted, and the number of its name. */
+typedef struct mlir_work_new {
+  mlir_work_spot spot;
+  uint32_t name;
+} mlir_work_new;
+
+/* An entry of a new operation. */
+typedef struct mlir_work_new_entry {
+  uint32_t key;         /* the number of a name */
+  uint32_t attribute;   /* the number of an attribute */
+  uint32_t is_property; /* 0: a discardable attribute */
+} mlir_work_new_entry;
+
+/* Inserts an operation without regions: its operands, the numbers of the types of its results, and its entries. The
+   properties, and also the discardable attributes, are in the order of the texts of their keys, as the reads return
+   them; otherwise the operation is refused (60 BadCommand). The answer is that of `insert`: MLIR_WORK_MADE with the
+   number of the new operation, or MLIR_WORK_REFUSED. */
+void mlir_work_insert(mlir_work_session *session, const mlir_work_new *operation, const mlir_work_value *operands,
+                      size_t operand_count, const uint32_t *results, size_t result_count,
+                      const mlir_work_new_entry *entries, size_t entry_count, mlir_work_answer *answer);
+
+/* The commands `set-attr` and `drop-attr`, with the same answers. */
+void mlir_work_set_attribute(mlir_work_session *session, uint32_t operation, uint32_t key, uint32_t attribute,
+                             mlir_work_answer *answer);
+void mlir_work_drop_attribute(mlir_work_session *session, uint32_t operation, uint32_t key, mlir_work_answer *answer);
+
+/* The kinds of analyses. */
+enum mlir_work_kind {
+  MLIR_WORK_USES = 1,
+  MLIR_WORK_SYMBOLS = 2,
+  MLIR_WORK_DIAGNOSTICS = 3,
+  MLIR_WORK_EFFECTS = 4,
+  MLIR_WORK_DEAD = 5,
+  MLIR_WORK_CONSTANTS = 6,
+  MLIR_WORK_UNREACHED = 7
+};
+
+/* What a cell of a report row is. */
+enum mlir_work_cell_kind {
+  MLIR_WORK_CELL_OPERATION = 0, /* `value.operation` */
+  MLIR_WORK_CELL_VALUE = 1,     /* `value` */
+  MLIR_WORK_CELL_NUMBER = 2,    /* `low` */
+  MLIR_WORK_CELL_NAME = 3,      /* `low`: the number of a name, the text of a symbol */
+  MLIR_WORK_CELL_ATTRIBUTE = 4, /* `low`: the number of an attribute, a symbol reference */
+  MLIR_WORK_CELL_CONSTANT = 5,  /* `low` and `high`: a number below 2^w; `value.place`: the width w, and 0 for index */
+  MLIR_WORK_CELL_RULE = 6,      /* `low`: a rule of the verifier */
+  MLIR_WORK_CELL_WORD = 7       /* `low`: an mlir_work_word */
+};
+
+/* A word of a report row. */
+enum mlir_work_word {
+  MLIR_WORK_WORD_DEF = 0,
+  MLIR_WORK_WORD_DUPLICATE = 1,
+  MLIR_WORK_WORD_USE = 2,
+  MLIR_WORK_WORD_UNRESOLVED = 3,
+  MLIR_WORK_WORD_MISMATCH = 4,
+  MLIR_WORK_WORD_UNKNOWN = 5,
+  MLIR_WORK_WORD_ALLOCATE = 6,
+  MLIR_WORK_WORD_FREE = 7,
+  MLIR_WORK_WORD_READ = 8,
+  MLIR_WORK_WORD_WRITE = 9
+};
+
+/* A cell of a report row. */
+typedef struct mlir_work_cell {
+  uint32_t kind; /* an mlir_work_cell_kind */
+  mlir_work_value value;
+  uint64_t low;
+  uint64_t high;
+  size_t left; /* how many cells of the row follow: a row ends after a cell with 0 */
+} mlir_work_cell;
+
+/* Writes the cells of the rows that `report` shows, one row after the other, as many as there is space for. The answer
+   is MLIR_WORK_OK with the number of all cells, or MLIR_WORK_REFUSED. `kind`: an mlir_work_kind. The output of the last
+   line is unchanged. */
+void mlir_work_report(mlir_work_session *session, uint32_t kind, mlir_work_cell *cells, size_t capacity,
+                      mlir_work_answer *answer);
 
 /* Write the text of a name, a type or an attribute, as a printed module has it, without a terminating 0. They return
    its length, MLIR_WORK_NONE if the session has no such number, or MLIR_WORK_NO_MEMORY; a name needs no memory. */

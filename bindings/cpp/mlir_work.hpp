@@ -82,7 +82,7 @@ private:
 // An interned name, type or attribute of a session. Two of a session are compared by their numbers.
 template <std::uint64_t (*Read)(mlir_work_session *, std::uint32_t, std::uint8_t *, std::size_t)> class Interned {
 public:
-  Interned(mlir_work_session *held, std::uint32_t number) : held_(held), number_(number) {}
+  Interned(mlir_work_session *held, std::uint32_t number) : number_(number), held_(held) {}
 
   std::uint32_t number() const { return number_; }
   // Returns the text as a printed module has it. Throws std::bad_alloc.
@@ -108,13 +108,38 @@ private:
     return found;
   }
 
-  mlir_work_session *held_;
   std::uint32_t number_;
+
+protected:
+  mlir_work_session *held_;
 };
 
 using Name = Interned<mlir_work_name_text>;
 using Type = Interned<mlir_work_type_text>;
-using Attribute = Interned<mlir_work_attribute_text>;
+
+// An integer attribute: its value below 2^w, in two parts of 64 bits, the number of its type, and the width w, which is
+// 0 for index.
+struct Integer : mlir_work_integer_value {
+  bool is_zero() const { return low == 0 && high == 0; }
+  bool is_minus_one() const {
+    const std::uint32_t bits = width ? width : 64;
+    const auto ones = [](std::uint32_t count) {
+      return count >= 64 ? ~std::uint64_t{0} : (std::uint64_t{1} << count) - 1;
+    };
+    return low == ones(bits) && high == (bits > 64 ? ones(bits - 64) : 0);
+  }
+};
+
+// An interned attribute.
+class Attribute : public Interned<mlir_work_attribute_text> {
+public:
+  using Interned::Interned;
+  // The integer that the attribute is, such as `5 : i32` or `true`.
+  std::optional<Integer> integer() const {
+    Integer found{};
+    return mlir_work_integer(held_, number(), &found) ? std::optional(found) : std::nullopt;
+  }
+};
 
 // An entry of the properties or the discardable attributes of an operation.
 struct Entry {
@@ -403,6 +428,101 @@ inline auto Operation::regions() const {
   });
 }
 
+// The operations of a module with their names, operands, types of results and uses. A table is read by a few calls, so
+// a walk over it is faster than one over handles.
+class Table {
+public:
+  // A part of an array.
+  template <class Item> struct Items {
+    const Item *first, *last;
+    const Item *begin() const { return first; }
+    const Item *end() const { return last; }
+    std::size_t size() const { return static_cast<std::size_t>(last - first); }
+    bool empty() const { return first == last; }
+    const Item &operator[](std::size_t place) const { return first[place]; }
+  };
+  // An operation of the table.
+  struct Row {
+    std::uint32_t operation;
+    std::uint32_t name; // the number of a Name
+    const mlir_work_count *counts;
+    Items<mlir_work_value> operands;
+    Items<std::uint64_t> types;         // the number of the type of each result
+    Items<mlir_work_value_use> uses;    // those of all results, by the index of the result
+  };
+
+  explicit Table(mlir_work_session *held) : held_(held) {
+    std::uint32_t none;
+    const std::uint64_t count = mlir_work_operations(held, &none, 0);
+    operations_.resize(count >= MLIR_WORK_NO_MEMORY ? 0 : static_cast<std::size_t>(count));
+    if (!operations_.empty() &&
+        mlir_work_operations(held, operations_.data(), operations_.size()) >= MLIR_WORK_NO_MEMORY)
+      throw std::bad_alloc();
+  }
+  std::size_t size() const { return operations_.size(); }
+
+  // Calls `visit` with each row, in pre-order. A row is valid during the call. Don't edit the module meanwhile.
+  template <class Visit> void each(Visit visit) {
+    for (std::size_t at = 0; at < operations_.size(); at += page)
+      visit_page(operations_.data() + at, std::min(page, operations_.size() - at), visit);
+  }
+
+private:
+  static constexpr std::size_t page = 512;
+
+  template <class Visit> void visit_page(const std::uint32_t *operations, std::size_t count, Visit &visit) {
+    heads_.resize(page);
+    mlir_work_heads(held_, operations, count, heads_.data(), count);
+    std::size_t operand_count = 0;
+    results_.clear();
+    for (std::size_t k = 0; k < count; k++) {
+      operand_count += heads_[k].counts.operands;
+      for (std::size_t place = 0; place < heads_[k].counts.results; place++)
+        results_.push_back(result(operations[k], static_cast<std::uint32_t>(place)));
+    }
+    operands_.resize(std::max<std::size_t>(operand_count, 1));
+    mlir_work_operands(held_, operations, count, operands_.data(), operand_count);
+    if (results_.empty())
+      results_.reserve(1);
+    types_.resize(std::max<std::size_t>(results_.size(), 1));
+    mlir_work_types(held_, results_.data(), results_.size(), types_.data(), results_.size());
+    uses_.resize(std::max<std::size_t>(uses_.size(), 1024));
+    while ((use_count_ = mlir_work_value_uses(held_, results_.data(), results_.size(), uses_.data(), uses_.size())) ==
+           uses_.size())
+      uses_.resize(2 * uses_.size());
+    show(operations, count, visit);
+  }
+  template <class Visit> void show(const std::uint32_t *operations, std::size_t count, Visit &visit) {
+    const mlir_work_value *operand = operands_.data();
+    const std::uint64_t *type = types_.data();
+    mlir_work_value_use *use = uses_.data(), *const last = use + use_count_;
+    std::size_t result = 0;
+    for (std::size_t k = 0; k < count; k++) {
+      const mlir_work_count &counts = heads_[k].counts;
+      mlir_work_value_use *const first = use;
+      for (; use != last && use->value < result + counts.results; use++)
+        use->value -= result;
+      visit(Row{operations[k],
+                static_cast<std::uint32_t>(heads_[k].name),
+                &counts,
+                {operand, operand + counts.operands},
+                {type, type + counts.results},
+                {first, use}});
+      operand += counts.operands;
+      type += counts.results;
+      result += counts.results;
+    }
+  }
+
+  mlir_work_session *held_;
+  std::vector<std::uint32_t> operations_;
+  std::vector<mlir_work_head> heads_;
+  std::vector<mlir_work_value> operands_, results_;
+  std::vector<std::uint64_t> types_;
+  std::vector<mlir_work_value_use> uses_;
+  std::size_t use_count_ = 0;
+};
+
 // A line or a module was refused. The session is unchanged.
 class Refused : public std::runtime_error {
 public:
@@ -462,6 +582,15 @@ public:
     return answer;
   }
 
+  // Defines the user patterns of a text, a line each, and returns how many they are; throws Refused. `check NAME` as a
+  // command checks one.
+  std::size_t define(std::string_view patterns) {
+    mlir_work_answer answer;
+    std::size_t at = 0;
+    mlir_work_patterns(&held_, bytes(patterns), patterns.size(), &at, &answer);
+    return static_cast<std::size_t>(accepted(answer).number);
+  }
+
   // Returns how many marks are open.
   std::size_t marks() const { return marks_; }
 
@@ -499,6 +628,27 @@ public:
     return found;
   }
 
+  // Returns the rows of a report as numbers; throws Refused.
+  std::vector<std::vector<mlir_work_cell>> rows(mlir_work_kind kind) {
+    std::vector<mlir_work_cell> cells(64);
+    mlir_work_answer answer;
+    mlir_work_report(&held_, kind, cells.data(), cells.size(), &answer);
+    const auto count = static_cast<std::size_t>(accepted(answer).number);
+    const bool is_whole = count <= cells.size();
+    cells.resize(count);
+    if (!is_whole)
+      mlir_work_report(&held_, kind, cells.data(), count, &answer);
+    accepted(answer);
+    std::vector<std::vector<mlir_work_cell>> found;
+    std::vector<mlir_work_cell> row;
+    for (const mlir_work_cell &cell : cells) {
+      row.push_back(cell);
+      if (cell.left == 0)
+        found.push_back(std::exchange(row, {}));
+    }
+    return found;
+  }
+
   // Edits by numbers, or by handles. They throw Refused.
   void set_operand(std::uint32_t operation, std::uint32_t operand, const mlir_work_value &value) {
     mlir_work_answer answer;
@@ -521,6 +671,42 @@ public:
     accepted(answer);
   }
 
+  // Inserts an operation without regions and returns it. The entries may be in any order.
+  Operation insert(const Spot &spot, const Name &name, const std::vector<mlir_work_value> &operands,
+                   const std::vector<Type> &results, const std::vector<Entry> &properties = {},
+                   const std::vector<Entry> &attributes = {}) {
+    std::vector<std::uint32_t> types;
+    for (const Type &type : results)
+      types.push_back(type.number());
+    std::vector<mlir_work_new_entry> entries = sorted(properties, true);
+    const std::vector<mlir_work_new_entry> others = sorted(attributes, false);
+    entries.insert(entries.end(), others.begin(), others.end());
+    const mlir_work_new made{spot, name.number()};
+    const mlir_work_value no_value{};
+    const std::uint32_t no_type = 0;
+    const mlir_work_new_entry no_entry{};
+    mlir_work_answer answer;
+    mlir_work_insert(&held_, &made, operands.empty() ? &no_value : operands.data(), operands.size(),
+                     types.empty() ? &no_type : types.data(), types.size(),
+                     entries.empty() ? &no_entry : entries.data(), entries.size(), &answer);
+    return operation(static_cast<std::uint32_t>(accepted(answer).number));
+  }
+  void set_attribute(std::uint32_t operation, const Name &key, const Attribute &attribute) {
+    mlir_work_answer answer;
+    mlir_work_set_attribute(&held_, operation, key.number(), attribute.number(), &answer);
+    accepted(answer);
+  }
+  void drop_attribute(std::uint32_t operation, const Name &key) {
+    mlir_work_answer answer;
+    mlir_work_drop_attribute(&held_, operation, key.number(), &answer);
+    accepted(answer);
+  }
+
+  // Interns a name, a type or an attribute, if it is new. They throw Refused. Don't call them in an inner loop.
+  Name intern_name(std::string_view text) { return {&held_, interned(mlir_work_name, text)}; }
+  Type intern_type(std::string_view text) { return {&held_, interned(mlir_work_type, text)}; }
+  Attribute intern_attribute(std::string_view text) { return {&held_, interned(mlir_work_attribute, text)}; }
+
   // Handles. An operation or a value need not exist.
   Operation operation(std::uint32_t number) { return {&held_, number}; }
   Value value(const mlir_work_value &numbers) { return {&held_, numbers}; }
@@ -530,6 +716,8 @@ public:
     all(numbers.data(), numbers.size());
     return {&held_, std::move(numbers)};
   }
+  // All operations with what they have, read by a few calls. Throws std::bad_alloc.
+  Table table() { return Table(&held_); }
   // The name with this text, if the session has it. Compare it with the names of operations, or pass it as a key.
   std::optional<Name> name(std::string_view text) {
     const std::uint64_t found = mlir_work_find_name(&held_, bytes(text), text.size());
@@ -563,6 +751,23 @@ private:
     if (told.outcome >= MLIR_WORK_REFUSED && told.outcome <= MLIR_WORK_NO_SESSION)
       throw Refused(told);
     return told;
+  }
+  template <class Call> std::uint32_t interned(Call call, std::string_view text) {
+    mlir_work_answer answer;
+    call(&held_, bytes(text), text.size(), &answer);
+    return static_cast<std::uint32_t>(accepted(answer).number);
+  }
+  // Returns entries in the order of the texts of their keys.
+  static std::vector<mlir_work_new_entry> sorted(const std::vector<Entry> &entries, bool are_properties) {
+    std::vector<std::pair<std::string, mlir_work_new_entry>> keyed;
+    for (const Entry &entry : entries)
+      keyed.push_back({entry.key.text(), {entry.key.number(), entry.attribute.number(), are_properties}});
+    std::stable_sort(keyed.begin(), keyed.end(),
+                     [](const auto &one, const auto &other) { return one.first < other.first; });
+    std::vector<mlir_work_new_entry> found;
+    for (const auto &[text, entry] : keyed)
+      found.push_back(entry);
+    return found;
   }
   std::optional<Operation> found(std::uint64_t number) {
     return number == MLIR_WORK_NONE ? std::nullopt : std::optional(operation(static_cast<std::uint32_t>(number)));

@@ -344,17 +344,25 @@ class Tried:
         return f"{'holds' if self.is_heard else 'empty'} {self.widest or most}", []
 
     def sampled(self, most):
-        """What a check says of 4,096 lists of values at a width, its half and its quarter, with its rows."""
-        for levels in itertools.product((1, 2, 4), repeat=len(self.letters)):
-            widths = [most // level or 1 for level in levels]
-            case, wide = self.at(widths)
-            for number in range(4096) if case else ():
-                digits = f"{number:03}"[::-1]
-                if self.tells_against(case, [
-                        edges(w)[int(digits[j % 3])] if number < 1000 else by_number(w, number * 16 + j)
-                        for j, w in enumerate(wide)]):
-                    return f"fails {max(widths, default=self.widest)}", self.rows
+        """What a check says of 4,096 lists of values at a width, its half and its quarter, and then of 1,681 lists near
+        the literals, with its rows."""
+        near = [(it + more) % (1 << 128) for it in self.first_literals() for more in (0, -1, 1)]
+        for numbers in [None, near] if near else [None]:
+            for levels in itertools.product((1, 2, 4), repeat=len(self.letters)):
+                widths = [most // level or 1 for level in levels]
+                case, wide = self.at(widths)
+                for number in range(1681 if numbers else 4096) if case else ():
+                    values = list_near(numbers, wide, number) if numbers else list_of(wide, number)
+                    if self.tells_against(case, values):
+                        return f"fails {max(widths, default=self.widest)}", self.rows
         return f"unrefuted {self.widest or most}", []
+
+    def first_literals(self):
+        """Eight literals, those of the sides first."""
+        old, new, conditions, _ = self.sides
+        numbers = [part[1] for side in (old, new) for part in leaves(side) if part[0] == "n"]
+        numbers += [part for _, _, parts in conditions for part in parts]
+        return [it for number in numbers for it in computed_literals(number)][:8]
 
     def by_chance(self, chance):
         """Whether there is no counterexample among random values at random widths."""
@@ -364,6 +372,35 @@ class Tried:
                                          for w in wide]):
                 return False
         return True
+
+
+def computed_literals(number):
+    """The literals from which a number is computed: a negation is a difference from 0, a complement one of bits to
+    -1."""
+    if isinstance(number, int):
+        return [int(number)]
+    if not isinstance(number, tuple):
+        return []
+    found = [it for part in number[1] for it in computed_literals(part)]
+    return found + {"neg": [0], "not": [-1]}.get(number[0], [])
+
+
+def list_of(wide, number):
+    """A list of values of these widths: edges, or pseudo-random ones."""
+    digits = f"{number:03}"[::-1]
+    return [edges(w)[int(digits[j % 3])] if number < 1000 else by_number(w, number * 16 + j)
+            for j, w in enumerate(wide)]
+
+
+def list_near(near, wide, number):
+    """A list of values of these widths: two digits of 41 choose them, so that two variables take all pairs."""
+    high, low = divmod(number, 41)
+    found = []
+    for j, w in enumerate(wide):
+        those = [it & (1 << w) - 1 for it in near] + edges(w)
+        place = (low + j * high) % 41
+        found.append(those[place] if place < len(those) else by_number(w, number * 16 + j))
+    return found
 
 
 @functools.lru_cache(maxsize=None)
@@ -459,8 +496,12 @@ def values_differ(chance):
     for _ in range(VALUES):
         w, i, j = chance.randrange(1, 129), chance.randrange(4096), chance.randrange(16)
         told = edges(w)[i // (1, 10, 100)[j % 3] % 10] if i < 1000 else by_number(w, i * 16 + j)
-        if sampling.value(w, i, j) != told:
-            print(f"width {w}, case {i}, variable {j}\n  reference {sampling.value(w, i, j)}\n  evaluator {told}")
+        said = sampling.value(w, i, j)
+        if i < 1681 and chance.random() < 0.5:
+            near = [chance.getrandbits(128) for _ in range(chance.randrange(1, 25))]
+            told, said = list_near(near, [w] * 16, i)[j], sampling.near_value(near, w, i, j)
+        if said != told:
+            print(f"width {w}, case {i}, variable {j}\n  reference {said}\n  evaluator {told}")
             return True
     return False
 

@@ -207,6 +207,18 @@ def widely_checked(maker, run):
     return f"check {maker.choice(few or ['nope'])} width {width} sampled" + maker.choice([""] * 9 + [" x", " sampled"])
 
 
+def renewed(maker, run, line):
+    """A line as it is, or one that replaces the pattern that it defines, asks for proved patterns in the list by which
+    it rewrites, or checks all patterns if the rules in Python try them quickly."""
+    pick, words = maker.random(), line.split(" ", 2)
+    if pick < 0.3 and words[0] == "pattern":
+        return "pattern!" + line.removeprefix("pattern")
+    if pick < 0.4 and words[0] == "rewrite" and len(words) > 1:
+        return " ".join([*words[:2], "proved", *words[2:]])
+    few = all(len(it.variables) < 2 and len(it.all_types()) < 3 for it in run.book.values())
+    return "check all" if pick > 0.95 and few else line
+
+
 def line_of(maker, run):
     """A line about the patterns of a run."""
     pick = maker.random()

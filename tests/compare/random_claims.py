@@ -1,22 +1,25 @@
 #!/usr/bin/env python3
 """Random user patterns, whose checks by a program are judged:
 
-    tests/compare/random_claims.py COUNT SEED [PROGRAM]
+    tests/compare/random_claims.py COUNT SEED [PROGRAM] [--bits B]
 
 PROGRAM is the one of MLIR_WORK_CLAIMS if none is given. Without a program nothing is judged, and the status is 0.
 
 - A pattern that `holds` at all widths has no counterexample by `oracle/claims.py`: all values and poison at widths up
-  to 4, and edges of wider types. If z3 is installed, it finds no counterexample at 8 and at 32 bits; each variable has
-  a bit that says whether it is poison.
+  to B (4), and edges of wider types. If that are too many cases, the widths are smaller. If z3 is installed, it finds
+  no counterexample at 8 and at 32 bits; each variable has a bit that says whether it is poison.
+- A pattern that `holds W` has no counterexample among the values and poison at widths up to B and W, and one that is
+  `unrefuted W` none among the values.
 - A pattern that `fails` has the rows of its counterexample: both sides are run at the outcomes of the variables.
 - The old side of a pattern that is `empty W` is never a number at the widths and edges up to W.
-- A pattern that `holds W` or is `unrefuted W`, or whose check takes too long (`slow`) is only counted.
+- A pattern whose check takes too long (`slow`) is only counted.
 
 Half of the patterns have a new side that laws derive from the old one; some laws are wrong for poison only, and some
 sides are changed after. The others are of pattern_checks.py and pattern_forms.py, or lines of patterns/ with a word
 changed. The last line says how many patterns there were and how many verdicts are wrong."""
 import argparse
 import collections
+import itertools
 import os
 import random
 import resource
@@ -28,7 +31,7 @@ import checkout  # noqa: F401
 
 from oracle import claims, patterns, rules
 from oracle.folds import width
-from oracle.pattern_checks import POISON, Case
+from oracle.pattern_checks import POISON, Case, is_kept, rows_of
 from tests.compare import claims_in_z3, pattern_checks, pattern_forms, pattern_lines
 from tests.compare.pattern_forms import inverted, literal, pair
 
@@ -257,6 +260,19 @@ def is_number_up_to(pattern, most):
     return False
 
 
+def small_counterexample(pattern, most, with_poison):
+    """The rows of a counterexample at types of at most so many bits, or none."""
+    for instance, lists in claims.exhaustive(pattern):
+        those = lists if with_poison else [[it for it in outcomes if it is not POISON] for outcomes in lists]
+        is_wide = any(width(ty) > most for ty in instance.types.values())
+        for numbers in () if is_wide else itertools.islice(itertools.product(*those), claims.MOST_CASES):
+            values = dict(zip(pattern.variables, numbers))
+            both = Case(instance, values).both()
+            if both is not None and not is_kept(*both):
+                return rows_of(instance, values, *both)
+    return None
+
+
 def fault_of(pattern, verdict, rows, solver, words):
     """What is wrong with a verdict, or none."""
     if verdict.startswith("fails "):
@@ -266,6 +282,10 @@ def fault_of(pattern, verdict, rows, solver, words):
         return None if claims.is_counterexample(pattern, rows, most) else f"no counterexample: {', '.join(rows)}"
     if verdict.startswith("empty "):
         return "a number on the old side" if is_number_up_to(pattern, int(verdict.split()[1])) else None
+    if verdict.startswith(("holds ", "unrefuted ")):
+        word, most = verdict.split()
+        found = small_counterexample(pattern, int(most), word == "holds")
+        return f"counterexample: {', '.join(found)}" if found else None
     if verdict != "holds":
         return None
     found = claims.counterexample(pattern)
@@ -292,7 +312,11 @@ def main():
     parser.add_argument("count", type=int)
     parser.add_argument("seed", type=int)
     parser.add_argument("program", nargs="?", default=os.environ.get(claims.VARIABLE))
+    parser.add_argument("--bits", type=int, default=claims.WIDTHS[0])
     asked = parser.parse_args()
+    # (three variables of B bits, each with poison)
+    claims.WIDTHS = tuple(range(asked.bits, 0, -1))
+    claims.MOST_CASES = max(claims.MOST_CASES, (2 ** asked.bits + 1) ** 3)
     if not asked.program:
         print("left out: there is no program")
         return False

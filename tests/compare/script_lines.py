@@ -143,11 +143,11 @@ def plain_line(maker, scripter):
     if maker.random() < 0.25:
         return rewriting(maker)
     if maker.random() < 0.05:
-        return pattern_lines.registered(maker, scripter.run)
+        return pattern_lines.renewed(maker, scripter.run, pattern_lines.registered(maker, scripter.run))
     if maker.random() < 0.15:
         if scripter.run.book and maker.random() < 0.3:
             return pattern_lines.widely_checked(maker, scripter.run)
-        return pattern_lines.line_of(maker, scripter.run)
+        return pattern_lines.renewed(maker, scripter.run, pattern_lines.line_of(maker, scripter.run))
     if part < 0.62:
         return scripter.edit()
     if part < 0.8:

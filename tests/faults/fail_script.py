@@ -74,6 +74,7 @@ OPENED = [
     'set-attr #1 function_type (i32) -> i64', "report diagnostics", "report uses of %v2.0",
     "report symbols of #1", "report dead of #99", "canon trace", "resync constants", "resync symbols",
     NEGATED, HALF, THREE, "check half", "check negated width 2", "check three", "check half width 9 sampled",
+    "rewrite negated,three proved", "check all", "pattern! half arith.divui(%a, 2) => arith.shrui(%a, 1)",
     "patterns", NEGATED, "pattern p arith.addi(%a) => %a",
     'insert before #4 %0 = "arith.addi"(%a1.0.0, %v8.0) : (i32, i32) -> i32', "apply negated #4", "apply negated #9",
     "print", *ASKED, "detach dead", "report dead", "begin", "erase #1", "commit"]
@@ -177,7 +178,9 @@ COMMANDS = [
     ([], "why #3 fold-to-constant"), ([], "apply 1 #2"), ([], "apply 2 #3"), ([], "apply drop-zero #3"),
     (["begin", "set-operand #3 0 %v2.0", "erase #4", "insert end #1 0 \"test.z\"(%v3.0) : (i32) -> ()"], "rollback"),
     ([], NEGATED), ([NEGATED], "patterns"), ([NEGATED], "check negated width 2"), ([HALF], "check half"),
-    ([THREE], "check three"), ([HALF], "check half width 9 sampled"),
+    ([THREE], "check three"), ([THREE, "pattern four arith.subi(1, 2) => 4"], "check all"),
+    ([THREE], "pattern! three arith.addi(1, 2) => 4"), ([], "pattern! three arith.addi(1, 2) => 3"),
+    ([NEGATED], "rewrite negated proved"), ([HALF], "check half width 9 sampled"),
     ([NEGATED], "apply negated #3"), ([NEGATED], "apply negated #2"), ([NEGATED], NEGATED),
     ([f"insert before #4 {REMAINDER}"], TOO_DEEP),
     ([f"insert before #4 {REMAINDER}"], "convert partial illegal arith.remsi rules 27"), ([], "convert partial"),

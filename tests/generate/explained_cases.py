@@ -22,6 +22,8 @@ MODULE = b"""%a = "t.a"() : () -> i1
 }) : () -> ()
 %f = "t.f"() ({^bb0: }) : () -> (() -> i32)
 """
+EXPECTED = ('about "found `memref.load`, expected an operation of arith that folds, as arith.addi: '
+            'docs/PATTERNS.md lists them"')
 # A name, a sentence, a line, and what its reply says after its number, by hand.
 LINES = [
     ("erase-used", "The users of an erased operation's result are listed.",
@@ -120,8 +122,10 @@ LINES = [
      "check nope", "26 NoSuchKey"),
     ("attach-twice", "An analysis that is attached already names nothing.",
      "attach uses", "42 KindTaken"),
-    ("pattern-left-out", "A pattern with an operation that isn't supported names nothing.",
-     "pattern p memref.load(%a) => %a", "13 LeftOut at 2")]
+    ("pattern-left-out", "A pattern with an operation that patterns can't match says what was expected.",
+     "pattern p memref.load(%a) => %a", f"13 LeftOut at 2 {EXPECTED}"),
+    ("pattern-replaced-left-out", "The same is said in place of another pattern.",
+     "pattern! p memref.load(%a) => %a", f"13 LeftOut at 2 {EXPECTED}")]
 # Unsupported constructs in the type of a result, as the value of an attribute, as an operation, after one, or before
 # all.
 TYPES = {"f32": "float-type", "bf16": "float-type", "f8E4M3FN": "float-type", "f33": "word",

@@ -208,13 +208,15 @@ def book_says(text):
     """What a line says of user patterns, if it does."""
     name, rest = re.fullmatch(rb"([^ \t]*)[ \t]*(.*)", text, re.S).groups()
     words = re.split(rb"[ \t]+", rest)
-    if name == b"pattern" and rest:
-        return f"pattern {told(rest)}"
+    if name in (b"pattern", b"pattern!") and rest:
+        return f"{name.decode()} {told(rest)}"
     if name == b"patterns" and not rest:
         return "patterns"
     if name == b"forget" and rest and len(words) == 1 and not rest[:1].isdigit():
         return f"forget {told(rest)}"
     if name == b"check" and rest and not words[0][:1].isdigit():
+        if words == [b"all"]:
+            return "check all"
         if len(words) == 1:
             return f"check {told(words[0])} width none"
         if words[1] == b"width" and number_of(b"".join(words[2:3])) is not None and words[3:] in ([], [b"sampled"]):
@@ -238,9 +240,11 @@ def rewrite_says(words):
     found = words[1:] if words[0] == b"rewrite" else words[2:] if words[:2] == [b"canon", b"only"] else []
     if not found or not tried_says(found[0]):
         return None
-    is_traced = found[1:2] == [b"trace"]
-    says = limit_says(found[1 + is_traced:])
-    return says and f"{'trace' if is_traced else 'rewrite'} {told(found[0])} {says}"
+    is_proved = found[1:2] == [b"proved"]
+    left = found[1 + is_proved:]
+    is_traced = left[:1] == [b"trace"]
+    says = limit_says(left[is_traced:])
+    return says and f"{'trace' if is_traced else 'rewrite'} {told(found[0])}{' proved' * is_proved} {says}"
 
 
 def about_says(words):
@@ -341,6 +345,13 @@ ORDERS = {"report uses of #3": "report 1 of op 3", "\treport  unreached\tof  #00
           "canon only 024,nope trace": "trace [024,nope] limit none",
           "canon only trace limit 2": "rewrite [trace] limit 2", "rewrite trace": "rewrite [trace] limit none",
           "rewrite trace trace limit 3": "trace [trace] limit 3", "canon only trace trace": "trace [trace] limit none",
+          "rewrite 1 proved": "rewrite [1] proved limit none", "rewrite proved": "rewrite [proved] limit none",
+          "\trewrite  1-3,x\tproved  limit 07 \r": "rewrite [1-3,x] proved limit 7",
+          "rewrite proved proved": "rewrite [proved] proved limit none",
+          "rewrite canon,p proved trace": "trace [canon,p] proved limit none",
+          "rewrite trace proved trace limit 0": "trace [trace] proved limit 0",
+          "canon only 4,p proved trace limit 2": "trace [4,p] proved limit 2",
+          "expect 61 rewrite p proved": "expects 61 NotProved rewrite [p] proved limit none",
           "expect 50 canon trace limit 0": "expects 50 BadLimit trace all limit 0",
           "expect 26 rewrite x trace": "expects 26 NoSuchKey trace [x] limit none",
           "why #3": "why 3 all", "\twhy \t #0004294967295 \r": "why 4294967295 all", "why #3 4": "why 3 4",
@@ -381,7 +392,13 @@ BOOK_ORDERS = {"pattern p": "pattern [p]", "\tpattern \t p\targ => %a // x \r": 
                "check sampled": "check [sampled] width none", "check sampled width 9": "check [sampled] width 9",
                "expect 50 check p width 129 sampled": "expects 50 BadLimit check [p] width 129 sampled",
                "expect 26 check nope": "expects 26 NoSuchKey check [nope] width none",
-               "expect 4 pattern p q": "expects 4 Redefined pattern [p q]"}
+               "expect 4 pattern p q": "expects 4 Redefined pattern [p q]", "pattern! p": "pattern! [p]",
+               "\tpattern! \t p\targ => %a \r": "pattern! [p\\targ => %a]", "pattern !": "pattern [!]",
+               "pattern! pattern!": "pattern! [pattern!]", "pattern ! p": "pattern [! p]", "check all": "check all",
+               "\tcheck \t all \r": "check all", "check all width 8": "check [all] width 8",
+               "check alls": "check [alls] width none", "check All": "check [All] width none",
+               "check all width 8 sampled": "check [all] width 8 sampled", "check !": "check [!] width none",
+               "expect 2 pattern! p q": "expects 2 Unexpected pattern! [p q]"}
 ALONE = {"begin": "begin", "\tcommit \r": "commit", "rollback\t": "rollback", "sweep": "sweep", " sweep\t\r": "sweep",
          "erase #1": "erase 1", " erase\t#0004294967295": "erase 4294967295",
          "replace %v1.0 %a2.0.1": "replace 1.0 2.0.1", "replace\t%a1.2.3  %v01.00\r": "replace 1.2.3 1.0",
@@ -495,6 +512,11 @@ pattern|Pattern p|patterns x|patterns //|pattern|patternsp|check|check 4|check 4
 check p width x|check p width -1|check p width 4294967296|check p width 1 2|check p Width 1|check p q width 1
 check 1 width 2|Check p|checks p|check p sampled|check p sampled width 8|check p width sampled|check 1 width 2 sampled
 check p width sampled 8|check p width 8 sample|check p width 8 Sampled|check p width 8 sampled 9|check p 8 sampled
+pattern!|pattern!p q|pattern!! p|Pattern! p|pattern!s p|!pattern p|check all all|check all x|check all width|checkall
+check! p|patterns!|check all sampled|rewrite 1 trace proved|rewrite 1 limit 1 proved|rewrite 1 proved proved
+rewrite 1 proved x|rewrite 1 Proved|rewrite 1proved|rewrite 1 proven|rewrite 1, proved|rewrite 25 proved
+rewrite 1 proved limit|rewrite 1 proved limit x|rewrite 1 proved trace limit|rewrite 1 proved trace trace|canon proved
+canon trace proved|canon proved trace|canon at #3 proved|apply 1 #3 proved|rewrite 1 proved 3|canon only proved limit
 check p width 8 sampled sampled|check p width x sampled|check p width 4294967296 sampled|check p width 8 sampled //
 set-operand #42949672950 0 %v2.0|set-operand #99999999999999999999999 0 %v2.0""".replace("\n", "|").split("|")
 
@@ -506,7 +528,8 @@ NEAR_MISSES = ("report uses", "report kind10", "print", "// x", "set-operand #3 
                "attach dead", "print ids", "expect 22 print", "rewrite 2,drop-one limit 10", "report uses of #10",
                "report kind10 of %v2.0", "canon trace limit 10", "rewrite 2,x trace limit 3",
                "convert trace full depth 2", "why #3", "why #3 10", "why #3 drop-one", "canon at #3 limit 10",
-               "pattern p x", "patterns", "check p width 10", "check p width 10 sampled")
+               "pattern p x", "patterns", "check p width 10", "check p width 10 sampled", "pattern! p x", "check all",
+               "rewrite 2,x proved trace limit 3")
 NOT_UTF8 = ((b"// \xff", "bad"), (b"\xc3", "bad"), (b"print\xff", "bad"), (b"// \xc3\xa9", "nothing"),
             (b"print \xc3\xa9", "bad"), (b"// \xed\xa0\x80", "bad"), (b"// \xf4\x90\x80\x80", "bad"),
             (b"// \xf4\x8f\xbf\xbf", "nothing"), (b"// \xc0\x80", "bad"))

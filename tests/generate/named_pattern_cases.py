@@ -237,8 +237,9 @@ CASES = {
          ("pattern f arith.extui(%a : i1) : i8 => arith.extui(%a)", "ok"),
          ("check nope", "refused 26 NoSuchKey"), ("check g width 99", "refused 26 NoSuchKey")]),
     "patterns-that-dont-apply": (
-        "A pattern that matches nothing is applied 0 times; `why` takes rules only.", PRODUCT,
-        [("pattern n1 arith.muli(%a, 254) => arith.subi(0, %a)", "ok"), ("why #3 n1", "refused 26 NoSuchKey"),
+        "A pattern that matches nothing is applied 0 times; `why` says which part doesn't match.", PRODUCT,
+        [("pattern n1 arith.muli(%a, 254) => arith.subi(0, %a)", "ok"),
+         ("why #3 n1", "ok|why #3 n1 operand 1 expected 254 : i32 found 255 : i32"),
          ("why #3 times-one", "refused 26 NoSuchKey"), ("apply n1 #3", "applied 0|unproved n1 unchecked"),
          ("apply n1 #4", "applied 0|unproved n1 unchecked"), ("pattern c1 arith.muli(255, %a) => %a", "ok"),
          ("apply c1 #3", "applied 0|unproved c1 unchecked"),

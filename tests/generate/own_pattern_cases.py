@@ -406,6 +406,21 @@ UNTRIED = [
     ("product-that-samples-refute", "A product of two values is beyond claims, and samples of wide types refute it.",
      "arith.muli(%a, arith.andi(%b, 255)) => arith.muli(%a, %b)", {
          "": "fails 16|%a 1 : i16|%b -1 : i16|old 255 : i16|new -1 : i16"}),
+    ("product-wrong-at-its-literal",
+     "Claims don't decide a product, and samples near the literal refute a pattern that is wrong only there.",
+     "arith.cmpi<eq>(arith.extui(arith.muli(%a, %b) : S) : i128, 305419896) => false", {
+         "": "fails 32|%a 305419896 : i32|%b 1 : i32|old true|new false", " width 4": "holds 4",
+         " width 16 sampled": "unrefuted 16",
+         " width 32 sampled": "fails 32|%a 305419896 : i32|%b 1 : i32|old true|new false"}),
+    ("product-wrong-after-its-literal",
+     "A pattern is wrong for the number after its literal alone, and samples near the literal refute it.",
+     "arith.cmpi<ult>(arith.extui(arith.muli(%a, %b) : S) : i128, 305419898) "
+     "=> arith.cmpi<ult>(arith.extui(arith.muli(%a, %b) : S) : i128, 305419897)", {
+         "": "fails 32|%a 305419897 : i32|%b 1 : i32|old true|new false"}),
+    ("product-right-at-its-literal", "A pattern with literals that no sample refutes holds up to the tried width.",
+     "arith.cmpi<eq>(arith.extui(arith.muli(%a, %b) : S) : i128, 305419896) "
+     "=> arith.cmpi<eq>(arith.extui(arith.muli(%b, %a) : S) : i128, 305419896)", {
+         "": "holds 8", " width 32 sampled": "unrefuted 32"}),
     ("made-unsigned-quotient", "A made quotient leaves a pattern unrefuted, since its divisor may be poison.",
      "arith.minui(%b, 1) => arith.divui(%b, arith.maxui(%b, 1))", {"": "unrefuted 8"}),
     ("signed-quotient-as-itself", "A signed quotient that is matched and made is unrefuted.",
@@ -506,6 +521,23 @@ SAMPLED = [
      "arith.cmpi<eq>(arith.shrui(arith.xori(%a, %b), 22), 777) => 0", {
          " width 64 sampled": "fails 32|%a -1947471955 : i32|%b 1236213324 : i32|old true|new false",
          " width 128 sampled": "fails 32|%a -1947471955 : i32|%b 1236213324 : i32|old true|new false"}),
+    # Literals: the first eight, and the numbers before and after them, of two variables all pairs.
+    ("sampled-literal", "The literals of a pattern and the numbers next to them are among the samples.",
+     "arith.cmpi<eq>(arith.muli(%a, %b), 305419896) => false", {
+         " width 32 sampled": "fails 32|%a 305419896 : i32|%b 1 : i32|old true|new false",
+         " width 16 sampled": "unrefuted 16", "": "empty 8"}),
+    ("sampled-literals-of-two-variables", "Two variables have two literals in one sample.",
+     "arith.select(arith.cmpi<eq>(%a, 123456), arith.cmpi<eq>(%b, 654321), false) => false", {
+         " width 32 sampled": "fails 32|%a 123456 : i32|%b 654321 : i32|old true|new false"}),
+    ("sampled-eighth-literal", "The eighth literal has samples near it.",
+     f"arith.andi(%a, -1) => arith.select(arith.cmpi<eq>(%a, {'add(0, ' * 6}30003{')' * 6}), 0, %a)", {
+         " width 32 sampled": "fails 32|%a 30003 : i32|old 30003 : i32|new 0 : i32"}),
+    ("sampled-ninth-literal", "The ninth literal has no samples near it.",
+     f"arith.andi(%a, -1) => arith.select(arith.cmpi<eq>(%a, {'add(0, ' * 7}30003{')' * 7}), 0, %a)", {
+         " width 32 sampled": "unrefuted 32"}),
+    ("sampled-literal-after-usual-samples", "A usual sample is told before one near a literal.",
+     "arith.cmpi<ult>(%a, 305419896) => false", {
+         " width 32 sampled": "fails 32|%a 0 : i32|old true|new false"}),
     # Several types: the first one in the text varies slowest, and the widest come first.
     ("sampled-three-types", "A truncated sign extension is sampled at three types.",
      "arith.trunci(arith.extsi(%a : S) : T) : U => arith.extsi(%a) : U", {

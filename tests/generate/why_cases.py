@@ -156,7 +156,7 @@ def refused(cases):
     cases.title("why-expected-refusals", "A `why` that isn't refused as expected reports after the expectation.")
     out = cases.both(over(X + TWO + SUM, "expect 20 why #3", "expect 26 canon at #3", "expect 20 canon at #3"))
     assert out.startswith(f"1 ok\n1 expected 20 NoSuchOp\n{TOLD_OF_SUM}2 converged 1\n"), out
-    cases.title("why-user-pattern", "`why` doesn't take a user pattern, which `apply` does.")
+    cases.title("why-user-pattern", "`why` says that a user pattern applies, and `apply` applies it.")
     cases.run(over(SUMS, "pattern one arith.muli(1, %a) => %a", "why #7 one", "apply one #7"))
 
 

@@ -4,13 +4,14 @@ skipped."""
 import os
 import pathlib
 import re
+import shlex
 import shutil
 import subprocess
 import sys
 import tempfile
 import unittest
 
-from support import ROOT, program
+from support import ROOT, program, words
 
 from mlir_work.script import joined
 from tools import library
@@ -77,6 +78,8 @@ class Library(unittest.TestCase):
         self.assertEqual(ran([*MEMCHECK, self.built("tests/golden/embed/handles.c")]), b"")
         self.assertEqual(ran([*MEMCHECK, self.built("tests/golden/embed/marks.cpp")]), b"")
         self.assertEqual(ran([*MEMCHECK, self.built("tests/golden/embed/reads.c")]), b"")
+        self.assertEqual(ran([*MEMCHECK, self.built("tests/golden/embed/numbers.c")]), b"")
+        ran([*MEMCHECK, self.built("examples/hoist.cpp"), LICM[0]])
         ran([*MEMCHECK, self.built("examples/embed/licm.cpp"), LICM[0]])
         script = (EXAMPLES / "fold.script").read_bytes()
         ran([*MEMCHECK, self.built("examples/embed/replies.c"), EXAMPLES / "fold.mlir"], script)
@@ -104,6 +107,31 @@ class Library(unittest.TestCase):
         for more in ((), SANITIZED):
             self.assertEqual(ran([self.built("tests/golden/embed/reads.c", *more)]), b"")
 
+    def test_numbers(self):
+        """Operations are inserted by interned numbers, entries are set, and rows are read as cells; what is refused
+        changes nothing."""
+        for more in ((), SANITIZED):
+            self.assertEqual(ran([self.built("tests/golden/embed/numbers.c", *more)]), b"")
+
+    def test_threads(self):
+        """Sessions of several threads don't share anything, also under gcc's thread sanitizer."""
+        for more in (("-pthread",), ("-pthread", "-fsanitize=thread")):
+            self.assertEqual(ran([self.built("tests/golden/embed/threads.c", *more)]), b"")
+
+    def test_walk(self):
+        """A walk by calls for many operations counts what a walk by calls for one operation counts."""
+        built = self.built("benchmarks/walk.c")
+        told = {how: ran([built, "3000", how]).partition(b", ")[2] for how in ("one", "many")}
+        self.assertEqual(told["one"], told["many"])
+
+    def test_numbers_by_chance(self):
+        """Random edits by lines, by numbers and over a process give the same modules and rows."""
+        started, more = words()
+        script = ROOT / "tests/compare/numbers_by_chance.py"
+        it = subprocess.run([sys.executable, str(script), shlex.join(started), str(self.shared()), "30"],
+                            env={**os.environ, **more}, capture_output=True, text=True, check=False)
+        self.assertEqual(it.returncode, 0, it.stdout + it.stderr)
+
     def test_headers(self):
         """The header compiles without a warning as C99, C11 and C++17, with gcc, and with clang if it is installed."""
         source = self.folder / "header.c"
@@ -129,11 +157,15 @@ class Library(unittest.TestCase):
         """Loop-invariant code motion over the handles of C, C++ and Python moves what mlir-opt moves."""
         self.assertGreaterEqual(len(LICM), 20)
         in_c, in_cpp = self.built("examples/embed/licm.c"), self.built("examples/embed/licm.cpp")
+        without_text = self.built("examples/hoist.cpp")
+        for example in ("hoist.cpp", "embed/licm.c", "embed/licm.cpp", "python/licm.py"):
+            self.assertLessEqual((EXAMPLES / example).read_text().count("\n"), 60, example)
         for module in LICM:
             wanted, text = module.with_suffix(".after").read_bytes(), module.read_bytes()
             with self.subTest(module=module.stem):
                 self.assertEqual(ran([in_c], text), wanted)
                 self.assertEqual(ran([in_cpp, module]), wanted)
+                self.assertEqual(ran([without_text, module]), wanted)
                 self.assertEqual(self.python(EXAMPLES / "python/licm.py", module), wanted)
 
     @unittest.skipUnless(MLIR_OPT, "mlir-opt isn't installed: the stored results aren't compared with it")

@@ -39,7 +39,7 @@ MISSPELT = {
     "canon limit 5 6": (14, "found `6` after the end of the command: write `canon limit N`"),
     "canon trace 5": (12, "found `5`, expected `limit`: write `canon trace` or `canon trace limit N`"),
     "canon trace limit": (17, "N is missing: write `canon trace limit N`"),
-    "rewrite 4,1 traced": (12, "found `traced`, expected `limit` or `trace`: write `rewrite RULES` or "),
+    "rewrite 4,1 traced": (12, "found `traced`, expected `limit` or `proved` or `trace`: write `rewrite RULES` or "),
     "rewrite 25 trace": (8, "found `25`, expected RULES: write `rewrite RULES` or "),
     "canon only 4 trace limit #5": (25, "found `#5`, expected N: write `canon only RULES trace limit N`"),
     "canon limit 5 trace": (14, "found `trace` after the end of the command: write `canon limit N`"),

@@ -6,21 +6,22 @@
         print(s.print())
 
 docs/EMBED.md has a tour."""
-from .errors import Error, FormBroken, ModuleRefused, ProcessLost, Refused, SessionClosed, Stays
+from .errors import Error, FormBroken, ModuleRefused, ProcessLost, Refused, SessionClosed, Stays, Unproved
 from .handles import BlockHandle, OperationHandle, RegionHandle, UseHandle, ValueHandle
 from .library import Library
+from .numbers import Cell, Numbers
 from .operations import Operation
 from .patterns import Checked, Pattern
 from .process import Process
-from .reply import Reply, Unproved
+from .reply import Reply
 from .rewrites import Canonicalized, Reason, Rewrite, Traced
 from .rows import KINDS, Constant, Dead, Diagnostic, Effect, Row, Symbol, Unreached, Use
 from .session import Session
 from .values import Argument, Result, Value, after, before, end, quoted, start
 from .way import Way
 
-__all__ = ["Argument", "BlockHandle", "Canonicalized", "Checked", "Constant", "Dead", "Diagnostic", "Effect", "Error",
-           "FormBroken", "KINDS", "Library", "ModuleRefused", "Operation", "OperationHandle", "Pattern", "Process",
-           "ProcessLost", "Reason", "Refused", "RegionHandle", "Reply", "Result", "Rewrite", "Row", "Session",
-           "SessionClosed", "Stays", "Symbol", "Traced", "Unproved", "Unreached", "Use", "UseHandle", "Value",
-           "ValueHandle", "Way", "after", "before", "end", "quoted", "start"]
+__all__ = ["Argument", "BlockHandle", "Canonicalized", "Cell", "Checked", "Constant", "Dead", "Diagnostic", "Effect",
+           "Error", "FormBroken", "KINDS", "Library", "ModuleRefused", "Numbers", "Operation", "OperationHandle",
+           "Pattern", "Process", "ProcessLost", "Reason", "Refused", "RegionHandle", "Reply", "Result", "Rewrite",
+           "Row", "Session", "SessionClosed", "Stays", "Symbol", "Traced", "Unproved", "Unreached", "Use", "UseHandle",
+           "Value", "ValueHandle", "Way", "after", "before", "end", "quoted", "start"]

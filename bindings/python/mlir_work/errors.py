@@ -1,5 +1,5 @@
 """The exceptions of the package."""
-from typing import NamedTuple, Optional, Sequence
+from typing import NamedTuple, Optional, Sequence, Tuple
 
 
 class Stays(NamedTuple):
@@ -13,6 +13,14 @@ class Stays(NamedTuple):
     said: str
 
 
+class Unproved(NamedTuple):
+    """A pattern that a command used and that no check proves for the module before it: its name, and the result of its
+    last check, such as `holds 8`, or `unchecked`."""
+
+    name: str
+    said: str
+
+
 class Error(Exception):
     """The base of all exceptions of this package."""
 
@@ -20,14 +28,15 @@ class Error(Exception):
 class Refused(Error):
     """A command was refused, and changed nothing. `number` and `word` are those of docs/REFUSALS.md. `at` is the byte
     at which the OPERATION or the ATTRIBUTE is wrong, and `operation` the one for which a `convert` is refused, if the
-    reply has them. `stays` says why that operation stays, if a `convert trace` reports it. `line` is the command."""
+    reply has them. `stays` says why that operation stays, if a `convert trace` reports it. `unproved` has the patterns
+    for which a `rewrite` is refused that asks for proved ones. `line` is the command."""
 
     def __init__(self, number: int, word: str, at: Optional[int] = None, operation: Optional[int] = None,
-                 line: str = "", stays: Optional[Stays] = None) -> None:
+                 line: str = "", stays: Optional[Stays] = None, unproved: Tuple[Unproved, ...] = ()) -> None:
         place = f" at {at}" if at is not None else f" #{operation}" if operation is not None else ""
         super().__init__(f"{number} {word}{place}" + (f": {line}" if line else ""))
         self.number, self.word, self.at, self.operation, self.line = number, word, at, operation, line
-        self.stays = stays
+        self.stays, self.unproved = stays, unproved
 
 
 class ModuleRefused(Error):

@@ -5,10 +5,12 @@ import os
 import pathlib
 import re
 import secrets
-from typing import List, Optional, Union
+from typing import Callable, List, Optional, Union
 
 from .command import VARIABLE as PROGRAM
 from .errors import Error, ModuleRefused, SessionClosed
+from .numbers import Numbers
+from .numbers import declare as declare_numbers
 from .reader import Reader, declare
 from .reply import Reply
 from .way import Way, check_limit
@@ -67,6 +69,7 @@ def _calls(path: str) -> ctypes.CDLL:
     if hasattr(calls, "mlir_work_open_opaque"):  # an older library has no such call
         calls.mlir_work_open_opaque.argtypes, calls.mlir_work_open_opaque.restype = opens, None
     declare(calls, handle)
+    declare_numbers(calls, handle, _Answer)
     return calls
 
 
@@ -156,6 +159,11 @@ class Library(Way):
 
     def reader(self) -> Optional[Reader]:
         return Reader(self._calls, self._held) if hasattr(self._calls, "mlir_work_operations") else None
+
+    def numbers(self, edited: Callable[[], None]) -> Optional[Numbers]:
+        if not hasattr(self._calls, "mlir_work_insert"):  # an older library
+            return None
+        return Numbers(self._calls, self._held, self._answer, _WORDS, edited)
 
     def close(self) -> Optional[int]:
         self._calls.mlir_work_close(self._held)

@@ -1,7 +1,11 @@
 """User patterns (docs/PATTERNS.md), and the results of their checks."""
-from typing import List, NamedTuple, Tuple
+import re
+from typing import Dict, List, NamedTuple, Tuple
 
 from .reply import Reply, lines_of
+
+
+_CHECKED = re.compile(r"checked (\S+) (holds|empty|fails|unrefuted|refused)(?: (\d+))?.*")
 
 
 class Pattern(NamedTuple):
@@ -15,9 +19,9 @@ class Pattern(NamedTuple):
 
 class Checked(NamedTuple):
     """The result of a check. `verdict` is `holds`, `empty` (the pattern never applies), `fails`, or `unrefuted` if it
-    was sampled. `width` is the width up to which, or at which, it was checked, or 0 if it holds at every width. If it
-    fails, `rows` has a name and an outcome for each variable, and for `old` and `new`: an attribute, `poison` or
-    `undefined`."""
+    was sampled; in the results of all checks also `refused`. `width` is the width up to which, or at which, it was
+    checked, or 0 if it holds at every width or was refused. If it fails, `rows` has a name and an outcome for each
+    variable, and for `old` and `new`: an attribute, `poison` or `undefined`."""
 
     verdict: str
     width: int
@@ -38,7 +42,26 @@ def patterns_of(text: str) -> List[Pattern]:
     return found
 
 
+def _rows_of(lines: List[str]) -> Tuple[Tuple[str, str], ...]:
+    """Returns the rows of a counterexample."""
+    return tuple((name, outcome) for name, _, outcome in (line.partition(" ") for line in lines))
+
+
 def checked_of(reply: Reply) -> Checked:
     """Returns the result of a check from its reply."""
-    rows = tuple((name, outcome) for name, _, outcome in (line.partition(" ") for line in reply.lines))
-    return Checked(reply.outcome, reply.number or 0, rows)
+    return Checked(reply.outcome, reply.number or 0, _rows_of(reply.lines))
+
+
+def all_checked_of(reply: Reply) -> Dict[str, Checked]:
+    """Returns the result of each check from the reply to `check all`."""
+    found: Dict[str, Checked] = {}
+    lines, name = reply.lines, ""
+    for line in lines:
+        it = _CHECKED.fullmatch(line)
+        if it:
+            name = it[1]
+            width = int(it[3]) if it[3] and it[2] != "refused" else 0
+            found[name] = Checked(it[2], width)
+        else:
+            found[name] = found[name]._replace(rows=found[name].rows + _rows_of([line]))
+    return found

@@ -9,8 +9,21 @@ _NONE, _NO_MEMORY, _RESULT = 2**64 - 1, 2**64 - 2, 2**32 - 1
 _NEAR_USES, _NEAR_BYTES = 16, 256
 
 
-class _Value(ctypes.Structure):
+class CValue(ctypes.Structure):
+    """A value as a C struct."""
+
     _fields_ = [("operation", ctypes.c_uint32), ("region", ctypes.c_uint32), ("place", ctypes.c_uint32)]
+
+    def value(self) -> Value:
+        """Returns the value."""
+        if self.region == _RESULT:
+            return Result(self.operation, self.place)
+        return Argument(self.operation, self.region, self.place)
+
+
+def numbers_of(value: Value) -> CValue:
+    """Returns a value as a C struct."""
+    return CValue(value.operation, value.region if type(value) is Argument else _RESULT, value.place)
 
 
 class _Use(ctypes.Structure):
@@ -32,7 +45,7 @@ def declare(calls: ctypes.CDLL, handle: type) -> bool:
     if not hasattr(calls, "mlir_work_operations"):
         return False
     number, size, wide = ctypes.c_uint32, ctypes.c_size_t, ctypes.c_uint64
-    value, text = ctypes.POINTER(_Value), ctypes.c_char_p
+    value, text = ctypes.POINTER(CValue), ctypes.c_char_p
     for name, takes, gives in (
             ("operations", [ctypes.POINTER(number), size], wide), ("has", [number], ctypes.c_bool),
             ("root", [], wide), ("parent", [number], wide), ("next", [number], wide), ("previous", [number], wide),
@@ -55,7 +68,7 @@ class Reader:
 
     def __init__(self, calls: ctypes.CDLL, held: ctypes.Structure) -> None:
         self._calls, self._held, self._at = calls, held, ctypes.byref(held)
-        self._value, self._entry, self._counts = _Value(), _Entry(), Counts()
+        self._value, self._entry, self._counts = CValue(), _Entry(), Counts()
         self._value_at, self._counts_at = ctypes.byref(self._value), ctypes.byref(self._counts)
         self._uses = (_Use * _NEAR_USES)()
         self._bytes = ctypes.create_string_buffer(_NEAR_BYTES)

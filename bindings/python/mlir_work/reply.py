@@ -2,7 +2,7 @@
 import re
 from typing import Iterator, List, NamedTuple, Optional, Tuple
 
-from .errors import ModuleRefused, Refused, Stays
+from .errors import ModuleRefused, Refused, Stays, Unproved
 
 _REFUSED = re.compile(r"refused (\d+) (\w+)(?: at (\d+))?(?: #(\d+))?.*", re.S)
 _MODULE_REFUSED = re.compile(r"module refused (\d+) (\w+)(?: at (\d+))?(?: about [^\n]*)?\n")
@@ -21,14 +21,6 @@ def lines_of(text: str) -> List[str]:
 def decoded(data: bytes) -> str:
     """Returns the output of the program as text."""
     return data.decode("utf-8", "surrogateescape")
-
-
-class Unproved(NamedTuple):
-    """A pattern that a command used and that no check proves for the module before it: its name, and the result of its
-    last check, such as `holds 8`, or `unchecked`."""
-
-    name: str
-    said: str
 
 
 class Reply(NamedTuple):
@@ -80,7 +72,7 @@ class Reply(NamedTuple):
         if not found:
             return None
         at, operation = (None if it is None else int(it) for it in found.groups()[2:])
-        return Refused(int(found[1]), found[2], at, operation, line, self._stays())
+        return Refused(int(found[1]), found[2], at, operation, line, self._stays(), self.unproved)
 
     def _stays(self) -> Optional[Stays]:
         """Returns why an operation stays, if the reply says so."""

@@ -33,10 +33,11 @@ class Traced(NamedTuple):
 
 
 class Reason(NamedTuple):
-    """Why a rule doesn't apply at an operation: the number and the word of the rule, and the word of the first of its
-    conditions that doesn't hold, or `applies`."""
+    """Why a rule or a user pattern doesn't apply at an operation: the number and the word of the rule, and the word of
+    the first of its conditions that doesn't hold, or `applies`. For a pattern there is no number, `word` is its name,
+    and `said` is the first test that fails, as `operand 1 expected arith.constant found arith.addi #3`."""
 
-    rule: int
+    rule: Optional[int]
     word: str
     said: str
 
@@ -68,5 +69,6 @@ def stood_of(reply: Reply) -> List[Rewrite]:
 
 def reasons_of(reply: Reply) -> List[Reason]:
     """Returns the reasons in the reply to a `why`."""
-    told = [line.split(" ") for line in reply.lines]
-    return [Reason(int(rule), word, said) for _, _, rule, word, said in told]
+    told = [line.split(" ", 3) for line in reply.lines]
+    return [Reason(int(name), *said.split(" ", 1)) if name.isdigit() else Reason(None, name, said)
+            for _, _, name, said in told]

@@ -4,18 +4,20 @@ import re
 import threading
 from operator import index
 from types import TracebackType
-from typing import Iterable, Iterator, List, Literal, Optional, Sequence, SupportsIndex, Tuple, Type, Union, overload
+from typing import (Dict, Iterable, Iterator, List, Literal, Optional, Sequence, SupportsIndex, Tuple, Type, Union,
+                    overload)
 
 from .blocks import NESTABLE, flatten, is_nested, nest
 from .command import Program
-from .errors import Error, ModuleRefused, Refused, SessionClosed
+from .errors import Error, ModuleRefused, Refused, SessionClosed, Unproved
 from .handles import OperationHandle, ValueHandle
 from .library import Library, is_preferred
+from .numbers import Numbers
 from .operations import Operation, read
-from .patterns import Checked, Pattern, checked_of, patterns_of
+from .patterns import Checked, Pattern, all_checked_of, checked_of, patterns_of
 from .process import Process
 from .reader import Reader
-from .reply import Reply, Unproved
+from .reply import Reply
 from .rewrites import Canonicalized, Reason, Rewrite, Traced, canonicalized_of, reasons_of, stood_of, traced_of
 from .rows import KINDS, Constant, Dead, Diagnostic, Effect, Row, Symbol, Unreached, Use, rows_of
 from .script import BLANKS, File, has_divider, is_text, patterns_in
@@ -29,7 +31,8 @@ Files = Union[File, Iterable[File]]
 _WORD = re.compile(rb"[^ \t]*")
 # The prefix of a command with an expected refusal.
 _EXPECTED = re.compile(rb"^expect[ \t]+[^ \t]+[ \t]+")
-_LOOKS = (b"print", b"report", b"begin", b"commit", b"attach", b"detach", b"resync", b"pattern", b"patterns", b"check")
+_LOOKS = (b"print", b"report", b"begin", b"commit", b"attach", b"detach", b"resync", b"pattern", b"pattern!",
+          b"patterns", b"check")
 _COMMENT = re.compile(rb'("(?:[^"\\\n]|\\.)*")|//[^\n]*')
 
 
@@ -65,6 +68,11 @@ def _target(mode: str, legal: Iterable[str], illegal: Iterable[str], dynamic: It
 def _named(of: Subject) -> str:
     """Returns the name of an operation or a value in a command."""
     return op_text(of) if isinstance(of, (int, Operation, OperationHandle)) else str(of)
+
+
+def _proved(proved: bool) -> str:
+    """Returns the word in a command that asks for proved patterns, if it does."""
+    return " proved" if proved else ""
 
 
 def _limited(limit: Optional[int]) -> str:
@@ -112,6 +120,7 @@ class Session:
         self._thread = threading.get_ident()
         self._listing: Optional[List[Operation]] = None
         self._reader: Optional[Reader] = None
+        self._numbers: Optional[Numbers] = None
         self.marks, self.refused, self.closed = 0, 0, False
         """How many marks are open; how many commands were refused; whether it is closed."""
         self._blocks = blocks
@@ -308,6 +317,19 @@ class Session:
             raise Error("handles need the library (MLIR_WORK_LIBRARY): `operations()` works without it")
         return self._reader
 
+    @property
+    def numbers(self) -> Numbers:
+        """Edits and reports by interned numbers. Raises Error if the session isn't over the library."""
+        self._must_be_usable()
+        if self._numbers is None:
+            self._numbers = self._way.numbers(self._forget_listing)
+        if self._numbers is None:
+            raise Error("edits by numbers need the library (MLIR_WORK_LIBRARY)")
+        return self._numbers
+
+    def _forget_listing(self) -> None:
+        self._listing = None
+
     # Edits.
 
     def set_operand(self, operation: SupportsIndex, place: int, value: ValueText) -> None:
@@ -356,19 +378,22 @@ class Session:
         return canonicalized_of(self.command(f"canon at {op_text(operation)}{_limited(limit)}"))
 
     def why(self, operation: SupportsIndex, rule: Union[int, str, None] = None) -> List[Reason]:
-        """Returns why rules don't apply at an operation, or that they do: one rule, or all rules for the operation's
-        name."""
+        """Returns why rules don't apply at an operation, or that they do: one rule or user pattern, or all rules for
+        the operation's name."""
         asked = "" if rule is None else f" {rule}"
         return reasons_of(self.command(f"why {op_text(operation)}{asked}"))
 
-    def rewrite(self, rules: Iterable[Union[int, str]], limit: Optional[int] = None) -> Canonicalized:
+    def rewrite(self, rules: Iterable[Union[int, str]], limit: Optional[int] = None,
+                proved: bool = False) -> Canonicalized:
         """Rewrites by a list of rules, in the order in which they are tried at an operation: rules 1 to 24, by numbers
-        or words, and user patterns, by their names."""
-        return canonicalized_of(self._rewritten(f"rewrite {_ruled(rules)}{_limited(limit)}"))
+        or words, and user patterns, by their names. If `proved`, raises Refused, with its `unproved`, unless checks
+        prove all these patterns for the module."""
+        return canonicalized_of(self._rewritten(f"rewrite {_ruled(rules)}{_proved(proved)}{_limited(limit)}"))
 
-    def trace(self, rules: Optional[Iterable[Union[int, str]]] = None, limit: Optional[int] = None) -> Traced:
+    def trace(self, rules: Optional[Iterable[Union[int, str]]] = None, limit: Optional[int] = None,
+              proved: bool = False) -> Traced:
         """Rewrites as `canon` does, or as `rewrite` does if rules are given, and returns each rewrite."""
-        line = "canon" if rules is None else f"rewrite {_ruled(rules)}"
+        line = "canon" if rules is None else f"rewrite {_ruled(rules)}{_proved(proved)}"
         return traced_of(self._rewritten(f"{line} trace{_limited(limit)}"))
 
     def convert(self, mode: str = "partial", *, legal: Iterable[str] = (), illegal: Iterable[str] = (),
@@ -402,10 +427,11 @@ class Session:
 
     # User patterns.
 
-    def pattern(self, text: Text) -> None:
+    def pattern(self, text: Text, replace: bool = False) -> None:
         """Defines a pattern: its name, and the operations before and after, as `half arith.divui(%a, 2) =>
-        arith.shrui(%a, 1)`. No rollback removes it."""
-        self.command(f"pattern {_one_line(text)}")
+        arith.shrui(%a, 1)`. If `replace`, it takes the place of the pattern of its name, if there is one. No rollback
+        removes it."""
+        self.command(f"pattern{'!' * replace} {_one_line(text)}")
 
     def patterns(self) -> List[Pattern]:
         """Returns the patterns that were defined, in order."""
@@ -420,6 +446,11 @@ class Session:
         random values at a width, which has to be given. A pattern that fails raises nothing."""
         asked = "" if width is None else f" width {width}"
         return checked_of(self.command(f"check {name}{asked}" + " sampled" * sampled))
+
+    def check_all(self) -> Dict[str, Checked]:
+        """Checks each pattern in order, and returns the results by name. If a check is refused, its verdict is
+        `refused`."""
+        return all_checked_of(self.command("check all"))
 
     # Marks and analyses.
 

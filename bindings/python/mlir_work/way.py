@@ -1,7 +1,8 @@
 """The connection between a session and the program or the library."""
 import abc
-from typing import Iterable, List, Optional
+from typing import Callable, Iterable, List, Optional
 
+from .numbers import Numbers
 from .reader import Reader
 from .reply import Reply
 
@@ -39,6 +40,11 @@ class Way(abc.ABC):
 
     def reader(self) -> Optional[Reader]:
         """Returns what reads operations by numbers, or None if this connection has no such calls."""
+        return None
+
+    def numbers(self, edited: Callable[[], None]) -> Optional[Numbers]:
+        """Returns what edits by interned numbers, or None if this connection has no such calls. It calls `edited` after
+        each edit."""
         return None
 
     def abandon(self) -> None:

@@ -213,6 +213,26 @@ class Calls(Case):
             s.forget("twice")
         self.assertEqual(s.close(), 1)
 
+    def test_all_patterns(self):
+        with session(PAIR) as s:
+            self.assertEqual(s.check_all(), {})
+            s.pattern("mask arith.andi(%a, 255) => %a")
+            s.pattern("wide arith.addi(%a : index, 0) => %a")
+            s.pattern("times arith.muli(%a, c) => arith.shli(%a, log2(c))")
+            self.assertEqual(s.check_all(), {
+                "mask": ("fails", 9, (("%a", "-256 : i9"), ("old", "0 : i9"), ("new", "-256 : i9"))),
+                "wide": ("refused", 0, ()), "times": ("holds", 8, ())})
+            s.pattern("mask arith.addi(%a, 0) => %a", replace=True)
+            self.assertEqual([(it.name, it.said) for it in s.patterns()],
+                             [("mask", "not checked"), ("wide", "not checked"), ("times", "holds 8")])
+            with self.assertRaises(mlir_work.Refused) as caught:
+                s.rewrite(["mask", "times"], proved=True)
+            fault = caught.exception
+            self.assertEqual((fault.number, fault.unproved), (61, (("mask", "unchecked"), ("times", "holds 8"))))
+            s.check("mask")
+            self.assertEqual(s.rewrite(["mask"], proved=True).is_done, True)
+            self.assertEqual(s.trace(["mask"], 5, proved=True).rewrites, [])
+
     def test_rewrites(self):
         with session(example("canon")) as s:
             self.assertEqual(s.canon(1), (1, False))
@@ -302,6 +322,8 @@ class Calls(Case):
             self.assertEqual([it.rule for it in told], sorted(it.rule for it in told))
             self.assertEqual(s.why(3, "drop-one"), [(5, "drop-one", "second-not-constant")])
             self.assertEqual(s.why(3, 4), [(4, "drop-zero", "other-operation")])
+            s.pattern("nine arith.addi(%a, 9) => %a")
+            self.assertEqual([(it.rule, it.word) for it in s.why(3, "nine")], [(None, "nine")])
             self.assertEqual((s.canon_at(3, 1), s.canon_at(3)), ((1, False), (1, True)))
             for asked, number in (((3,), 20), ((2, "nope"), 26)):
                 with self.assertRaises(mlir_work.Refused) as caught:
@@ -743,7 +765,7 @@ class Package(unittest.TestCase):
 
     def test_each_command_has_a_method(self):
         for word in forms.forms():
-            self.assertTrue(callable(getattr(mlir_work.Session, word.replace("-", "_"))), word)
+            self.assertTrue(callable(getattr(mlir_work.Session, word.replace("-", "_").rstrip("!"))), word)
         self.assertEqual(list(mlir_work.KINDS), forms.kinds())
 
 

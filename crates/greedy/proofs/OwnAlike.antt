@@ -1,6 +1,7 @@
 -- If two trees agree on everything that rules read, and on the types one level deeper, shallow user patterns apply
 -- alike in both. The operations that a pattern makes are inserted before its root.
 use Rattle.std.proofs.Common.{◌≡◌, refl, ap, sym, ◌∙◌, subst, ℕ, ◌+◌, List, [], ◌∷◌, ◌++◌, map, Bool, true, false, true≢false, ◌&&◌, eqb, Option, Some, None, inl, inr}
+use Rattle.std.specs.List.{list_all}
 use Rattle.std.specs.Prelude.{is_some, option_map, slice_get}
 use Rattle.std.proofs.lemmas.Bool.{and_parts}
 use Rattle.std.proofs.lemmas.Option.{none-some, same_Some}
@@ -29,7 +30,7 @@ use Rattle.user_patterns_data.specs.Matching as matching
 use Rattle.user_patterns_data.specs.Matching.{Standing, defining_op_head, bound, nothing, ops_match, placed, standing}
 use Rattle.user_patterns_data.specs.Fitting.{content_with, fits}
 use Rattle.user_patterns_data.specs.Names.{name_of, operands_of, predicate_of}
-use Rattle.user_patterns_data.specs.Planning.{Plan, all_made, constants_known, entries_by, extra_known, extra_place, kind_standing, made_as, new_place, old_place, places, planned, planned_by, planned_from, typed, values_at}
+use Rattle.user_patterns_data.specs.Planning.{Plan, all_made, constants_known, entries_by, extra_known, extra_place, is_numeric, kind_standing, made_as, new_place, old_place, places, planned, planned_by, planned_from, typed, values_at}
 use Rattle.user_patterns_data.specs.Planning.{outcomes as outcomes_of}
 use Rattle.user_patterns_data.specs.declared.pattern.NewValue.{NewValue}
 use Rattle.user_patterns_data.specs.declared.pattern.NewValue.TheVariants as new
@@ -175,7 +176,7 @@ planned_leaves t verified n p x made e =
         by_made (Some r) i z e = given_holds LeavesPlanned (standing p.result r.1) (λ v. Some (r.0, v)) (λ v y j. subst LeavesPlanned (same_Some _ _ j) (all_leaves ts env p.new n (new_place p) b r i)) z e
 
     from : (b : Standing Value) (ts : Standing TypeTerm) (made : Plan) → planned_by t verified n p b ts ≡ Some made → LeavesPlanned made
-    from b ts made e = by_kinds (map kind_standing ts) made e
+    from b ts made e = when_holds LeavesPlanned (list_all is_numeric ts) _ (λ z i. by_kinds (map kind_standing ts) z i) made e
       where
         by_kinds : (ks : List BitsKind) (made : Plan) → matching.when (fits ks p && constants_known t verified n p b) (outcomes.given (run (Content.given (content_with ks p)) (outcomes_of t verified n p 0 p.values b)) (planned_from t verified n p b ts)) ≡ Some made → LeavesPlanned made
         by_kinds ks made e =

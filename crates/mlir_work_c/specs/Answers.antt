@@ -2,6 +2,9 @@
 use Rattle.std.specs.Prelude.{ℕ, Option, Some, None}
 use Rattle.ir_event.specs.types.Refusals.{number_of}
 use Rattle.ir_event.specs.types.declared.refusal.Refusal.{Refusal}
+use Rattle.ir_event.specs.types.declared.refusal.Refusal.TheVariants.{Memory, TooMany}
+use Rattle.ir_text.specs.declared.error.ReadError.{ReadError}
+use Rattle.ir_text.specs.declared.error.ReadError.TheVariants as error
 use Rattle.rewriter.specs.Commands.{Response, Replied, TextRefusedAt}
 use Rattle.rewriter.specs.Machine.{Applied, Converged, Converted, Done, DoneAs, DoneWith, Limited, Outcome, Refused, RefusedOn, Swept}
 use Rattle.mlir_work_run.specs.session.Notices.{Notice, Plain, Checked}
@@ -28,6 +31,19 @@ refused refusal = of_numbers 7 (number_of refusal) 0 0
 -- the answer after a session was opened
 abbrev pub opened : Answer
 opened = of_numbers 1 0 0 0
+
+-- the answer to an accepted call with a number, and to one that made an operation
+abbrev pub counted : ℕ → Answer
+counted number = of_numbers 1 0 number 0
+
+abbrev pub made : ℕ → Answer
+made op = of_numbers 2 0 op 0
+
+-- the answer to a text that isn't read
+abbrev pub unread : ReadError → Answer
+unread error.Memory = refused Memory
+unread (error.Full offset) = of_numbers 9 (number_of TooMany) offset 0
+unread (error.Refused refusal offset) = of_numbers 9 (number_of refusal) offset 0
 
 -- the answer if no session was opened, with the refused byte of the text if there is one
 abbrev pub not_opened : Refusal → Option ℕ → Answer

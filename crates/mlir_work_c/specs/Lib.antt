@@ -8,4 +8,6 @@ pub mod Stepped
 pub mod Opened
 pub mod Queries
 pub mod Reading
+pub mod Bulk
+pub mod Numbered
 pub mod Talks

@@ -9,9 +9,11 @@ use Rattle.mlir_work_c_read.specs.declared.numbers.UseNumbers.{UseNumbers}
 use Rattle.mlir_work_c_read.specs.Filled.{over}
 use Rattle.mlir_work_c_read.specs.Operations.{argument_count, counts_of, name_of, region_of}
 use Rattle.mlir_work_c_read.specs.Entries.{attribute_at, attribute_by_key, property_at, property_by_key}
-use Rattle.mlir_work_c_read.specs.Texts.{attribute_text, name_number, name_text, type_text}
+use Rattle.mlir_work_c_read.specs.Texts.{attribute_text, integer_read, name_number, name_text, type_text}
 use Rattle.mlir_work_c_read.specs.Uses.{WritesUses}
-use Rattle.mlir_work_c.specs.Numbers.{no_memory, no_number}
+use Rattle.mlir_work_c_read.specs.declared.numbers.IntegerNumbers.{IntegerNumbers}
+use Rattle.mlir_work_c.specs.Numbers.{no_memory}
+use Rattle.mlir_work_c_read.specs.Numbers.{no_number}
 use Rattle.mlir_work_c.specs.Queries.{context_of, tree_of}
 use Rattle.mlir_work_c.specs.declared.session.Session.{Session}
 
@@ -53,6 +55,9 @@ type_text_in n s = type_text n (context_of s)
 
 abbrev pub attribute_text_in : ℕ → Session → Option (List ℕ)
 attribute_text_in n s = attribute_text n (context_of s)
+
+abbrev pub integer_in : ℕ → Session → Option IntegerNumbers
+integer_in n s = integer_read n (context_of s)
 
 -- an entry as a C struct
 abbrev pub entry_numbers : ℕ × ℕ → EntryNumbers

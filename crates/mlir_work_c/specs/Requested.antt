@@ -9,9 +9,9 @@ use Rattle.ir_event.specs.tree_laws.Reads.{first_at, last_at, next_of, parent_of
 use Rattle.ir_event.specs.tree_laws.Changes.{operand_at}
 use Rattle.mlir_work_c.specs.Queries.{tree_of}
 use Rattle.mlir_work_c.specs.declared.session.Session.{Session}
-use Rattle.mlir_work_c.specs.Numbers.{numbers_of}
+use Rattle.mlir_work_c_read.specs.Numbers.{numbers_of}
 use Rattle.mlir_work_c_read.specs.declared.numbers.UseNumbers.{UseNumbers}
-use Rattle.mlir_work_c.specs.declared.numbers.ValueNumbers.{ValueNumbers}
+use Rattle.mlir_work_c_read.specs.declared.numbers.ValueNumbers.{ValueNumbers}
 
 abbrev pub has_in : ℕ → Session → Bool
 has_in op s = has_id op (tree_of s)

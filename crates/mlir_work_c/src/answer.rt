@@ -3,13 +3,17 @@ ghost use Rattle.std.specs.Prelude.{◌≡◌, ℕ};
 ghost use Rattle.mlir_work_script.specs.Outcomes.{outcome_of};
 ghost use Rattle.mlir_work_run.specs.session.Machine.{response_of};
 ghost use Rattle.mlir_work_run.specs.session.Notices.{notice_of};
-ghost use Rattle.mlir_work_c.specs.Answers.{answer_of, came_of, closed as no_session, nothing as no_command, refused as refused_for, opened as a_session, not_opened as not_opened_for};
+ghost use Rattle.mlir_work_c.specs.Answers.{answer_of, came_of, closed as no_session, nothing as no_command, refused as refused_for, opened as a_session, not_opened as not_opened_for, counted, made, unread};
+ghost use Rattle.rewriter.specs.Commands.{Replied};
+ghost use Rattle.rewriter.specs.RewriterCalls.{id_reply_of, reply_of};
 ghost use Rattle.mlir_work_c.specs.Answers.{replied_of, said_as};
 
+use ir_event::types::ids::OpId;
 use ir_event::types::refusal::Refusal;
 use mlir_work_run::outcome::Outcome;
 use mlir_work_run::reply::Reply;
 use mlir_work_run::response::{CheckSummary, Response};
+use rewriter::ReadError;
 
 /// The answer to a call. It has only numbers and needs no memory, so an edit that was made always gets its answer.
 #[repr(C)]
@@ -68,6 +72,55 @@ pub fn opened() -> Answer
     ensures { result ≡ a_session }
 {
     of_numbers(1, 0, 0, 0)
+}
+
+/// Returns the answer to an accepted call with a number.
+pub fn counted(number: u64) -> Answer
+    ensures { result ≡ counted number }
+{
+    of_numbers(1, 0, number, 0)
+}
+
+/// Returns the answer to an accepted call that made an operation.
+pub fn made(op: OpId) -> Answer
+    ensures { result ≡ made op }
+{
+    of_numbers(2, 0, op.number() as u64, 0)
+}
+
+/// Returns the answer to an edit.
+pub fn edited(told: Result<(), Refusal>) -> Answer
+    ensures { result ≡ replied_of (Replied (reply_of told)) 0 }
+{
+    match told {
+        Ok(()) => opened(),
+        Err(refusal) => refused(refusal),
+    }
+}
+
+/// Returns the answer to an insertion.
+pub fn inserted(op: Result<OpId, Refusal>) -> Answer
+    ensures { result ≡ replied_of (Replied (id_reply_of op)) 0 }
+{
+    match op {
+        Ok(op) => made(op),
+        Err(refusal) => refused(refusal),
+    }
+}
+
+/// Returns the answer to a text that isn't read.
+pub fn unread(error: ReadError) -> Answer
+    ensures { result ≡ unread error }
+{
+    match error {
+        ReadError::Memory => refused(Refusal::Memory),
+        ReadError::Full { offset } => {
+            of_numbers(9, Refusal::TooMany.number(), offset as u64, 0)
+        }
+        ReadError::Refused { refusal, offset } => {
+            of_numbers(9, refusal.number(), offset as u64, 0)
+        }
+    }
 }
 
 /// Returns the answer if no session was opened, with the refused byte of the text if there is one.

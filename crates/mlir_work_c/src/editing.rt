@@ -3,14 +3,16 @@ ghost use Rattle.std.specs.Prelude.{◌≡◌, None, Some};
 ghost use Rattle.rewriter.specs.Commands.{Erase, Replace, SetOperand};
 ghost use Rattle.mlir_work_c.specs.Calls.{IsHeld};
 ghost use Rattle.mlir_work_c.specs.Edits.{EditGoes, MoveGoes};
-ghost use Rattle.mlir_work_c.specs.Numbers.{point_of_numbers, value_of as told_value};
+ghost use Rattle.mlir_work_c_read.specs.Numbers.{value_of as told_value};
+ghost use Rattle.mlir_work_c.specs.Numbers.{point_of_numbers};
 
 use crate::answer::{Answer, closed, refused};
 use crate::edits;
 use crate::handle::Handle;
-use crate::numbers::{InsertionPointNumbers, ValueNumbers, point_of, value_of};
+use crate::numbers::{InsertionPointNumbers, point_of};
 use ir_event::types::ids::OpId;
 use ir_event::types::refusal::Refusal;
+use mlir_work_c_read::numbers::{ValueNumbers, value_of};
 use std::alloc::Global;
 
 /// `set-operand`: sets an operand of an operation.

@@ -3,23 +3,23 @@
 //!
 //! - `session` runs one script line at a time in a session that lives between calls: a module, its marks, its seven
 //!   analyses and its pattern registry. Each line has the effect that it has in a script.
-//! - `open` opens a session, `edits` and `session_queries` edit and inspect its module without texts, and `answer`
-//!   has the numbers of an answer.
-//! - `calls`, `editing`, `queries` and `reading` are the C functions. `handle`, `handle_slot` and `raw_box` store a
-//!   session in a C struct.
+//! - `open` opens a session, `edits` edits its module without texts, and `answer` has the numbers of an answer.
+//! - `calls`, `editing`, `numbered`, `queries`, `reading` and `bulk` are the C functions. `handle`, `handle_slot` and
+//!   `raw_box` store a session in a C struct.
 #![tactic(auto)]
 
 pub mod answer;
+pub mod bulk;
 pub mod calls;
 pub mod editing;
 pub mod edits;
 mod handle;
 mod handle_slot;
 pub mod laws;
+pub mod numbered;
 mod numbers;
 pub mod open;
 pub mod queries;
 pub mod raw_box;
 pub mod reading;
 pub mod session;
-pub mod session_queries;

@@ -1,18 +1,15 @@
 //! The C functions for queries by number. They read or write no text and change nothing.
-ghost use Rattle.std.specs.Prelude.{◌≡◌, [], MatchOption, None, Some, true};
-ghost use Rattle.ir_event.specs.store.Using.{is_use};
-ghost use Rattle.ir_event.specs.trees.Uses.{uses_of};
+ghost use Rattle.std.specs.Prelude.{◌≡◌, None, Some};
 ghost use Rattle.mlir_work_c.specs.Calls.{IsHeld};
 ghost use Rattle.mlir_work_c.specs.Requested.{requested, first_in, has_in, is_requested, last_in, next_in, operand_in, parent_in, prev_in, root_in, Told, ToldUse, uses_in};
-ghost use Rattle.mlir_work_c.specs.Numbers.{number_of as told, value_of as told_value};
-ghost use Rattle.mlir_work_c.specs.Queries.{tree_of};
+ghost use Rattle.mlir_work_c_read.specs.Numbers.{number_of as told, value_of as told_value};
 
 use crate::handle::Handle;
-use crate::numbers::{ValueNumbers, no_number, number_of, numbers_of, value_of};
-use crate::session::Session;
-use ir_event::trees::value::Value;
 use ir_event::types::ids::OpId;
-use mlir_work_c_read::numbers::UseNumbers;
+use mlir_work_c_read::numbers::{
+    UseNumbers, ValueNumbers, no_number, number_of, numbers_of, value_of,
+};
+use mlir_work_c_read::queries;
 use std::alloc::Global;
 
 /// Returns whether an operation is in the module.
@@ -25,7 +22,7 @@ pub extern "C" fn mlir_work_has(alloc: Global, held: &mut Handle, operation: u32
     let Some(found) = held.take(alloc) else {
         return false;
     };
-    let there = found.has(OpId::new(operation));
+    let there = queries::has(found.bench.world(), OpId::new(operation));
     held.open_with(found);
     there
 }
@@ -40,7 +37,7 @@ pub extern "C" fn mlir_work_root(alloc: Global, held: &mut Handle) -> u64
     let Some(found) = held.take(alloc) else {
         return no_number();
     };
-    let op = found.root();
+    let op = queries::root(found.bench.world());
     held.open_with(found);
     number_of(Some(op))
 }
@@ -55,7 +52,7 @@ pub extern "C" fn mlir_work_parent(alloc: Global, held: &mut Handle, operation: 
     let Some(found) = held.take(alloc) else {
         return no_number();
     };
-    let op = found.parent(OpId::new(operation));
+    let op = queries::parent(found.bench.world(), OpId::new(operation));
     held.open_with(found);
     number_of(op)
 }
@@ -70,7 +67,7 @@ pub extern "C" fn mlir_work_next(alloc: Global, held: &mut Handle, operation: u3
     let Some(found) = held.take(alloc) else {
         return no_number();
     };
-    let op = found.next(OpId::new(operation));
+    let op = queries::next(found.bench.world(), OpId::new(operation));
     held.open_with(found);
     number_of(op)
 }
@@ -85,7 +82,7 @@ pub extern "C" fn mlir_work_previous(alloc: Global, held: &mut Handle, operation
     let Some(found) = held.take(alloc) else {
         return no_number();
     };
-    let op = found.previous(OpId::new(operation));
+    let op = queries::previous(found.bench.world(), OpId::new(operation));
     held.open_with(found);
     number_of(op)
 }
@@ -105,7 +102,7 @@ pub extern "C" fn mlir_work_first(
     let Some(found) = held.take(alloc) else {
         return no_number();
     };
-    let op = found.first(OpId::new(operation), region);
+    let op = queries::first(found.bench.world(), OpId::new(operation), region);
     held.open_with(found);
     number_of(op)
 }
@@ -125,7 +122,7 @@ pub extern "C" fn mlir_work_last(
     let Some(found) = held.take(alloc) else {
         return no_number();
     };
-    let op = found.last(OpId::new(operation), region);
+    let op = queries::last(found.bench.world(), OpId::new(operation), region);
     held.open_with(found);
     number_of(op)
 }
@@ -146,20 +143,13 @@ pub extern "C" fn mlir_work_operand(
     let Some(found) = held.take(alloc) else {
         return false;
     };
-    let operand = found.operand(OpId::new(operation), operand);
+    let operand = queries::operand(found.bench.world(), OpId::new(operation), operand);
     held.open_with(found);
     let Some(operand) = operand else {
         return false;
     };
     *value = numbers_of(operand);
     true
-}
-
-/// Returns one of the uses of a value, or `None` if it has no use.
-fn first_use(session: &Session, value: Value) -> Option<(OpId, u32)>
-    ensures { MatchOption result (uses_of value (tree_of session.now) ≡ []) (λ u. is_use u.0 u.1 (uses_of value (tree_of session.now)) ≡ true) }
-{
-    session.bench.world().store.first_use(value)
 }
 
 /// Gets one of the uses of a value. Returns whether there is one.
@@ -177,7 +167,7 @@ pub extern "C" fn mlir_work_first_use(
     let Some(found) = held.take(alloc) else {
         return false;
     };
-    let told = first_use(&found, value_of(value));
+    let told = queries::first_use(found.bench.world(), value_of(value));
     held.open_with(found);
     let Some((op, operand)) = told else {
         return false;

@@ -3,18 +3,23 @@
 ghost use Rattle.std.specs.Prelude.{◌≡◌, option_map};
 ghost use Rattle.mlir_work_c.specs.Requested.{requested};
 ghost use Rattle.mlir_work_c.specs.Calls.{IsHeld};
-ghost use Rattle.mlir_work_c.specs.Numbers.{number_of as told, value_of as told_value};
-ghost use Rattle.mlir_work_c.specs.Reading.{MayWrite, Writes, WritesItems, WritesOperations, WritesUsesOf, argument_count_in, attribute_in, attribute_of_key_in, attribute_text_in, counts_in, entry_numbers, name_in, name_number_in, name_text_in, property_in, property_of_key_in, region_in, type_in, type_text_in};
+ghost use Rattle.mlir_work_c_read.specs.Numbers.{number_of as told, value_of as told_value};
+ghost use Rattle.mlir_work_c.specs.Reading.{MayWrite, Writes, WritesItems, WritesOperations, WritesUsesOf, argument_count_in, attribute_in, attribute_of_key_in, attribute_text_in, counts_in, entry_numbers, integer_in, name_in, name_number_in, name_text_in, property_in, property_of_key_in, region_in, type_in, type_text_in};
 
 use crate::handle::Handle;
-use crate::numbers::{ValueNumbers, count_or_none, no_memory, no_number, number_or_none, value_of};
+use crate::numbers::no_memory;
 use ir_event::types::ids::{AttrId, NameId, OpId, TypeId};
 use mlir_work_c_read::entries::{attribute_at, attribute_by_key, property_at, property_by_key};
-use mlir_work_c_read::numbers::{Counts, EntryNumbers, UseNumbers};
+use mlir_work_c_read::numbers::{
+    Counts, EntryNumbers, IntegerNumbers, UseNumbers, ValueNumbers, count_or_none, no_number,
+    number_or_none, value_of,
+};
 use mlir_work_c_read::operations::{
     argument_count, counts_of, name_of, region_of, type_of, write_operations,
 };
-use mlir_work_c_read::texts::{attribute_text, find_name, name_text, type_text, write_text};
+use mlir_work_c_read::texts::{
+    attribute_text, find_name, name_text, read_integer, type_text, write_text,
+};
 use mlir_work_c_read::uses::write_uses;
 use std::alloc::Global;
 
@@ -223,6 +228,30 @@ pub extern "C" fn mlir_work_attribute_by_key(
     let attr = attribute_by_key(found.bench.world(), OpId::new(operation), NameId::new(key));
     held.open_with(found);
     number_or_none(attr)
+}
+
+/// Gets the type and the value of an integer attribute. Returns whether the attribute is an integer.
+#[unsafe(no_mangle)]
+pub extern "C" fn mlir_work_integer(
+    alloc: Global,
+    held: &mut Handle,
+    attribute: u32,
+    integer: &mut IntegerNumbers,
+) -> bool
+    requires kept { IsHeld held.old.slot.value }
+    ensures same { held.new.slot.value ≡ held.old.slot.value }
+    ensures told { Writes (requested (integer_in attribute) held.old.slot.value) integer.old integer.new result }
+{
+    let Some(found) = held.take(alloc) else {
+        return false;
+    };
+    let told = read_integer(&found.bench.world().ctx, AttrId::new(attribute));
+    held.open_with(found);
+    let Some(told) = told else {
+        return false;
+    };
+    *integer = told;
+    true
 }
 
 /// Writes the uses of a value, as many as there is space for. Returns how many the value has.

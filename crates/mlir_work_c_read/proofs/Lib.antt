@@ -1,2 +1,5 @@
 mod Found
+mod Joining
+mod Lengths
 mod Nodes
+mod Using

@@ -1,5 +1,5 @@
 -- What the node of an operation says of it.
-use Rattle.std.proofs.Common.{◌≡◌, ◌∙◌, refl, ap, ℕ, zero, suc, List, length, Option, Some, None, arith}
+use Rattle.std.proofs.Common.{◌≡◌, ◌∙◌, refl, ap, ℕ, zero, suc, List, [], length, map, Option, Some, None, arith}
 use Rattle.std.specs.Prelude.{option_map, option_and_then, slice_get}
 use Rattle.ir_event.specs.trees.declared.value.Value.{Value}
 use Rattle.ir_event.specs.trees.Tree.{Op, op, Regions, no_regions, region, region_count}
@@ -7,7 +7,9 @@ use Rattle.ir_event.specs.trees.Ids.{find}
 use Rattle.ir_event.specs.tree_laws.Values.{arguments_of, arguments_at, region_at}
 use Rattle.ir_event.specs.store.Nodes.{Node, node_of, regions_arguments}
 use Rattle.mlir_work_c_read.specs.declared.numbers.Counts.{Counts}
-use Rattle.mlir_work_c_read.specs.Operations.{argument_count, counts, counts_of}
+use Rattle.mlir_work_c_read.specs.declared.numbers.Head.{Head}
+use Rattle.mlir_work_c_read.specs.Bulk.{head_in, operands_in}
+use Rattle.mlir_work_c_read.specs.Operations.{argument_count, counts, counts_of, node_counts}
 
 counted : (rs : Regions) → length (regions_arguments rs) ≡ region_count rs
 counted no_regions = refl
@@ -19,27 +21,40 @@ at_place (suc r) no_regions = refl
 at_place zero (region g rs) = refl
 at_place (suc r) (region g rs) = at_place r rs
 
-module _ (x : ℕ) (t : Op) (n : Node) where
-  pub counts_are : (os : List Value) (rs : List ℕ) (ps qs : List (ℕ × ℕ)) (k : ℕ) → Some n ≡ option_map node_of (find x t) → os ≡ n.head.operands → rs ≡ n.head.results → ps ≡ n.head.properties → qs ≡ n.head.attributes → k ≡ length n.arguments
-      → Some (record { operands = length os; results = length rs; properties = length ps; attributes = length qs; regions = k }) ≡ counts_of x t
-  counts_are os rs ps qs k e eo er ep eq ek = go (find x t) e
-    where
-      go : (f : Option Op) → Some n ≡ option_map node_of f → Some (record { operands = length os; results = length rs; properties = length ps; attributes = length qs; regions = k }) ≡ option_map counts f
-      go None h = absurd cc
-      go (Some (op h gs)) i =
-          let one : n ≡ node_of (op h gs) = cc in
-          let o = eo ∙ ap (λ (m : Node). m.head.operands) one in
-          let r = er ∙ ap (λ (m : Node). m.head.results) one in
-          let p = ep ∙ ap (λ (m : Node). m.head.properties) one in
-          let q = eq ∙ ap (λ (m : Node). m.head.attributes) one in
-          let c = ek ∙ ap (λ (m : Node). length m.arguments) one ∙ counted gs in
-          λ j. Some (record { operands = length (o j); results = length (r j); properties = length (p j); attributes = length (q j); regions = c j })
+-- the counts of an operation's node are its counts
+node_counts_are : (o : Op) → node_counts (node_of o) ≡ counts o
+node_counts_are (op h gs) = λ j. record { operands = length h.operands; results = length h.results; properties = length h.properties; attributes = length h.attributes; regions = counted gs j }
 
-  pub arguments_are : (r : ℕ) (got : Option (List ℕ)) → Some n ≡ option_map node_of (find x t) → got ≡ option_and_then (λ a. a) (slice_get n.arguments r) → option_map length got ≡ argument_count x r t
-  arguments_are r got e g = go (find x t) e
+module _ (n : Node) where
+  pub counts_are : (f : Option Op) → Some n ≡ option_map node_of f → Some (node_counts n) ≡ option_map counts f
+  counts_are None h = absurd cc
+  counts_are (Some o) h = let one : n ≡ node_of o = cc in ap Some (ap node_counts one ∙ node_counts_are o)
+
+  pub head_is : (f : Option Op) → Some n ≡ option_map node_of f → record { name = n.head.name; counts = node_counts n } ≡ head_in f
+  head_is None h = absurd cc
+  head_is (Some (op h gs)) e =
+      let one : n ≡ node_of (op h gs) = cc in
+      let same = ap node_counts one ∙ node_counts_are (op h gs) in
+      λ j. record { name = (one j).head.name; counts = same j }
+
+  pub operands_are : (f : Option Op) → Some n ≡ option_map node_of f → n.head.operands ≡ operands_in f
+  operands_are None h = absurd cc
+  operands_are (Some (op h gs)) e = let one : n ≡ node_of (op h gs) = cc in ap (λ (m : Node). m.head.operands) one
+
+  pub arguments_are : (x : ℕ) (t : Op) (r : ℕ) (got : Option (List ℕ)) → Some n ≡ option_map node_of (find x t) → got ≡ option_and_then (λ a. a) (slice_get n.arguments r) → option_map length got ≡ argument_count x r t
+  arguments_are x t r got e g = go (find x t) e
     where
       go : (f : Option Op) → Some n ≡ option_map node_of f → option_map length got ≡ option_map length (option_and_then (arguments_at r) f)
       go None h = absurd cc
       go (Some (op h gs)) i =
           let one : n ≡ node_of (op h gs) = cc in
           ap (option_map length) (g ∙ ap (λ (m : Node). option_and_then (λ a. a) (slice_get m.arguments r)) one ∙ at_place r gs)
+
+-- no node, no operation
+pub head_none : (f : Option Op) → None ≡ option_map node_of f → head_in None ≡ head_in f
+head_none None h = refl
+head_none (Some o) h = absurd cc
+
+pub operands_none : (f : Option Op) → None ≡ option_map node_of f → operands_in f ≡ []
+operands_none None h = refl
+operands_none (Some o) h = absurd cc

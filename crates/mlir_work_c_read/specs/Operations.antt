@@ -6,6 +6,7 @@ use Rattle.ir_event.specs.trees.Tree.{Op, head, regions, region_count}
 use Rattle.ir_event.specs.trees.Ids.{find, ids}
 use Rattle.ir_event.specs.trees.Places.{place_of}
 use Rattle.ir_event.specs.tree_laws.Values.{arguments_at}
+use Rattle.ir_event.specs.store.Nodes.{Node}
 use Rattle.ir_event.specs.declared.world.World.{World}
 use Rattle.mlir_work_c_read.specs.declared.numbers.Counts.{Counts}
 use Rattle.mlir_work_c_read.specs.Filled.{over}
@@ -26,6 +27,16 @@ counts o = record {
   properties = length (head o).properties;
   attributes = length (head o).attributes;
   regions = region_count (regions o);
+}
+
+-- the counts of a node, which is an operation without the operations in its blocks
+abbrev pub node_counts : Node → Counts
+node_counts n = record {
+  operands = length n.head.operands;
+  results = length n.head.results;
+  properties = length n.head.properties;
+  attributes = length n.head.attributes;
+  regions = length n.arguments;
 }
 
 -- the counts of operation x

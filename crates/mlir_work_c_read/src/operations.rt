@@ -2,9 +2,10 @@
 ghost use Rattle.std.specs.Prelude.{◌≡◌};
 ghost use Rattle.ir_event.specs.tree_laws.Values.{type_of_value};
 ghost use Rattle.mlir_work_c_read.specs.Filled.{over};
-ghost use Rattle.mlir_work_c_read.specs.Operations.{argument_count, counts_of, name_of, region_of, tree_in, WritesAll};
+ghost use Rattle.mlir_work_c_read.specs.Operations.{argument_count, counts_of, name_of, node_counts, region_of, tree_in, WritesAll};
 
 use crate::numbers::Counts;
+use ir_event::store::node::Node;
 use ir_event::trees::value::Value;
 use ir_event::types::ids::OpId;
 use ir_event::types::refusal::Refusal;
@@ -27,13 +28,20 @@ pub fn counts_of(world: &World, op: OpId) -> Option<Counts>
     let Some(node) = world.shown(op) else {
         return None;
     };
-    Some(Counts {
+    Some(counts_in(&node))
+}
+
+/// Returns the counts of an operation.
+pub(crate) fn counts_in(node: &Node<'_>) -> Counts
+    ensures { result ≡ node_counts node.now }
+{
+    Counts {
         operands: node.operands().len(),
         results: node.results().len(),
         properties: node.properties().len(),
         attributes: node.attributes().len(),
         regions: node.region_count(),
-    })
+    }
 }
 
 /// Returns the number of arguments of the block of a region, or `None` if there is no such block.

@@ -1,10 +1,13 @@
 //! Texts of interned names, types and attributes, and the number of a name.
 ghost use Rattle.std.specs.Prelude.{◌≡◌, IfOk, length, option_map};
 ghost use Rattle.mlir_work_c_read.specs.Filled.{over};
-ghost use Rattle.mlir_work_c_read.specs.Texts.{attribute_text, name_number, name_text, type_text};
+ghost use Rattle.mlir_work_c_read.specs.Texts.{attribute_text, integer_of, integer_read, name_number, name_text, type_text, type_width};
 
+use crate::numbers::IntegerNumbers;
+use crate::rows::WORD;
 use ir_event::types::context::Context;
 use ir_event::types::ids::{AttrId, NameId, TypeId};
+use ir_event::types::node::{AttrNode, TypeNode};
 use ir_event::world::World;
 use ir_text::attributes::print_attr;
 use ir_text::types::print_type;
@@ -54,6 +57,49 @@ pub fn attribute_text(
     match print_attr(ctx, &mut text, attr) {
         Ok(()) => Ok(Some(text)),
         Err(e) => Err(e),
+    }
+}
+
+/// Returns the value of an integer attribute as 128 bits, with the type, or `None` if the context has no such attribute or
+/// it is no integer. The value is the one below 2^w of a type of width w.
+fn integer_of(ctx: &Context, attr: AttrId) -> Option<(TypeId, u128)>
+    ensures { result ≡ integer_of attr ctx.now }
+{
+    if !ctx.has_attr(attr) {
+        return None;
+    }
+    match ctx.attr_node(attr) {
+        AttrNode::Int { ty, value } => Some((*ty, *value)),
+        _ => None,
+    }
+}
+
+/// Returns an integer attribute as a C struct, or `None` if the context has no such integer.
+pub fn read_integer(ctx: &Context, attr: AttrId) -> Option<IntegerNumbers>
+    ensures { result ≡ integer_read attr ctx.now }
+{
+    let Some((ty, value)) = integer_of(ctx, attr) else {
+        return None;
+    };
+    Some(IntegerNumbers {
+        low: (value % WORD) as u64,
+        high: (value / WORD) as u64,
+        ty: ty.number(),
+        width: width_of(ctx, ty),
+    })
+}
+
+/// Returns the width of an integer type, or 0 if the type is none or the context doesn't have it.
+fn width_of(ctx: &Context, ty: TypeId) -> u32
+    ensures { result ≡ type_width ty ctx.now }
+{
+    let is_known = ctx.has_type(ty);
+    if !is_known {
+        return 0;
+    }
+    match ctx.type_node(ty) {
+        TypeNode::Int { width, .. } => *width,
+        _ => 0,
     }
 }
 

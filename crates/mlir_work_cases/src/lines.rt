@@ -186,25 +186,38 @@ fn told_command(alloc: Global, command: &Command<'_>) -> Result<String, AllocErr
     }
 }
 
+/// What a line says of patterns that no check proves.
+fn told_proved(proved: bool) -> &'static str {
+    if proved { " proved" } else { "" }
+}
+
 /// A line that rewrites by some rules.
-fn told_rewrite(alloc: Global, rules: &[u8], limit: Option<u32>) -> Result<String, AllocError> {
+fn told_rewrite(
+    alloc: Global,
+    rules: &[u8],
+    proved: bool,
+    limit: Option<u32>,
+) -> Result<String, AllocError> {
     let rules = shown(alloc, rules)?;
+    let proved = told_proved(proved);
     let limit = told_number(alloc, limit)?;
-    format!(in alloc; "rewrite {rules} limit {limit}")
+    format!(in alloc; "rewrite {rules}{proved} limit {limit}")
 }
 
 /// A line that rewrites by some rules, or by those of canonicalization, and lists each rewrite.
 fn told_trace(
     alloc: Global,
     rules: Option<&[u8]>,
+    proved: bool,
     limit: Option<u32>,
 ) -> Result<String, AllocError> {
     let rules = match rules {
         Some(rules) => shown(alloc, rules)?,
         None => String::from_str(alloc, "all")?,
     };
+    let proved = told_proved(proved);
     let limit = told_number(alloc, limit)?;
-    format!(in alloc; "trace {rules} limit {limit}")
+    format!(in alloc; "trace {rules}{proved} limit {limit}")
 }
 
 /// A line that canonicalizes one operation.
@@ -242,8 +255,16 @@ fn told_order(alloc: Global, order: &SessionCommand<'_>) -> Result<String, Alloc
         SessionCommand::Attach(kind) => format!(in alloc; "attach {}", kind.number()),
         SessionCommand::PrintIds => String::from_str(alloc, "ids"),
         SessionCommand::ReportAbout { kind, subject } => told_about(alloc, *kind, subject),
-        SessionCommand::Rewrite { rules, limit } => told_rewrite(alloc, rules, *limit),
-        SessionCommand::Trace { rules, limit } => told_trace(alloc, *rules, *limit),
+        SessionCommand::Rewrite {
+            rules,
+            proved,
+            limit,
+        } => told_rewrite(alloc, rules, *proved, *limit),
+        SessionCommand::Trace {
+            rules,
+            proved,
+            limit,
+        } => told_trace(alloc, *rules, *proved, *limit),
         SessionCommand::TraceConvert { full, clauses } => told_convert_trace(alloc, *full, clauses),
         SessionCommand::CanonAt { op, limit } => told_canon_at(alloc, *op, *limit),
         SessionCommand::Why { op, rule } => told_why(alloc, *op, rule),
@@ -269,6 +290,12 @@ fn told_pattern(alloc: Global, text: &[u8]) -> Result<String, AllocError> {
     format!(in alloc; "pattern {text}")
 }
 
+/// A line that defines a pattern in place of another one.
+fn told_redefined(alloc: Global, text: &[u8]) -> Result<String, AllocError> {
+    let text = shown(alloc, text)?;
+    format!(in alloc; "pattern! {text}")
+}
+
 /// A line that removes a pattern.
 fn told_forget(alloc: Global, name: &[u8]) -> Result<String, AllocError> {
     let name = shown(alloc, name)?;
@@ -279,9 +306,11 @@ fn told_forget(alloc: Global, name: &[u8]) -> Result<String, AllocError> {
 fn told_registry_order(alloc: Global, order: &RegistryCommand<'_>) -> Result<String, AllocError> {
     match order {
         RegistryCommand::Define(text) => told_pattern(alloc, text),
+        RegistryCommand::Redefine(text) => told_redefined(alloc, text),
         RegistryCommand::Forget(name) => told_forget(alloc, name),
         RegistryCommand::Patterns => String::from_str(alloc, "patterns"),
         RegistryCommand::Check { name, width } => told_check(alloc, name, *width),
+        RegistryCommand::CheckAll => String::from_str(alloc, "check all"),
         RegistryCommand::Sample { name, width } => told_sample(alloc, name, *width),
     }
 }

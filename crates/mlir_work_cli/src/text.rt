@@ -106,6 +106,9 @@ To rewrite:
                              user patterns, which are tried at an operation in
                              this order
   rewrite RULES limit N      the same, at most N times
+  rewrite RULES proved       the same, but refused if no check proves one of the
+                             patterns for the module; `trace` and `limit` may
+                             follow
   canon only RULES           the same as `rewrite RULES`
   canon only RULES limit N   the same as `rewrite RULES limit N`
   canon trace                the same as `canon`, and print each rewrite, as
@@ -134,6 +137,8 @@ To rewrite:
 
 User patterns, which a rollback keeps (docs/PATTERNS.md):
   pattern PATTERN            define PATTERN, the rest of the line
+  pattern! PATTERN           the same, in place of the pattern of its name, if
+                             there is one
   check NAME                 try the pattern NAME for all values at all widths
                              from 1 to 8, or to the largest width at which its
                              variables have no more than 16 bits; for many right
@@ -143,6 +148,7 @@ User patterns, which a rollback keeps (docs/PATTERNS.md):
                              try only edge values and random values, at types of
                              W bits, of half as many and of a quarter; W is at
                              most 128
+  check all                  the same as `check NAME` for each pattern
   forget NAME                remove the pattern NAME
 
 Marks, at most 16 open at once:
@@ -198,18 +204,20 @@ with `trace` such a line for each. An `apply` has `1 applied 1`, or `1 applied
 right, as `1 holds 8`, or `1 holds` if it is right at every width; `1 empty 8`
 if it applies nowhere up to that width; `1 fails 2` if it is wrong there, and
 then the values, one a line; and `1 unrefuted 32` if no value that was tried
-refutes it. A refused command, as `1 refused 23 NotVisible`, changes nothing,
-and the next command runs. `1 refused 2 Unexpected at 4` has the byte at which
-the ATTRIBUTE, the OPERATION or the PATTERN is wrong, and `1 refused 51
-NotLegalised #3` the operation that a `convert` can't make legal. If a line
-expects a refusal and has another reply, `1 expected 22 HasUses` follows the
-reply.
+refutes it. A `check all` has the answer for the first pattern that is wrong, or
+`1 ok`, and a line for each pattern, as `checked half holds 8`. A refused
+command, as `1 refused 23 NotVisible`, changes nothing, and the next command
+runs. `1 refused 2 Unexpected at 4` has the byte at which the ATTRIBUTE, the
+OPERATION or the PATTERN is wrong, and `1 refused 51 NotLegalised #3` the
+operation that a `convert` can't make legal. If a line expects a refusal and has
+another reply, `1 expected 22 HasUses` follows the reply.
 
 An `apply` or a `rewrite` by patterns names below its reply, and above a trace,
 each pattern that no check proves for the module. A check has to answer `holds`,
 or `holds 8` if no value of the module has a type of more than 8 bits, or index.
 The line has what the last check answered, as `unproved half unrefuted 8`, or
-`unproved half unchecked`. With `--strict` such a line makes the status 1.
+`unproved half unchecked`. With `--strict` such a line makes the status 1. With
+`proved` a `rewrite` with such a line is refused (61 NotProved).
 
 With `--explain` a refusal ends with the operations and values that it is about,
 as `1 refused 22 HasUses about #3 #5`, or with the unsupported MLIR construct,

@@ -6,7 +6,7 @@ use Rattle.mlir_work_json.specs.Cuts.{trailing, after_second, cell, second}
 use Rattle.mlir_work_json.specs.Numbers.{number_of}
 use Rattle.mlir_work_json.specs.Replies.{says_width}
 use Rattle.mlir_work_json.specs.declared.form.LineKind.{LineKind}
-use Rattle.mlir_work_json.specs.declared.form.LineKind.TheVariants.{Reply, Heading, ModuleRefused, AttachRefused, Module, Use, Constant, Dead, Unreached, Diagnostic, Effect, Definition, Reference, Unresolved, Mismatch, Reason, NotLegalised, AppliedRule, AppliedPattern, Unproved, Pattern, Outcome, Other}
+use Rattle.mlir_work_json.specs.declared.form.LineKind.TheVariants.{Reply, Heading, ModuleRefused, AttachRefused, Module, Use, Constant, Dead, Unreached, Diagnostic, Effect, Definition, Reference, Unresolved, Mismatch, Reason, NotLegalised, AppliedRule, AppliedPattern, Unproved, Checked, Pattern, Outcome, Other}
 use Rattle.mlir_work_script_base.specs.Cuts.{before, after}
 use Rattle.mlir_work_script_base.specs.Values.{is_dot}
 
@@ -85,6 +85,15 @@ abbrev pub tells_unproved : List ℕ → Bool
 tells_unproved line =
     bytes_eq (cell line) (codes "unproved") && (is_verdict (cell (after_second line)) && not (has_arrow line))
 
+-- a check result, or the refusal of a check
+abbrev pub is_answer : List ℕ → Bool
+is_answer word = says_width word || bytes_eq word (codes "refused")
+
+-- the line of a checked pattern has the answer after the name
+abbrev pub tells_checked : List ℕ → Bool
+tells_checked line =
+    bytes_eq (cell line) (codes "checked") && (is_answer (cell (after_second line)) && not (has_arrow line))
+
 -- a row of `symbols` or a verdict on a rule: an operation follows the word
 abbrev pub symbol_form : List ℕ → LineKind
 symbol_form word =
@@ -112,6 +121,7 @@ word_form line =
     else if tells_rewrite line then AppliedRule
     else if tells_pattern line then AppliedPattern
     else if tells_unproved line then Unproved
+    else if tells_checked line then Checked
     else if is_outcome (second line) then Outcome
     else if has_arrow line then Pattern
     else refusal_form (cell line)

@@ -95,11 +95,18 @@ applied_members line =
 
 -- ---- reasons
 
--- `why #5 4 drop-zero second-not-zero`
+-- a rule with its verdict, `4 drop-zero second-not-zero`, or a pattern with its verdict, `mine applies`
+abbrev pub verdict_members : List ℕ → List Member
+verdict_members said =
+    if is_some (number_of (cell said))
+    then numeral (codes "rule") (cell said) ∷ text (codes "word") (second said)
+    ∷ text (codes "said") (after_second said) ∷ []
+    else text (codes "name") (cell said) ∷ text (codes "said") (trailing said) ∷ []
+
+-- `why #5 4 drop-zero second-not-zero`, `why #5 mine applies`
 abbrev pub reason_members : List ℕ → List Member
 reason_members line =
-    kind (codes "why") ∷ text (codes "op") (second line) ∷ numeral (codes "rule") (cell (after_second line))
-    ∷ text (codes "word") (second (after_second line)) ∷ text (codes "said") (after_second (after_second line)) ∷ []
+    kind (codes "why") ∷ text (codes "op") (second line) ∷ verdict_members (after_second line)
 
 -- the rule that was tried last with its failure, `27 expand-remainder makes-illegal`, or `no-rule`
 abbrev pub stay_members : List ℕ → List Member
@@ -126,6 +133,10 @@ said_members said =
 -- `unproved mask holds 8`, `unproved mask unchecked`
 abbrev pub unproved_members : List ℕ → List Member
 unproved_members line = kind (codes "unproved") ∷ text (codes "name") (second line) ∷ said_members (after_second line)
+
+-- `checked mask holds 8`, `checked mask refused 50 BadLimit`
+abbrev pub checked_members : List ℕ → List Member
+checked_members line = kind (codes "checked") ∷ text (codes "name") (second line) ∷ said_members (after_second line)
 
 -- a pattern contains no slash, and a blank precedes the comment
 abbrev pub is_slash : ℕ → Bool

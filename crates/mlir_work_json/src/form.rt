@@ -2,7 +2,7 @@
 ghost use Rattle.std.specs.Prelude.{◌≡◌};
 ghost use Rattle.mlir_work_json.specs.Forms.{are_three, are_two, begins_module, begins_number, begins_op, form_of};
 ghost use Rattle.mlir_work_json.specs.Forms.{has_arrow, is_number, is_outcome, is_verdict, named_form, names_value, op_form};
-ghost use Rattle.mlir_work_json.specs.Forms.{refusal_form, symbol_form, tells_pattern, tells_rewrite, tells_unproved, value_form};
+ghost use Rattle.mlir_work_json.specs.Forms.{is_answer, refusal_form, symbol_form, tells_checked, tells_pattern, tells_rewrite, tells_unproved, value_form};
 ghost use Rattle.mlir_work_json.specs.Forms.{word_form};
 
 use crate::cuts::{after_cell, cut_cell, has_byte};
@@ -53,6 +53,8 @@ pub enum LineKind {
     AppliedPattern,
     /// A pattern by which a command rewrites and which no check proves for the module.
     Unproved,
+    /// A pattern that a command checked.
+    Checked,
     /// A pattern with the result of its last check.
     Pattern,
     /// A row of a check: a variable or a result, with its value.
@@ -206,6 +208,22 @@ fn tells_unproved(line: &[u8]) -> bool
     word == b"unproved".as_slice() && is_verdict(cut_cell(said).0) && !has_arrow(line)
 }
 
+/// Returns whether a word is a check result, or says that a check was refused.
+fn is_answer(word: &[u8]) -> bool
+    ensures { result ≡ is_answer word.now }
+{
+    says_width(word) || word == b"refused".as_slice()
+}
+
+/// Returns whether a line names a pattern that a command checked.
+fn tells_checked(line: &[u8]) -> bool
+    ensures { result ≡ tells_checked line.now }
+{
+    let (word, trailing) = cut_cell(line);
+    let said = after_cell(trailing);
+    word == b"checked".as_slice() && is_answer(cut_cell(said).0) && !has_arrow(line)
+}
+
 /// Returns the kind of a row that begins with this word, followed by an operation.
 fn symbol_form(word: &[u8]) -> LineKind
     ensures { result ≡ symbol_form word.now }
@@ -263,6 +281,9 @@ fn word_form(line: &[u8]) -> LineKind
     }
     if tells_unproved(line) {
         return LineKind::Unproved;
+    }
+    if tells_checked(line) {
+        return LineKind::Checked;
     }
     if is_outcome(cut_cell(trailing).0) {
         return LineKind::Outcome;

@@ -4,7 +4,7 @@ ghost use Rattle.mlir_work_json.specs.Rows.{use_members, constant_members, dead_
 ghost use Rattle.mlir_work_json.specs.Rows.{diagnostic_members, effect_members, definition_members, reference_members};
 ghost use Rattle.mlir_work_json.specs.Rows.{unresolved_members, mismatch_members, said_members, pattern_members};
 ghost use Rattle.mlir_work_json.specs.Rows.{applied_members, change_members, erased_members, outcome_members, reason_members, rewritten_members};
-ghost use Rattle.mlir_work_json.specs.Rows.{stay_members, stayed_members, unproved_members};
+ghost use Rattle.mlir_work_json.specs.Rows.{checked_members, stay_members, stayed_members, unproved_members, verdict_members};
 
 use crate::cuts::{BLANK, after_cell, cut_cell, without_last};
 use crate::members::{Object, set_number, set_parts, set_text};
@@ -207,19 +207,31 @@ pub(crate) fn set_applied(object: &mut Object, alloc: Global, line: &[u8]) -> Re
     set_change(object, alloc, rest)
 }
 
-/// Sets the members of a verdict on a rule: `why #5 4 drop-zero second-not-zero`.
+/// Sets the members of a rule with its verdict, `4 drop-zero second-not-zero`, or of a pattern with its verdict, `mine
+/// applies`.
+fn set_verdict(object: &mut Object, alloc: Global, said: &[u8]) -> Result<(), AllocError>
+    ensures { Puts result object.old object.new (verdict_members said.now) }
+{
+    let (name, rest) = cut_cell(said);
+    if parse_number(name).is_none() {
+        set_text(object, alloc, "name", name)?;
+        return set_text(object, alloc, "said", rest);
+    }
+    let (word, why) = cut_cell(rest);
+    set_number(object, alloc, "rule", name)?;
+    set_text(object, alloc, "word", word)?;
+    set_text(object, alloc, "said", why)
+}
+
+/// Sets the members of a verdict: `why #5 4 drop-zero second-not-zero`, `why #5 mine applies`.
 pub(crate) fn set_reason(object: &mut Object, alloc: Global, line: &[u8]) -> Result<(), AllocError>
     ensures { Puts result object.old object.new (reason_members line.now) }
 {
     let (_, rest) = cut_cell(line);
     let (op, rest) = cut_cell(rest);
-    let (rule, rest) = cut_cell(rest);
-    let (word, said) = cut_cell(rest);
     set_text(object, alloc, "kind", b"why")?;
     set_text(object, alloc, "op", op)?;
-    set_number(object, alloc, "rule", rule)?;
-    set_text(object, alloc, "word", word)?;
-    set_text(object, alloc, "said", said)
+    set_verdict(object, alloc, rest)
 }
 
 /// Sets the members for the rule that was tried last and its failure, `27 expand-remainder makes-illegal`, or for
@@ -276,6 +288,17 @@ pub(crate) fn set_unproved(
     let (_, rest) = cut_cell(line);
     let (name, said) = cut_cell(rest);
     set_text(object, alloc, "kind", b"unproved")?;
+    set_text(object, alloc, "name", name)?;
+    set_said(object, alloc, said)
+}
+
+/// Sets the members of the line of a checked pattern: `checked mask holds 8`, `checked mask refused 50 BadLimit`.
+pub(crate) fn set_checked(object: &mut Object, alloc: Global, line: &[u8]) -> Result<(), AllocError>
+    ensures { Puts result object.old object.new (checked_members line.now) }
+{
+    let (_, rest) = cut_cell(line);
+    let (name, said) = cut_cell(rest);
+    set_text(object, alloc, "kind", b"checked")?;
     set_text(object, alloc, "name", name)?;
     set_said(object, alloc, said)
 }

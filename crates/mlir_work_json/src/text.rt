@@ -11,9 +11,9 @@ use crate::form::{LineKind, form_of};
 use crate::members::{Object, set_text};
 use crate::replies::{add_attach_refused, add_module_refused, set_heading, set_reply};
 use crate::rows::{
-    add_not_legalised, set_applied, set_constant, set_dead, set_definition, set_diagnostic,
-    set_effect, set_mismatch, set_outcome, set_pattern, set_reason, set_reference, set_rewritten,
-    set_unproved, set_unreached, set_unresolved, set_use,
+    add_not_legalised, set_applied, set_checked, set_constant, set_dead, set_definition,
+    set_diagnostic, set_effect, set_mismatch, set_outcome, set_pattern, set_reason, set_reference,
+    set_rewritten, set_unproved, set_unreached, set_unresolved, set_use,
 };
 use mlir_work_script_base::cuts::cut_at;
 use serde_json::{Map, Value};
@@ -49,6 +49,7 @@ fn set_form(
         LineKind::AppliedRule => set_rewritten(object, alloc, line),
         LineKind::AppliedPattern => set_applied(object, alloc, line),
         LineKind::Unproved => set_unproved(object, alloc, line),
+        LineKind::Checked => set_checked(object, alloc, line),
         LineKind::Pattern => set_pattern(object, alloc, line),
         LineKind::Outcome => set_outcome(object, alloc, line),
         LineKind::Other => set_text(object, alloc, "text", line),

@@ -1,1 +1,4 @@
 pub mod Bounds
+pub mod Reaching
+pub mod Redefining
+pub mod CheckingAll

@@ -2,7 +2,11 @@ pub mod Replies
 pub mod Notices
 pub mod Told
 pub mod Explained
+pub mod CheckedRows
+pub mod Redefined
 pub mod Registries
+pub mod Changing
+pub mod Verdicts
 pub use Rattle.user_patterns_registry.specs.Registry
 pub use Rattle.user_patterns_registry.specs.declared.registry.PatternRegistry
 pub use Rattle.user_patterns_registry.specs.declared.check_result.CheckSummary

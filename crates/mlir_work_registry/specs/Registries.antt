@@ -1,11 +1,11 @@
 -- The effect of a registry command on the pattern registry, and its response.
-use Rattle.std.specs.Prelude.{◌≡◌, ℕ, ◌-◌, List, [], ◌⊎◌, length, Option, Some, None, Ok, Err, if◌then◌else◌}
+use Rattle.std.specs.Prelude.{◌≡◌, ℕ, ◌-◌, List, [], ◌∷◌, ◌++◌, ◌⊎◌, codes, length, Option, Some, None, Ok, Err, if◌then◌else◌}
 use Rattle.ir_event.specs.types.declared.refusal.Refusal.{Refusal}
 use Rattle.ir_event.specs.types.declared.refusal.Refusal.TheVariants.{BadLimit, Memory, NoSuchKey}
 use Rattle.ir_text_tokens.specs.Refusals.{refusal_of}
 use Rattle.rewriter_machine.specs.Commands.{Replied, TextRefusedAt}
 use Rattle.rewriter_machine.specs.Machine.{Done, Refused}
-use Rattle.mlir_work_script.specs.RegistryCommands.{RegistryCommand, Define, Forget, Patterns, Check, Sample}
+use Rattle.mlir_work_script.specs.RegistryCommands.{RegistryCommand, Define, Redefine, Forget, Patterns, Check, CheckAll, Sample}
 use Rattle.user_patterns_text.specs.Refusing.{Outcome}
 use Rattle.user_patterns_widths.specs.Passing.{is_passing}
 use Rattle.user_patterns_registry.specs.CheckResult.{IsCheckResult, IsUntried, requested_width, said_of}
@@ -16,7 +16,9 @@ use Rattle.user_patterns_registry.specs.declared.check_result.CheckResult.TheVar
 use Rattle.user_patterns_registry.specs.declared.check_result.CheckSummary.{CheckSummary}
 use Rattle.user_patterns_registry.specs.declared.check_result.CheckSummary.TheVariants as said
 use Rattle.user_patterns_registry.specs.Registry.{RegistryModel, Kept, defined, forgotten, found, listing_text, noted}
+use Rattle.mlir_work_registry.specs.CheckedRows.{answer_text, checked_row, first_failure}
 use Rattle.mlir_work_registry.specs.Notices.{Notice, Plain, Checked}
+use Rattle.mlir_work_registry.specs.Redefined.{redefined}
 
 -- the command is refused and the registry doesn't change
 abbrev pub IsRefused : Refusal → RegistryModel → Notice → List ℕ → RegistryModel → Type 0
@@ -75,6 +77,29 @@ Checks (Some k) name requested b notice bytes c =
     IsNoted (IsChecked k requested) name b notice bytes c
     ⊎ (IsUntried k.shape (requested_width k.shape requested) × IsRefused BadLimit b notice bytes c)
 
+-- the first pattern is checked and recorded, as by its name alone, and then the others; the answer is that of the first
+-- check that found a counterexample
+pub record ChecksFirst (Others : RegistryModel → Notice → List ℕ → RegistryModel → Type 0) (name : List ℕ) (b : RegistryModel) (notice : Notice) (bytes : List ℕ) (c : RegistryModel) : Type 0 where
+  pub one : Notice
+  pub rows : List ℕ
+  pub mid : RegistryModel
+  pub others : Notice
+  pub more : List ℕ
+  pub first : Checks (found name b) name None b one rows mid
+  pub goes_on : Others mid others more c
+  pub notice_is : notice ≡ first_failure one others
+  pub bytes_are : bytes ≡ (checked_row name (answer_text one) ++ rows) ++ more
+
+-- each of these patterns is checked in order, and the summaries are recorded one after the other
+abbrev pub ChecksEach : List Kept → RegistryModel → Notice → List ℕ → RegistryModel → Type 0
+ChecksEach [] b notice bytes c = (notice ≡ Plain (Replied Done)) × (bytes ≡ []) × (c ≡ b)
+ChecksEach (k ∷ ks) b notice bytes c = ChecksFirst (ChecksEach ks) k.name b notice bytes c
+
+-- `check all`: if a pattern has this name, it is checked alone
+abbrev pub ChecksAll : Option Kept → RegistryModel → Notice → List ℕ → RegistryModel → Type 0
+ChecksAll None b notice bytes c = ChecksEach b b notice bytes c
+ChecksAll (Some k) b notice bytes c = Checks (Some k) (codes "all") None b notice bytes c
+
 -- the same for a test with samples
 abbrev pub Samples : Option Kept → List ℕ → ℕ → RegistryModel → Notice → List ℕ → RegistryModel → Type 0
 Samples None name w b notice bytes c = IsRefused NoSuchKey b notice bytes c
@@ -84,9 +109,11 @@ Samples (Some k) name w b notice bytes c =
 -- the effect of a registry command if memory doesn't run out
 abbrev pub IsShelved : RegistryCommand → RegistryModel → Notice → List ℕ → RegistryModel → Type 0
 IsShelved (Define text) b notice bytes c = IsDefined (defined b text) text b notice bytes c
+IsShelved (Redefine text) b notice bytes c = IsDefined (redefined b text) text b notice bytes c
 IsShelved (Forget name) b notice bytes c = Forgets (found name b) name b notice bytes c
 IsShelved Patterns b notice bytes c = (notice ≡ Plain (Replied Done)) × (bytes ≡ listing_text b) × (c ≡ b)
 IsShelved (Check name requested) b notice bytes c = Checks (found name b) name requested b notice bytes c
+IsShelved CheckAll b notice bytes c = ChecksAll (found (codes "all") b) b notice bytes c
 IsShelved (Sample name w) b notice bytes c = Samples (found name b) name w b notice bytes c
 
 -- with registry `b`, a registry command may get this response, with these bytes below it, and lead to registry `c`

@@ -4,7 +4,7 @@ ghost use Rattle.ir_event.specs.types.declared.refusal.Refusal.TheVariants.{Memo
 ghost use Rattle.ir_text_tokens.specs.Refusals.{refusal_of};
 ghost use Rattle.rewriter_machine.specs.Commands.{Replied, TextRefusedAt};
 ghost use Rattle.rewriter_machine.specs.Machine.{Refused};
-ghost use Rattle.mlir_work_script.specs.RegistryCommands.{Check, Define, Forget, Patterns, Sample, registry_order_of};
+ghost use Rattle.mlir_work_script.specs.RegistryCommands.{Check, Define, Forget, Patterns, Redefine, Sample, registry_order_of};
 ghost use Rattle.user_patterns_registry.specs.CheckResult.{IsRefused, requested_width};
 ghost use Rattle.user_patterns_registry.specs.Sampled.{IsNotSampled};
 ghost use Rattle.user_patterns_registry.specs.Registry.{registry_model, kept_view, noted};
@@ -12,6 +12,8 @@ ghost use Rattle.mlir_work_registry.specs.Notices.{Checked, IsWithin, Plain, not
 ghost use Rattle.mlir_work_registry.specs.Replies.{IsBounded, response_of};
 ghost use Rattle.mlir_work_registry.specs.Registries.{IsChecked, IsSampledAs, Registries, judgement_rows, said_for};
 
+use crate::check_all::check_all;
+use crate::redefine::redefine as redefine_in;
 use crate::reply::Reply;
 use crate::response::{Response, ShownResponse, replied};
 use ir_event::types::refusal::Refusal;
@@ -48,6 +50,19 @@ fn define(alloc: Global, bytes: usize, registry: &mut PatternRegistry, text: &[u
     ensures bounded { IsBounded bytes (response_of result) }
 {
     match define_in(alloc, registry, text) {
+        Ok(()) => Reply::Done,
+        Err(PatternError::Memory) => Reply::Refused(Refusal::Memory),
+        Err(PatternError::Refused(fault)) => refused_at(bytes, text, &fault),
+    }
+}
+
+/// Defines the pattern of a text, in place of the one of its name if there is one. A refused definition doesn't change
+/// the registry.
+fn redefine(alloc: Global, bytes: usize, registry: &mut PatternRegistry, text: &[u8]) -> Reply
+    ensures registries { Registries (Redefine text.now) (registry_model registry.old) (Plain (response_of result)) [] (registry_model registry.new) }
+    ensures bounded { IsBounded bytes (response_of result) }
+{
+    match redefine_in(alloc, registry, text) {
         Ok(()) => Reply::Done,
         Err(PatternError::Memory) => Reply::Refused(Refusal::Memory),
         Err(PatternError::Refused(fault)) => refused_at(bytes, text, &fault),
@@ -127,7 +142,7 @@ fn said_for(held: &RegisteredPattern, judgement: &CheckResult) -> CheckSummary
 }
 
 /// Checks a pattern and returns the summary and its rows.
-fn checked(
+pub(crate) fn checked(
     alloc: Global,
     held: &RegisteredPattern,
     width: Option<u32>,
@@ -164,7 +179,7 @@ fn record_summary(
 }
 
 /// Checks a named pattern and records the summary.
-fn check(
+pub(crate) fn check(
     alloc: Global,
     registry: &mut PatternRegistry,
     name: &[u8],
@@ -234,9 +249,11 @@ pub fn run_registry_command(
 {
     match registry_command {
         RegistryCommand::Define(text) => replied(alloc, define(alloc, bytes, registry, text)),
+        RegistryCommand::Redefine(text) => replied(alloc, redefine(alloc, bytes, registry, text)),
         RegistryCommand::Forget(name) => replied(alloc, forget(registry, name)),
         RegistryCommand::Patterns => patterns(alloc, registry),
         RegistryCommand::Check { name, width } => check(alloc, registry, name, *width),
+        RegistryCommand::CheckAll => check_all(alloc, registry),
         RegistryCommand::Sample { name, width } => sample_named(alloc, registry, name, *width),
     }
 }

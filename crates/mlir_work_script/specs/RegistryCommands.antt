@@ -11,21 +11,27 @@ use Rattle.mlir_work_script.specs.declared.registry_command.RegistryCommand.TheV
 pub data RegistryCommand : Type 0 where
   -- defines the pattern of a text
   Define : List ℕ → RegistryCommand
+  -- defines the pattern of a text, in place of the one of its name
+  Redefine : List ℕ → RegistryCommand
   -- removes a pattern
   Forget : List ℕ → RegistryCommand
   -- lists all patterns
   Patterns : RegistryCommand
   -- checks a pattern up to a maximum width, or up to the default width
   Check : List ℕ → Option ℕ → RegistryCommand
+  -- checks each pattern in order, or the pattern named `all` alone
+  CheckAll : RegistryCommand
   -- tests a pattern at one width with edge values and random values
   Sample : List ℕ → ℕ → RegistryCommand
 
 -- the model of a registry command, read from memory
 abbrev pub registry_order_of : Coded → RegistryCommand
 registry_order_of (code.Define text) = Define text.now
+registry_order_of (code.Redefine text) = Redefine text.now
 registry_order_of (code.Forget name) = Forget name.now
 registry_order_of code.Patterns = Patterns
 registry_order_of (code.Check name width) = Check name.now width
+registry_order_of code.CheckAll = CheckAll
 registry_order_of (code.Sample name width) = Sample name.now width
 
 -- the command, if nothing is left
@@ -35,6 +41,10 @@ all_told rest session_command = if length rest == 0 then session_command else No
 -- pattern TEXT; the text is the rest of the line
 abbrev pub define_in : List ℕ → Option RegistryCommand
 define_in rest = if length rest == 0 then None else Some (Define rest)
+
+-- pattern! TEXT
+abbrev pub redefine_in : List ℕ → Option RegistryCommand
+redefine_in rest = if length rest == 0 then None else Some (Redefine rest)
 
 -- patterns
 abbrev pub patterns_in : List ℕ → Option RegistryCommand
@@ -63,11 +73,15 @@ width_in name text =
     then option_and_then (tried_in name (after_word (after_word text))) (number_of (word_of (after_word text)))
     else None
 
+-- check NAME; `check all` checks each pattern
+abbrev pub unsized_check : List ℕ → RegistryCommand
+unsized_check name = if bytes_eq name (codes "all") then CheckAll else Check name None
+
 -- the text after a name: nothing, or a width
 abbrev pub checked_in : List ℕ → List ℕ → Option RegistryCommand
-checked_in name rest = if length rest == 0 then Some (Check name None) else width_in name rest
+checked_in name rest = if length rest == 0 then Some (unsized_check name) else width_in name rest
 
--- check NAME [width W [sampled]]
+-- check NAME [width W [sampled]], and check all
 abbrev pub check_in : List ℕ → Option RegistryCommand
 check_in rest = if is_name (word_of rest) then checked_in (word_of rest) (after_word rest) else None
 
@@ -75,6 +89,7 @@ check_in rest = if is_name (word_of rest) then checked_in (word_of rest) (after_
 abbrev pub registry_order_named : List ℕ → List ℕ → Option RegistryCommand
 registry_order_named name rest =
     if bytes_eq name (codes "pattern") then define_in rest
+    else if bytes_eq name (codes "pattern!") then redefine_in rest
     else if bytes_eq name (codes "forget") then forget_in rest
     else if bytes_eq name (codes "patterns") then patterns_in rest
     else if bytes_eq name (codes "check") then check_in rest

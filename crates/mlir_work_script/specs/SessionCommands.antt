@@ -1,5 +1,5 @@
 -- The grammar of session commands: the commands that need more than the rewriter.
-use Rattle.std.specs.Prelude.{ℕ, Bool, List, ◌==◌, Option, Some, None, if◌then◌else◌, codes, length, option_and_then}
+use Rattle.std.specs.Prelude.{ℕ, Bool, true, false, List, ◌==◌, Option, Some, None, if◌then◌else◌, codes, length, option_and_then}
 use Rattle.std.specs.Option.{option_copied, option_map}
 use Rattle.std.specs.Str.{bytes_eq}
 use Rattle.rewriter_machine.specs.Commands.{RuleName, Target}
@@ -24,9 +24,10 @@ pub data SessionCommand : Type 0 where
   -- shows the report rows of a kind about an operation or a value
   ReportOf : ℕ → Subject → SessionCommand
   -- applies the named rules, in this order at each operation, until none applies or the limit is reached
-  Rewrite : List RuleName → Option ℕ → SessionCommand
+  -- the flag says that the command is refused if no check proves one of the patterns for the module
+  Rewrite : List RuleName → Bool → Option ℕ → SessionCommand
   -- the same with a trace; without names, the canonicalization rules are applied
-  Trace : Option (List RuleName) → Option ℕ → SessionCommand
+  Trace : Option (List RuleName) → Bool → Option ℕ → SessionCommand
   -- converts to a target with a trace of each applied rule, or the reason why an operation stays illegal
   TraceConvert : Target → SessionCommand
   -- applies the canonicalization rules at one operation until none applies there
@@ -39,8 +40,8 @@ abbrev pub order_of : Coded → SessionCommand
 order_of (code.Attach kind) = Attach kind
 order_of code.PrintIds = PrintIds
 order_of (code.ReportAbout kind subject) = ReportOf kind subject
-order_of (code.Rewrite rules limit) = Rewrite (names_of rules.now) limit
-order_of (code.Trace rules limit) = Trace (option_map names_of (option_copied rules)) limit
+order_of (code.Rewrite rules proved limit) = Rewrite (names_of rules.now) proved limit
+order_of (code.Trace rules proved limit) = Trace (option_map names_of (option_copied rules)) proved limit
 order_of (code.TraceConvert full clauses) = TraceConvert (target_of full (clauses_of clauses))
 order_of (code.CanonAt op limit) = CanonAt op limit
 order_of (code.Why op rule) = Why op (option_map name_of rule)
@@ -85,16 +86,22 @@ abbrev pub limit_in : List ℕ → Option (Option ℕ)
 limit_in text = if length text == 0 then Some None else limited_in text
 
 -- [limit N] after trace
-abbrev pub trace_in : Option (List RuleName) → List ℕ → Option SessionCommand
-trace_in rules rest = option_map (λ limit. Trace rules limit) (limit_in rest)
+abbrev pub trace_in : Option (List RuleName) → Bool → List ℕ → Option SessionCommand
+trace_in rules proved rest = option_map (λ limit. Trace rules proved limit) (limit_in rest)
 
--- [trace] [limit N] after a rule list
+-- [trace] [limit N] after a rule list and `proved`
+abbrev pub maybe_traced_in : List RuleName → Bool → List ℕ → Option SessionCommand
+maybe_traced_in rules proved rest =
+    if bytes_eq (word_of rest) (codes "trace") then trace_in (Some rules) proved (after_word rest)
+    else option_map (λ limit. Rewrite rules proved limit) (limit_in rest)
+
+-- [proved] [trace] [limit N] after a rule list
 abbrev pub ruled_in : List RuleName → List ℕ → Option SessionCommand
 ruled_in rules rest =
-    if bytes_eq (word_of rest) (codes "trace") then trace_in (Some rules) (after_word rest)
-    else option_map (λ limit. Rewrite rules limit) (limit_in rest)
+    if bytes_eq (word_of rest) (codes "proved") then maybe_traced_in rules true (after_word rest)
+    else maybe_traced_in rules false rest
 
--- rewrite RULES [trace] [limit N]
+-- rewrite RULES [proved] [trace] [limit N]
 abbrev pub rewrite_in : List ℕ → Option SessionCommand
 rewrite_in rest = if are_items (word_of rest) then ruled_in (names_of (word_of rest)) (after_word rest) else None
 
@@ -114,11 +121,11 @@ abbrev pub why_in : List ℕ → Option SessionCommand
 why_in rest = option_and_then
     (λ op. option_map (λ rule. Why op rule) (rule_or_none (after_word rest))) (op_of (word_of rest))
 
--- canon only RULES [trace] [limit N], canon trace [limit N], and canon at #N [limit N]
+-- canon only RULES [proved] [trace] [limit N], canon trace [limit N], and canon at #N [limit N]
 abbrev pub canon_order_in : List ℕ → Option SessionCommand
 canon_order_in rest =
     if bytes_eq (word_of rest) (codes "only") then rewrite_in (after_word rest)
-    else if bytes_eq (word_of rest) (codes "trace") then trace_in None (after_word rest)
+    else if bytes_eq (word_of rest) (codes "trace") then trace_in None false (after_word rest)
     else if bytes_eq (word_of rest) (codes "at") then at_in (after_word rest)
     else None
 

@@ -1,7 +1,7 @@
 //! Parses the commands on the pattern registry of a session.
 ghost use Rattle.std.specs.Prelude.{◌≡◌, option_map};
 ghost use Rattle.mlir_work_script.specs.RegistryCommands.{registry_order_in, registry_order_named, registry_order_of, check_in, checked_in};
-ghost use Rattle.mlir_work_script.specs.RegistryCommands.{define_in, forget_in, is_name, patterns_in, tried_in, width_in};
+ghost use Rattle.mlir_work_script.specs.RegistryCommands.{define_in, forget_in, is_name, patterns_in, redefine_in, tried_in, unsized_check, width_in};
 
 use mlir_work_script_base::numbers::parse_number;
 use mlir_work_script_base::words::split_word;
@@ -11,6 +11,8 @@ use mlir_work_script_base::words::split_word;
 pub enum RegistryCommand<'a> {
     /// `pattern NAME LEFT => RIGHT` defines a user pattern.
     Define(&'a [u8]),
+    /// `pattern! NAME LEFT => RIGHT` defines a user pattern, in place of the one of this name if there is one.
+    Redefine(&'a [u8]),
     /// `forget NAME` removes a pattern, with the result of its last check.
     Forget(&'a [u8]),
     /// `patterns` lists each pattern with the result of its last check.
@@ -22,6 +24,8 @@ pub enum RegistryCommand<'a> {
         /// The maximum width, if the line gives one.
         width: Option<u32>,
     },
+    /// `check all` checks each pattern in order. It checks the pattern named `all` alone if there is one.
+    CheckAll,
     /// `check NAME width W sampled` tests a pattern with edge values and random values at one width.
     Sample {
         /// The name, which may be unknown.
@@ -39,6 +43,16 @@ fn define(rest: &[u8]) -> Option<RegistryCommand<'_>>
         return None;
     }
     Some(RegistryCommand::Define(rest))
+}
+
+/// Parses the argument of `pattern! TEXT`.
+fn redefine(rest: &[u8]) -> Option<RegistryCommand<'_>>
+    ensures { option_map registry_order_of result ≡ redefine_in rest.now }
+{
+    if rest.is_empty() {
+        return None;
+    }
+    Some(RegistryCommand::Redefine(rest))
 }
 
 /// Parses `patterns`, which has no arguments.
@@ -102,17 +116,27 @@ fn width<'a>(name: &'a [u8], text: &[u8]) -> Option<RegistryCommand<'a>>
     parse_try(name, left, width)
 }
 
+/// Returns the command of `check NAME`. `check all` checks each pattern.
+fn unsized_check(name: &[u8]) -> RegistryCommand<'_>
+    ensures { registry_order_of result ≡ unsized_check name.now }
+{
+    if name == b"all".as_slice() {
+        return RegistryCommand::CheckAll;
+    }
+    RegistryCommand::Check { name, width: None }
+}
+
 /// Parses the text after a name: nothing, or `width W [sampled]`.
 fn checked<'a>(name: &'a [u8], rest: &[u8]) -> Option<RegistryCommand<'a>>
     ensures { option_map registry_order_of result ≡ checked_in name.now rest.now }
 {
     if rest.is_empty() {
-        return Some(RegistryCommand::Check { name, width: None });
+        return Some(unsized_check(name));
     }
     width(name, rest)
 }
 
-/// Parses the arguments of `check NAME [width W [sampled]]`.
+/// Parses the arguments of `check NAME [width W [sampled]]` and `check all`.
 fn check(rest: &[u8]) -> Option<RegistryCommand<'_>>
     ensures { option_map registry_order_of result ≡ check_in rest.now }
 {
@@ -129,6 +153,9 @@ fn registry_order_named<'a>(name: &[u8], rest: &'a [u8]) -> Option<RegistryComma
 {
     if name == b"pattern".as_slice() {
         return define(rest);
+    }
+    if name == b"pattern!".as_slice() {
+        return redefine(rest);
     }
     if name == b"forget".as_slice() {
         return forget(rest);

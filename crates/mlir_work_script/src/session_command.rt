@@ -1,6 +1,6 @@
 //! Parses session commands: the commands that need more than the rewriter.
-ghost use Rattle.std.specs.Prelude.{◌≡◌, None, Some, option_map};
-ghost use Rattle.mlir_work_script.specs.SessionCommands.{attach_in, canon_order_in, ids_in, limit_in, order_in, order_named};
+ghost use Rattle.std.specs.Prelude.{◌≡◌, None, Some, false, option_map};
+ghost use Rattle.mlir_work_script.specs.SessionCommands.{attach_in, canon_order_in, ids_in, limit_in, maybe_traced_in, order_in, order_named};
 ghost use Rattle.mlir_work_script.specs.SessionCommands.{convert_order_in, convert_trace_in};
 ghost use Rattle.mlir_work_script.specs.SessionCommands.{at_in, order_of, Rewrite, rewrite_in, rule_or_none, ruled_in, trace_in, why_in, report_in};
 ghost use Rattle.mlir_work_script.specs.RuleLists.{names_of};
@@ -30,18 +30,22 @@ pub enum SessionCommand<'a> {
         /// The operation or value.
         subject: Subject,
     },
-    /// `rewrite RULES [limit N]` and `canon only RULES [limit N]` apply the named rules until none applies or the
-    /// limit is reached.
+    /// `rewrite RULES [proved] [limit N]` and `canon only RULES [proved] [limit N]` apply the named rules until none
+    /// applies or the limit is reached.
     Rewrite {
         /// The rules in the order in which they are tried at an operation, as `1-3,7,mine` or `canon`.
         rules: &'a [u8],
+        /// Whether the command is refused if no check proves one of the patterns for the module.
+        proved: bool,
         /// The rewrite limit, if the line gives one.
         limit: Option<u32>,
     },
-    /// `canon trace [limit N]` and `rewrite RULES trace [limit N]` also trace each rewrite.
+    /// `canon trace [limit N]` and `rewrite RULES [proved] trace [limit N]` also trace each rewrite.
     Trace {
         /// The rules, if the line names rules.
         rules: Option<&'a [u8]>,
+        /// Whether the command is refused if no check proves one of the patterns for the module.
+        proved: bool,
         /// The rewrite limit, if the line gives one.
         limit: Option<u32>,
     },
@@ -129,43 +133,63 @@ fn limit(text: &[u8]) -> Option<Option<u32>>
 
 /// Parses `[limit N]` after `trace`.
 fn trace<'a>(rest: &[u8]) -> Option<SessionCommand<'a>>
-    ensures { option_map order_of result ≡ trace_in None rest.now }
+    ensures { option_map order_of result ≡ trace_in None false rest.now }
 {
     let limit = limit(rest)?;
-    Some(SessionCommand::Trace { rules: None, limit })
+    Some(SessionCommand::Trace {
+        rules: None,
+        proved: false,
+        limit,
+    })
 }
 
 /// Parses `[limit N]` after a rule list and `trace`.
-fn traced<'a>(rules: &'a [u8], rest: &[u8]) -> Option<SessionCommand<'a>>
-    ensures { option_map order_of result ≡ trace_in (Some (names_of rules.now)) rest.now }
+fn traced<'a>(rules: &'a [u8], proved: bool, rest: &[u8]) -> Option<SessionCommand<'a>>
+    ensures { option_map order_of result ≡ trace_in (Some (names_of rules.now)) proved rest.now }
 {
     let limit = limit(rest)?;
     Some(SessionCommand::Trace {
         rules: Some(rules),
+        proved,
         limit,
     })
 }
 
 /// Parses `[limit N]` after a rule list.
-fn untraced<'a>(rules: &'a [u8], rest: &[u8]) -> Option<SessionCommand<'a>>
-    ensures { option_map order_of result ≡ option_map (λ limit. Rewrite (names_of rules.now) limit) (limit_in rest.now) }
+fn untraced<'a>(rules: &'a [u8], proved: bool, rest: &[u8]) -> Option<SessionCommand<'a>>
+    ensures { option_map order_of result ≡ option_map (λ limit. Rewrite (names_of rules.now) proved limit) (limit_in rest.now) }
 {
     let limit = limit(rest)?;
-    Some(SessionCommand::Rewrite { rules, limit })
+    Some(SessionCommand::Rewrite {
+        rules,
+        proved,
+        limit,
+    })
 }
 
-/// Parses `[trace] [limit N]` after a rule list.
+/// Parses `[trace] [limit N]` after a rule list and `[proved]`.
+fn maybe_traced<'a>(rules: &'a [u8], proved: bool, rest: &[u8]) -> Option<SessionCommand<'a>>
+    ensures { option_map order_of result ≡ maybe_traced_in (names_of rules.now) proved rest.now }
+{
+    let (name, trailing) = split_word(rest);
+    if name == b"trace".as_slice() {
+        return traced(rules, proved, trailing);
+    }
+    untraced(rules, proved, rest)
+}
+
+/// Parses `[proved] [trace] [limit N]` after a rule list.
 fn ruled<'a>(rules: &'a [u8], rest: &[u8]) -> Option<SessionCommand<'a>>
     ensures { option_map order_of result ≡ ruled_in (names_of rules.now) rest.now }
 {
     let (name, trailing) = split_word(rest);
-    if name == b"trace".as_slice() {
-        return traced(rules, trailing);
+    if name == b"proved".as_slice() {
+        return maybe_traced(rules, true, trailing);
     }
-    untraced(rules, rest)
+    maybe_traced(rules, false, rest)
 }
 
-/// Parses the arguments of `rewrite RULES [trace] [limit N]`.
+/// Parses the arguments of `rewrite RULES [proved] [trace] [limit N]`.
 fn rewrite(rest: &[u8]) -> Option<SessionCommand<'_>>
     ensures { option_map order_of result ≡ rewrite_in rest.now }
 {
@@ -211,7 +235,8 @@ fn why(rest: &[u8]) -> Option<SessionCommand<'_>>
     Some(SessionCommand::Why { op, rule })
 }
 
-/// Parses the arguments of `canon only RULES [trace] [limit N]`, `canon trace [limit N]` and `canon at #N [limit N]`.
+/// Parses the arguments of `canon only RULES [proved] [trace] [limit N]`, `canon trace [limit N]` and
+/// `canon at #N [limit N]`.
 fn canon(rest: &[u8]) -> Option<SessionCommand<'_>>
     ensures { option_map order_of result ≡ canon_order_in rest.now }
 {

@@ -74,49 +74,49 @@ module _ (setting : SessionSetting) where
   -- ---- rewriting
 
   -- `rewrite` with a name that isn't a rule's is refused
-  pub fulfils_unruled : (names : List RuleName) (limit : Option ℕ) (s : State) → rewriting_named names (limit_or setting.session_options.limit limit) ≡ None → RunsSessionCommand setting s (Rewrite names limit) (Replied (Refused NoSuchKey)) [] s
-  fulfils_unruled names limit s e =
+  pub fulfils_unruled : (names : List RuleName) (proved : Bool) (limit : Option ℕ) (s : State) → rewriting_named names (limit_or setting.session_options.limit limit) ≡ None → RunsSessionCommand setting s (Rewrite names proved limit) (Replied (Refused NoSuchKey)) [] s
+  fulfils_unruled names proved limit s e =
       record { requested = Misplaced NoSuchKey; shows = Nothing; asks = subst (λ (o : Option Transformation). AppliesRule o (Misplaced NoSuchKey)) (sym e) refl; follows = (refl, refl, refl); text = refl }
 
-  asks_ruled : (names : List RuleName) (limit : Option ℕ) (f : Transformation) (m : Module) → rewriting_named names (limit_or setting.session_options.limit limit) ≡ Some f → OrdersIn setting (Rewrite names limit) m (Ask (call.Change f))
-  asks_ruled names limit f m e = subst (λ (o : Option Transformation). AppliesRule o (Ask (call.Change f))) (sym e) refl
+  asks_ruled : (names : List RuleName) (proved : Bool) (limit : Option ℕ) (f : Transformation) (m : Module) → rewriting_named names (limit_or setting.session_options.limit limit) ≡ Some f → OrdersIn setting (Rewrite names proved limit) m (Ask (call.Change f))
+  asks_ruled names proved limit f m e = subst (λ (o : Option Transformation). AppliesRule o (Ask (call.Change f))) (sym e) refl
 
   -- `rewrite` with names of rules
-  pub fulfils_ruled : (names : List RuleName) (limit : Option ℕ) (f : Transformation) (s t : State) (reply : Reply) (response : Response) → rewriting_named names (limit_or setting.session_options.limit limit) ≡ Some f → response ≡ Replied reply → Goes s (call.Change f) reply Nothing t → RunsSessionCommand setting s (Rewrite names limit) response [] t
-  fulfils_ruled names limit f s t reply response e is goes = rw is (fulfils_call s t (Rewrite names limit) (call.Change f) reply Nothing (asks_ruled names limit f s.held e) goes)
+  pub fulfils_ruled : (names : List RuleName) (proved : Bool) (limit : Option ℕ) (f : Transformation) (s t : State) (reply : Reply) (response : Response) → rewriting_named names (limit_or setting.session_options.limit limit) ≡ Some f → response ≡ Replied reply → Goes s (call.Change f) reply Nothing t → RunsSessionCommand setting s (Rewrite names proved limit) response [] t
+  fulfils_ruled names proved limit f s t reply response e is goes = rw is (fulfils_call s t (Rewrite names proved limit) (call.Change f) reply Nothing (asks_ruled names proved limit f s.held e) goes)
 
   -- `rewrite` with names of rules, refused since memory ran out
-  pub fulfils_unlisted : (names : List RuleName) (limit : Option ℕ) (s : State) (refusal : Refusal) → refusal ≡ Memory → is_some (rules_named names) ≡ true → RunsSessionCommand setting s (Rewrite names limit) (Replied (Refused refusal)) [] s
-  fulfils_unlisted names limit s refusal is there = go (rules_named names) refl
+  pub fulfils_unlisted : (names : List RuleName) (proved : Bool) (limit : Option ℕ) (s : State) (refusal : Refusal) → refusal ≡ Memory → is_some (rules_named names) ≡ true → RunsSessionCommand setting s (Rewrite names proved limit) (Replied (Refused refusal)) [] s
+  fulfils_unlisted names proved limit s refusal is there = go (rules_named names) refl
     where
-      go : (o : Option (List Rule)) → rules_named names ≡ o → RunsSessionCommand setting s (Rewrite names limit) (Replied (Refused refusal)) [] s
+      go : (o : Option (List Rule)) → rules_named names ≡ o → RunsSessionCommand setting s (Rewrite names proved limit) (Replied (Refused refusal)) [] s
       go None e = absurd (let f : false ≡ true = sym (ap is_some e) ∙ there in cc)
       go (Some rs) e =
-          rw is (fulfils_ruled names limit (rewriting (by_rules rs) (limit_or setting.session_options.limit limit)) s s (Refused Memory) (Replied (Refused Memory)) (ap (option_map (λ rs. rewriting (by_rules rs) (limit_or setting.session_options.limit limit))) e) refl (record { answer = inr (refl, inl refl); panel = all_stay s.panel }))
+          rw is (fulfils_ruled names proved limit (rewriting (by_rules rs) (limit_or setting.session_options.limit limit)) s s (Refused Memory) (Replied (Refused Memory)) (ap (option_map (λ rs. rewriting (by_rules rs) (limit_or setting.session_options.limit limit))) e) refl (record { answer = inr (refl, inl refl); panel = all_stay s.panel }))
 
   -- ---- tracing
 
   -- `trace` with a name that isn't a rule's is refused
-  pub fulfils_untold : (names : Option (List RuleName)) (limit : Option ℕ) (s : State) → tracing names (limit_or setting.session_options.limit limit) ≡ None → RunsSessionCommand setting s (Trace names limit) (Replied (Refused NoSuchKey)) [] s
-  fulfils_untold names limit s e =
+  pub fulfils_untold : (names : Option (List RuleName)) (proved : Bool) (limit : Option ℕ) (s : State) → tracing names (limit_or setting.session_options.limit limit) ≡ None → RunsSessionCommand setting s (Trace names proved limit) (Replied (Refused NoSuchKey)) [] s
+  fulfils_untold names proved limit s e =
       record { requested = Misplaced NoSuchKey; shows = Nothing; asks = subst (λ (o : Option Transformation). AppliesRule o (Misplaced NoSuchKey)) (sym e) refl; follows = (refl, refl, refl); text = refl }
 
-  asks_told : (names : Option (List RuleName)) (limit : Option ℕ) (f : Transformation) (m : Module) → tracing names (limit_or setting.session_options.limit limit) ≡ Some f → OrdersIn setting (Trace names limit) m (Ask (call.Change f))
-  asks_told names limit f m e = subst (λ (o : Option Transformation). AppliesRule o (Ask (call.Change f))) (sym e) refl
+  asks_told : (names : Option (List RuleName)) (proved : Bool) (limit : Option ℕ) (f : Transformation) (m : Module) → tracing names (limit_or setting.session_options.limit limit) ≡ Some f → OrdersIn setting (Trace names proved limit) m (Ask (call.Change f))
+  asks_told names proved limit f m e = subst (λ (o : Option Transformation). AppliesRule o (Ask (call.Change f))) (sym e) refl
 
   -- a traced rewrite
-  pub fulfils_told : (names : Option (List RuleName)) (limit : Option ℕ) (f : Transformation) (s t : State) (reply : Reply) (response : Response) (bytes : List ℕ) → tracing names (limit_or setting.session_options.limit limit) ≡ Some f → response ≡ Replied reply → Goes s (call.Change f) reply Nothing t
-      → bytes ≡ told_if (is_accepted (Replied reply)) (trace_by (traced_rules names) (limit_or setting.session_options.limit limit) s.held) → RunsSessionCommand setting s (Trace names limit) response bytes t
-  fulfils_told names limit f s t reply response bytes e is goes told = rw is (rw told (fulfils_call s t (Trace names limit) (call.Change f) reply Nothing (asks_told names limit f s.held e) goes))
+  pub fulfils_told : (names : Option (List RuleName)) (proved : Bool) (limit : Option ℕ) (f : Transformation) (s t : State) (reply : Reply) (response : Response) (bytes : List ℕ) → tracing names (limit_or setting.session_options.limit limit) ≡ Some f → response ≡ Replied reply → Goes s (call.Change f) reply Nothing t
+      → bytes ≡ told_if (is_accepted (Replied reply)) (trace_by (traced_rules names) (limit_or setting.session_options.limit limit) s.held) → RunsSessionCommand setting s (Trace names proved limit) response bytes t
+  fulfils_told names proved limit f s t reply response bytes e is goes told = rw is (rw told (fulfils_call s t (Trace names proved limit) (call.Change f) reply Nothing (asks_told names proved limit f s.held e) goes))
 
   -- a traced rewrite, refused since memory ran out
-  pub fulfils_forgot : (names : List RuleName) (limit : Option ℕ) (s : State) (refusal : Refusal) → refusal ≡ Memory → is_some (rules_named names) ≡ true → RunsSessionCommand setting s (Trace (Some names) limit) (Replied (Refused refusal)) [] s
-  fulfils_forgot names limit s refusal is there = go (rules_named names) refl
+  pub fulfils_forgot : (names : List RuleName) (proved : Bool) (limit : Option ℕ) (s : State) (refusal : Refusal) → refusal ≡ Memory → is_some (rules_named names) ≡ true → RunsSessionCommand setting s (Trace (Some names) proved limit) (Replied (Refused refusal)) [] s
+  fulfils_forgot names proved limit s refusal is there = go (rules_named names) refl
     where
-      go : (o : Option (List Rule)) → rules_named names ≡ o → RunsSessionCommand setting s (Trace (Some names) limit) (Replied (Refused refusal)) [] s
+      go : (o : Option (List Rule)) → rules_named names ≡ o → RunsSessionCommand setting s (Trace (Some names) proved limit) (Replied (Refused refusal)) [] s
       go None e = absurd (let f : false ≡ true = sym (ap is_some e) ∙ there in cc)
       go (Some rs) e =
-          rw is (fulfils_told (Some names) limit (rewriting (by_rules rs) (limit_or setting.session_options.limit limit)) s s (Refused Memory) (Replied (Refused Memory)) [] (ap (option_map (λ rs. rewriting (by_rules rs) (limit_or setting.session_options.limit limit))) e) refl (record { answer = inr (refl, inl refl); panel = all_stay s.panel }) refl)
+          rw is (fulfils_told (Some names) proved limit (rewriting (by_rules rs) (limit_or setting.session_options.limit limit)) s s (Refused Memory) (Replied (Refused Memory)) [] (ap (option_map (λ rs. rewriting (by_rules rs) (limit_or setting.session_options.limit limit))) e) refl (record { answer = inr (refl, inl refl); panel = all_stay s.panel }) refl)
 
   -- ---- converting
 
@@ -166,13 +166,13 @@ module _ (setting : SessionSetting) where
   by_kind s kind None e = (Replied (Refused NoSuchKind), [], s, fulfils_unsupplied kind s e)
   by_kind s kind (Some a) e = by_call s (Attach kind) (call.Attach a) (asks_supplied kind a s.held e)
 
-  by_ruled : (s : State) (names : List RuleName) (limit : Option ℕ) (f : Option Transformation) → rewriting_named names (limit_or setting.session_options.limit limit) ≡ f → SomeFulfilled s (Rewrite names limit)
-  by_ruled s names limit None e = (Replied (Refused NoSuchKey), [], s, fulfils_unruled names limit s e)
-  by_ruled s names limit (Some f) e = by_call s (Rewrite names limit) (call.Change f) (asks_ruled names limit f s.held e)
+  by_ruled : (s : State) (names : List RuleName) (proved : Bool) (limit : Option ℕ) (f : Option Transformation) → rewriting_named names (limit_or setting.session_options.limit limit) ≡ f → SomeFulfilled s (Rewrite names proved limit)
+  by_ruled s names proved limit None e = (Replied (Refused NoSuchKey), [], s, fulfils_unruled names proved limit s e)
+  by_ruled s names proved limit (Some f) e = by_call s (Rewrite names proved limit) (call.Change f) (asks_ruled names proved limit f s.held e)
 
-  by_trace : (s : State) (names : Option (List RuleName)) (limit : Option ℕ) (f : Option Transformation) → tracing names (limit_or setting.session_options.limit limit) ≡ f → SomeFulfilled s (Trace names limit)
-  by_trace s names limit None e = (Replied (Refused NoSuchKey), [], s, fulfils_untold names limit s e)
-  by_trace s names limit (Some f) e = by_call s (Trace names limit) (call.Change f) (asks_told names limit f s.held e)
+  by_trace : (s : State) (names : Option (List RuleName)) (proved : Bool) (limit : Option ℕ) (f : Option Transformation) → tracing names (limit_or setting.session_options.limit limit) ≡ f → SomeFulfilled s (Trace names proved limit)
+  by_trace s names proved limit None e = (Replied (Refused NoSuchKey), [], s, fulfils_untold names proved limit s e)
+  by_trace s names proved limit (Some f) e = by_call s (Trace names proved limit) (call.Change f) (asks_told names proved limit f s.held e)
 
   by_why : (s : State) (x : ℕ) (name : Option RuleName) (o : Option (List Rule)) (b : Bool) → requested_rules name x s.held ≡ o → has_id x s.held.tree ≡ b → SomeFulfilled s (Why x name)
   by_why s x name None b e there = (Replied (Refused NoSuchKey), [], s, fulfils_unasked x name s e)
@@ -187,8 +187,8 @@ module _ (setting : SessionSetting) where
   some_fulfilled s (Attach kind) = by_kind s kind (setting.supply kind) refl
   some_fulfilled s PrintIds = by_call s PrintIds call.Print refl
   some_fulfilled s (ReportOf kind subject) = by_subject s kind subject (is_there subject s.held.tree) refl
-  some_fulfilled s (Rewrite names limit) = by_ruled s names limit (rewriting_named names (limit_or setting.session_options.limit limit)) refl
-  some_fulfilled s (Trace names limit) = by_trace s names limit (tracing names (limit_or setting.session_options.limit limit)) refl
+  some_fulfilled s (Rewrite names proved limit) = by_ruled s names proved limit (rewriting_named names (limit_or setting.session_options.limit limit)) refl
+  some_fulfilled s (Trace names proved limit) = by_trace s names proved limit (tracing names (limit_or setting.session_options.limit limit)) refl
   some_fulfilled s (TraceConvert target) = by_call s (TraceConvert target) (call.Change (conversion target)) refl
   some_fulfilled s (CanonAt x limit) = by_call s (CanonAt x limit) (call.Change (canonicalizing_at (limit_or setting.session_options.limit limit) x)) refl
   some_fulfilled s (Why x name) = by_why s x name (requested_rules name x s.held) (has_id x s.held.tree) refl refl
@@ -213,12 +213,12 @@ never_unparsed setting (Attach kind) m refusal offset asks = go (setting.supply 
     go : (a : Option Shown) → AttachesKind a (Unparsed refusal offset) → ⊥
     go None e = absurd cc
     go (Some a) e = absurd cc
-never_unparsed setting (Rewrite names limit) m refusal offset asks = go (rewriting_named names (limit_or setting.session_options.limit limit)) asks
+never_unparsed setting (Rewrite names proved limit) m refusal offset asks = go (rewriting_named names (limit_or setting.session_options.limit limit)) asks
   where
     go : (o : Option Transformation) → AppliesRule o (Unparsed refusal offset) → ⊥
     go None e = absurd cc
     go (Some f) e = absurd cc
-never_unparsed setting (Trace names limit) m refusal offset asks = go (tracing names (limit_or setting.session_options.limit limit)) asks
+never_unparsed setting (Trace names proved limit) m refusal offset asks = go (tracing names (limit_or setting.session_options.limit limit)) asks
   where
     go : (o : Option Transformation) → AppliesRule o (Unparsed refusal offset) → ⊥
     go None e = absurd cc

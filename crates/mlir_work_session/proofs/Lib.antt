@@ -6,6 +6,7 @@ pub mod Fulfilling
 pub mod Owning
 pub mod About
 pub mod Mixes
+pub mod WhyPatterns
 pub mod Headroom
 pub mod Listings
 pub mod Runs

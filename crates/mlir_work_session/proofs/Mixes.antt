@@ -1,8 +1,8 @@
 -- Proofs about the answers to session commands with a pattern registry.
 use Rattle.std.proofs.Common.{◌≡◌, ◌∙◌, ap, sym, subst, refl, inl, inr, ℕ, List, [], ◌++◌, append-nil, Bool, true, false, Option, Some, None, Result, Ok, Err}
-use Rattle.std.specs.Prelude.{is_some, option_map, OnOk}
+use Rattle.std.specs.Prelude.{◌==◌, ◌&&◌, is_some, length, not, option_map, OnOk}
 use Rattle.ir_event.specs.types.declared.refusal.Refusal.{Refusal}
-use Rattle.ir_event.specs.types.declared.refusal.Refusal.TheVariants.{Full, Memory, NoSuchKey}
+use Rattle.ir_event.specs.types.declared.refusal.Refusal.TheVariants.{Full, Memory, NoSuchKey, NotProved}
 use Rattle.ir_event.specs.Modules.{Module}
 use Rattle.mlir_work_transforms.specs.rewriter.Commands.{AppliesRule, Requested, Ask, Misplaced, Unparsed, Follows, Response, Replied, TextRefusedAt}
 use Rattle.mlir_work_transforms.specs.rewriter.Machine as call
@@ -19,7 +19,7 @@ use Rattle.mlir_work_transforms.specs.RuleLists.{Listed, all_listed, attempts_in
 use Rattle.mlir_work_transforms.specs.Unproved.{unproved_of}
 use Rattle.mlir_work_session.specs.declared.options.SessionOptions.{SessionOptions}
 use Rattle.mlir_work_session.specs.Machine.{IsContextFull, RunsSessionCommand, SessionSetting, limit_or, told_if}
-use Rattle.mlir_work_session.specs.RuleLists.{RunsListCommand, ListCommand, ListCommandHeadroom, Mixes, list_command_bytes, list_command_change, list_command_trace}
+use Rattle.mlir_work_session.specs.RuleLists.{RunsListCommand, ListCommand, ListCommandHeadroom, Mixes, MixesUnless, is_unproved, list_command_bytes, list_command_change, list_command_trace}
 use Rattle.mlir_work_session.proofs.Fulfilling.{SomeFulfilled, fulfils_bounded, some_fulfilled}
 use Rattle.mlir_work_session.proofs.Panels.{all_stay}
 use Rattle.mlir_work_session.proofs.Headroom.{other_headroom, replied, widened}
@@ -140,19 +140,68 @@ module _ (session_options : SessionOptions) (registry : RegistryModel) (x : List
       go None e = (Replied (Refused NoSuchKey), [], s, mixes_unnamed s e)
       go (Some ls) e = (Replied (Refused Memory), [], s, mixes_forgot s Memory refl (ap is_some e))
 
+  -- ---- a command that asks for proved patterns
+  and_false : (b : Bool) → (b && false) ≡ false
+  and_false true = refl
+  and_false false = refl
+
+  -- a list with an unknown name isn't refused for unproved patterns
+  unnamed_is : (m : Module) → all_listed registry x.names ≡ None → is_unproved registry x m ≡ false
+  unnamed_is m e =
+      ap (λ (o : Option (List Listed)). x.proved && (is_some o && not (length (unproved_of registry x.names m.tree) == 0))) e ∙ and_false x.proved
+
+  pub unless_unnamed : (s : State) → all_listed registry x.names ≡ None → MixesUnless (is_unproved registry x s.held) session_options registry x s (Replied (Refused NoSuchKey)) [] s
+  unless_unnamed s e =
+      subst (λ (b : Bool). MixesUnless b session_options registry x s (Replied (Refused NoSuchKey)) [] s) (sym (unnamed_is s.held e)) (mixes_unnamed s e)
+
+  -- refused since memory ran out
+  pub unless_forgot : (s : State) (refusal : Refusal) → refusal ≡ Memory → is_some (all_listed registry x.names) ≡ true → MixesUnless (is_unproved registry x s.held) session_options registry x s (Replied (Refused refusal)) [] s
+  unless_forgot s refusal is there = go (is_unproved registry x s.held)
+    where
+      go : (b : Bool) → MixesUnless b session_options registry x s (Replied (Refused refusal)) [] s
+      go true = inl (ap (λ (r : Refusal). Replied (Refused r)) is, refl, refl)
+      go false = mixes_forgot s refusal is there
+
+  -- whether the lines refuse the command, if each name resolves
+  unproved_is : (m : Module) (ls : List Listed) (lines : List ℕ) (r : Bool) → all_listed registry x.names ≡ Some ls → lines ≡ unproved_of registry x.names m.tree → r ≡ (x.proved && not (length lines == 0)) → is_unproved registry x m ≡ r
+  unproved_is m ls lines r e these is =
+      ap (λ (o : Option (List Listed)). x.proved && (is_some o && not (length (unproved_of registry x.names m.tree) == 0))) e
+      ∙ ap (λ (l : List ℕ). x.proved && not (length l == 0)) (sym these) ∙ sym is
+
+  -- refused with the lines of the patterns that no check proves
+  pub unless_unproved : (s : State) (ls : List Listed) (lines : List ℕ) (r : Bool) → all_listed registry x.names ≡ Some ls → lines ≡ unproved_of registry x.names s.held.tree → r ≡ (x.proved && not (length lines == 0)) → r ≡ true
+      → MixesUnless (is_unproved registry x s.held) session_options registry x s (Replied (Refused NotProved)) lines s
+  unless_unproved s ls lines r e these is so =
+      subst (λ (b : Bool). MixesUnless b session_options registry x s (Replied (Refused NotProved)) lines s) (sym (unproved_is s.held ls lines r e these is ∙ so)) (inr (refl, these, refl))
+
+  -- not refused for unproved patterns
+  pub unless_proved : (s t : State) (response : Response) (bytes : List ℕ) (ls : List Listed) (lines : List ℕ) (r : Bool) → all_listed registry x.names ≡ Some ls → lines ≡ unproved_of registry x.names s.held.tree → r ≡ (x.proved && not (length lines == 0)) → r ≡ false
+      → Mixes session_options registry x s response bytes t → MixesUnless (is_unproved registry x s.held) session_options registry x s response bytes t
+  unless_proved s t response bytes ls lines r e these is so h =
+      subst (λ (b : Bool). MixesUnless b session_options registry x s response bytes t) (sym (unproved_is s.held ls lines r e these is ∙ so)) h
+
+  unless_bounded : (bytes : ℕ) (b : Bool) (s : State) (response : Response) (shown : List ℕ) (t : State) → MixesUnless b session_options registry x s response shown t → IsBounded bytes response
+  unless_bounded bytes true s response shown t (inl h) = λ refusal offset is. absurd (let e : TextRefusedAt refusal offset ≡ Replied (Refused Memory) = sym is ∙ h.0 in cc)
+  unless_bounded bytes true s response shown t (inr h) = λ refusal offset is. absurd (let e : TextRefusedAt refusal offset ≡ Replied (Refused NotProved) = sym is ∙ h.0 in cc)
+  unless_bounded bytes false s response shown t h = mixes_bounded bytes s response shown t h
+
+  some_unless : (b : Bool) (s : State) → (response : Response) × (bytes : List ℕ) × (t : State) × MixesUnless b session_options registry x s response bytes t
+  some_unless true s = (Replied (Refused Memory), [], s, inl (refl, refl, refl))
+  some_unless false s = some_rule_list s
+
 module _ (setting : SessionSetting) (registry : RegistryModel) where
   pub next_to_bounded : (bytes : ℕ) (own : Option ListCommand) (s : State) (o : SessionCommand) (response : Response) (shown : List ℕ) (t : State) → RunsListCommand setting registry own s o response shown t → IsBounded bytes response
   next_to_bounded bytes None s o response shown t h = fulfils_bounded bytes setting s o response shown t h
-  next_to_bounded bytes (Some x) s o response shown t h = mixes_bounded setting.session_options registry x bytes s response shown t h
+  next_to_bounded bytes (Some x) s o response shown t h = unless_bounded setting.session_options registry x bytes (is_unproved registry x s.held) s response shown t h
 
   -- each session command has an answer
   pub some_next_to : (own : Option ListCommand) (s : State) (o : SessionCommand) → (response : Response) × (bytes : List ℕ) × (t : State) × RunsListCommand setting registry own s o response bytes t
   some_next_to None s o = some_fulfilled setting s o
-  some_next_to (Some x) s o = some_rule_list setting.session_options registry x s
+  some_next_to (Some x) s o = some_unless setting.session_options registry x (is_unproved registry x s.held) s
 
   -- a session command without a registered pattern is answered as one without a registry
   pub plainly : (own : Option ListCommand) (s t : State) (o : SessionCommand) (response : Response) (bytes : List ℕ) → own ≡ None → RunsSessionCommand setting s o response bytes t → RunsListCommand setting registry own s o response bytes t
   plainly own s t o response bytes e h = subst (λ (m : Option ListCommand). RunsListCommand setting registry m s o response bytes t) (sym e) h
 
-  pub rule_list : (own : Option ListCommand) (s t : State) (o : SessionCommand) (x : ListCommand) (response : Response) (bytes : List ℕ) → own ≡ Some x → Mixes setting.session_options registry x s response bytes t → RunsListCommand setting registry own s o response bytes t
+  pub rule_list : (own : Option ListCommand) (s t : State) (o : SessionCommand) (x : ListCommand) (response : Response) (bytes : List ℕ) → own ≡ Some x → MixesUnless (is_unproved registry x s.held) setting.session_options registry x s response bytes t → RunsListCommand setting registry own s o response bytes t
   rule_list own s t o x response bytes e h = subst (λ (m : Option ListCommand). RunsListCommand setting registry m s o response bytes t) (sym e) h

@@ -16,8 +16,8 @@ use Rattle.mlir_work_session.specs.Output.{IsAnswered, IsEnded, IsLineAnswered, 
 use Rattle.mlir_work_session.specs.Sittings.{Sitting, own_of}
 use Rattle.mlir_work_session.specs.Ran.{RanOut}
 use Rattle.mlir_work_session.proofs.Listings.{some_listing_if}
-use Rattle.mlir_work_session.specs.RuleLists.{list_command_of}
-use Rattle.mlir_work_session.proofs.Mixes.{next_to_bounded, some_next_to as some_ordered}
+use Rattle.mlir_work_session.specs.WhyPatterns.{asked_pattern}
+use Rattle.mlir_work_session.proofs.WhyPatterns.{named_bounded, some_named as some_ordered}
 use Rattle.mlir_work_transforms.proofs.of_registry.Bounds.{within_of}
 use Rattle.mlir_work_session.proofs.Owning.{some_next_to}
 
@@ -158,8 +158,8 @@ some_line Rest setting n s expected (Obey command) some =
     let a = some_next_to setting.session_options (own_of command s.registry) s.state command in
     some_replied Rest setting n s expected (Obey command) (Plain a.0) a.1 (record { state = a.2; registry = s.registry }) (a.0, refl, a.3, refl) (within_of setting.session_options.bytes a.0 (λ why offset e. absurd (a.4 why offset e))) some
 some_line Rest setting n s expected (Ordered session_command) some =
-    let a = some_ordered setting s.registry (list_command_of session_command s.registry) s.state session_command in
-    some_replied Rest setting n s expected (Ordered session_command) (Plain a.0) a.1 (record { state = a.2; registry = s.registry }) (a.0, refl, a.3, refl) (within_of setting.session_options.bytes a.0 (next_to_bounded setting s.registry setting.session_options.bytes (list_command_of session_command s.registry) s.state session_command a.0 a.1 a.2 a.3)) some
+    let a = some_ordered setting s.registry (asked_pattern session_command s.registry) s.state session_command in
+    some_replied Rest setting n s expected (Ordered session_command) (Plain a.0) a.1 (record { state = a.2; registry = s.registry }) (a.0, refl, a.3, refl) (within_of setting.session_options.bytes a.0 (named_bounded setting s.registry setting.session_options.bytes (asked_pattern session_command s.registry) s.state session_command a.0 a.1 a.2 a.3)) some
 some_line Rest setting n s expected (Registered session_command) some = some_replied Rest setting n s expected (Registered session_command) (Plain (Says (Refused Memory))) [] s (inl (refl, refl, refl), refl) (λ why offset e. absurd cc) some
 
 -- each script has an output from each state, since each command has an answer

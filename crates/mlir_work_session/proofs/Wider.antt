@@ -14,7 +14,8 @@ use Rattle.mlir_work_transforms.specs.registry.Registry.{RegistryModel, Kept}
 use Rattle.mlir_work_transforms.specs.registry.Replies.{is_accepted}
 use Rattle.mlir_work_transforms.specs.Unproved.{unproved_of}
 use Rattle.mlir_work_session.specs.Machine.{AsksIn, RunsSessionCommand, OrdersIn, order_bytes, told_if}
-use Rattle.mlir_work_session.specs.RuleLists.{RunsListCommand, ListCommand, list_command_bytes, list_command_of, list_command_trace}
+use Rattle.mlir_work_session.specs.RuleLists.{RunsListCommand, ListCommand, MixesUnless, is_unproved, list_command_bytes, list_command_of, list_command_trace}
+use Rattle.mlir_work_session.specs.WhyPatterns.{RunsNamedCommand, asked_pattern}
 use Rattle.mlir_work_session.specs.Output.{Line, SessionSetting, session_setting, Replied, Replies}
 use Rattle.mlir_work_session.specs.Sittings.{RunsPatternCommand, Sitting, own_of}
 
@@ -57,8 +58,8 @@ module _ (setting : SessionSetting) (bytes : ℕ) (longer : setting.session_opti
   orders_wider : (session_command : SessionCommand) (m : Module) (requested : Requested) → OrdersIn setting session_command m requested → OrdersIn wider session_command m requested
   orders_wider (Attach kind) m requested h = h
   orders_wider PrintIds m requested h = h
-  orders_wider (Rewrite names limit) m requested h = h
-  orders_wider (Trace names limit) m requested h = h
+  orders_wider (Rewrite names proved limit) m requested h = h
+  orders_wider (Trace names proved limit) m requested h = h
   orders_wider (TraceConvert target) m requested h = h
   orders_wider (CanonAt x limit) m requested h = h
   orders_wider (Why x name) m requested h = h
@@ -68,8 +69,8 @@ module _ (setting : SessionSetting) (bytes : ℕ) (longer : setting.session_opti
   bytes_wider (Attach kind) m response shows = refl
   bytes_wider PrintIds m response shows = refl
   bytes_wider (ReportOf kind subject) m response shows = refl
-  bytes_wider (Rewrite names limit) m response shows = refl
-  bytes_wider (Trace names limit) m response shows = refl
+  bytes_wider (Rewrite names proved limit) m response shows = refl
+  bytes_wider (Trace names proved limit) m response shows = refl
   bytes_wider (TraceConvert target) m response shows = refl
   bytes_wider (CanonAt x limit) m response shows = refl
   bytes_wider (Why x name) m response shows = refl
@@ -90,12 +91,20 @@ module _ (setting : SessionSetting) (bytes : ℕ) (longer : setting.session_opti
 
   rule_list_wider : (registry : RegistryModel) (own : Option ListCommand) (s : State) (session_command : SessionCommand) (response : Response) (shows : List ℕ) (t : State) → RunsListCommand setting registry own s session_command response shows t → RunsListCommand wider registry own s session_command response shows t
   rule_list_wider registry None s session_command response shows t h = fulfils_wider s session_command response shows t h
-  rule_list_wider registry (Some x) s session_command response shows t h = record { requested = h.requested; asks = h.asks; follows = h.follows; text = h.text ∙ list_command_bytes_wider registry x s.held response }
+  rule_list_wider registry (Some x) s session_command response shows t h = go (is_unproved registry x s.held) h
+    where
+      go : (b : Bool) → MixesUnless b setting.session_options registry x s response shows t → MixesUnless b wider.session_options registry x s response shows t
+      go true h = h
+      go false h = record { requested = h.requested; asks = h.asks; follows = h.follows; text = h.text ∙ list_command_bytes_wider registry x s.held response }
+
+  named_wider : (registry : RegistryModel) (own : Option (Kept × ℕ)) (s : State) (session_command : SessionCommand) (response : Response) (shows : List ℕ) (t : State) → RunsNamedCommand setting registry own s session_command response shows t → RunsNamedCommand wider registry own s session_command response shows t
+  named_wider registry None s session_command response shows t h = rule_list_wider registry (list_command_of session_command registry) s session_command response shows t h
+  named_wider registry (Some p) s session_command response shows t h = h
 
   replies_wider : (s : Sitting) (spoken : Spoken) (notice : Notice) (shows : List ℕ) (t : Sitting) → Replies setting s spoken notice shows t → Replies wider s spoken notice shows t
   replies_wider s Nothing notice shows t h = absurd h
   replies_wider s Bad notice shows t h = h
-  replies_wider s (Ordered session_command) notice shows t (response, is, h, stays) = (response, is, rule_list_wider s.registry (list_command_of session_command s.registry) s.state session_command response shows t.state h, stays)
+  replies_wider s (Ordered session_command) notice shows t (response, is, h, stays) = (response, is, named_wider s.registry (asked_pattern session_command s.registry) s.state session_command response shows t.state h, stays)
   replies_wider s (Obey said) notice shows t (response, is, h, stays) = (response, is, next_to_wider (own_of said s.registry) s.state said response shows t.state h, stays)
   replies_wider s (Registered session_command) notice shows t h = h
 

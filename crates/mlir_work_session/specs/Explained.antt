@@ -6,7 +6,7 @@ use Rattle.ir_event.specs.Modules.{Module}
 use Rattle.mlir_work_transforms.specs.rewriter.Commands.{Command, Insert, SetAttr, Replied, TextRefusedAt}
 use Rattle.mlir_work_transforms.specs.rewriter.Machine.{Reply, Done, DoneAs, DoneWith, Refused, RefusedOn}
 use Rattle.mlir_work_script.specs.Commands.{Spoken, Nothing, Bad, Obey, Ordered, Registered}
-use Rattle.mlir_work_script.specs.RegistryCommands.{RegistryCommand, Define}
+use Rattle.mlir_work_script.specs.RegistryCommands.{RegistryCommand, Define, Redefine}
 use Rattle.mlir_work_notes.specs.PatternReasons.{pattern_note}
 use Rattle.mlir_work_notes.specs.Unsupported.{unsupported_at, cause_word}
 use Rattle.mlir_work_notes.specs.Notes.{about_text, notes_of, no_memory_text}
@@ -28,6 +28,7 @@ about_cause _ text offset = []
 -- the note that says why the text of a pattern was refused at a byte
 abbrev pub about_pattern : Refusal → ℕ → RegistryCommand → List ℕ
 about_pattern refusal offset (Define text) = pattern_note refusal text offset
+about_pattern refusal offset (Redefine text) = pattern_note refusal text offset
 about_pattern refusal offset _ = []
 
 -- the note on the byte at which the text of a line was refused

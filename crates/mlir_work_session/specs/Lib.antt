@@ -2,6 +2,7 @@ pub mod Texts
 pub mod Machine
 pub mod RuleLists
 pub mod ListCommandViews
+pub mod WhyPatterns
 pub mod Sittings
 pub mod Explained
 pub mod Output

@@ -88,8 +88,8 @@ AsksAbout false kind subject requested = requested ≡ Misplaced (absent subject
 abbrev pub OrdersIn : SessionSetting → SessionCommand → Module → Requested → Type 0
 OrdersIn setting (Attach kind) m requested = AttachesKind (setting.supply kind) requested
 OrdersIn setting PrintIds m requested = requested ≡ Ask call.Print
-OrdersIn setting (Rewrite names limit) m requested = AppliesRule (rewriting_named names (limit_or setting.session_options.limit limit)) requested
-OrdersIn setting (Trace names limit) m requested = AppliesRule (tracing names (limit_or setting.session_options.limit limit)) requested
+OrdersIn setting (Rewrite names proved limit) m requested = AppliesRule (rewriting_named names (limit_or setting.session_options.limit limit)) requested
+OrdersIn setting (Trace names proved limit) m requested = AppliesRule (tracing names (limit_or setting.session_options.limit limit)) requested
 OrdersIn setting (TraceConvert target) m requested = requested ≡ Ask (call.Change (conversion target))
 OrdersIn setting (CanonAt x limit) m requested =
     requested ≡ Ask (call.Change (canonicalizing_at (limit_or setting.session_options.limit limit) x))
@@ -124,8 +124,8 @@ abbrev pub order_bytes : SessionSetting → SessionCommand → Module → Respon
 order_bytes setting (Attach kind) m response shows = order_shows shows
 order_bytes setting PrintIds m response shows = order_shows shows
 order_bytes setting (ReportOf kind subject) m response shows = order_shows (shows_about subject shows)
-order_bytes setting (Rewrite names limit) m response shows = order_shows shows
-order_bytes setting (Trace names limit) m response shows =
+order_bytes setting (Rewrite names proved limit) m response shows = order_shows shows
+order_bytes setting (Trace names proved limit) m response shows =
     told_if (is_accepted response) (trace_by (traced_rules names) (limit_or setting.session_options.limit limit) m)
 order_bytes setting (TraceConvert target) m response shows = converted_bytes target m response
 order_bytes setting (CanonAt x limit) m response shows = order_shows shows
@@ -155,9 +155,9 @@ AsksHeadroom full options s _ response = ⊤
 
 -- the same for session commands
 abbrev pub OrdersHeadroom : Type 0 → SessionSetting → State → SessionCommand → Response → Type 0
-OrdersHeadroom full setting s (Rewrite names limit) response =
+OrdersHeadroom full setting s (Rewrite names proved limit) response =
     (f : Transformation) → rewriting_named names (limit_or setting.session_options.limit limit) ≡ Some f → IsContextFull full s f response
-OrdersHeadroom full setting s (Trace names limit) response =
+OrdersHeadroom full setting s (Trace names proved limit) response =
     (f : Transformation) → tracing names (limit_or setting.session_options.limit limit) ≡ Some f → IsContextFull full s f response
 OrdersHeadroom full setting s (TraceConvert target) response = IsContextFull full s (conversion target) response
 OrdersHeadroom full setting s (CanonAt x limit) response =

@@ -22,7 +22,7 @@ use Rattle.mlir_work_transforms.specs.registry.Registry.{RegistryModel}
 use Rattle.mlir_work_transforms.specs.registry.Registries.{Registries}
 use Rattle.mlir_work_session_base.specs.RowText.{rows_text}
 use Rattle.mlir_work_session.specs.Explained.{IsAbout}
-use Rattle.mlir_work_session.specs.RuleLists.{RunsListCommand, list_command_of}
+use Rattle.mlir_work_session.specs.WhyPatterns.{RunsNamedCommand, asked_pattern}
 use Rattle.mlir_work_session.specs.Sittings.{ByBench, RunsPatternCommand, own_of}
 pub use Rattle.mlir_work_transforms.specs.registry.Notices.{is_right}
 pub use Rattle.mlir_work_transforms.specs.registry.Explained.{told_text}
@@ -99,7 +99,7 @@ Replies setting s Bad notice shows t = (notice ≡ Plain (Says (Refused BadComma
 Replies setting s (Obey command) notice shows t =
     ByBench (λ response u. RunsPatternCommand setting.session_options (own_of command s.registry) s.state command response shows u) s notice t
 Replies setting s (Ordered session_command) notice shows t =
-    ByBench (λ response u. RunsListCommand setting s.registry (list_command_of session_command s.registry) s.state session_command response shows u) s notice t
+    ByBench (λ response u. RunsNamedCommand setting s.registry (asked_pattern session_command s.registry) s.state session_command response shows u) s notice t
 Replies setting s (Registered session_command) notice shows t = Registries session_command s.registry notice shows t.registry × (t.state ≡ s.state)
 
 -- the written answer: the numbered reply with its note, the bytes that it shows, and a listing if the line gets one

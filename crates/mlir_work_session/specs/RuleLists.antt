@@ -1,9 +1,11 @@
 -- Session commands with a pattern registry: a rule list that names a registered pattern rewrites by rules and
 -- patterns. Any other session command runs as without a registry.
-use Rattle.std.specs.Prelude.{◌≡◌, ℕ, List, [], ◌++◌, Bool, true, false, Option, Some, None, if◌then◌else◌}
+use Rattle.std.specs.Prelude.{◌≡◌, ◌==◌, ◌&&◌, ◌⊎◌, is_some, ℕ, List, [], ◌++◌, length, Bool, true, false, not, Option, Some, None, if◌then◌else◌}
+use Rattle.ir_event.specs.types.declared.refusal.Refusal.{Refusal}
+use Rattle.ir_event.specs.types.declared.refusal.Refusal.TheVariants.{Memory, NotProved}
 use Rattle.ir_event.specs.Modules.{Module}
-use Rattle.mlir_work_transforms.specs.rewriter.Commands.{AppliesRule, Requested, Follows, Response, RuleName}
-use Rattle.mlir_work_transforms.specs.rewriter.Machine.{Nothing, State, Transformation}
+use Rattle.mlir_work_transforms.specs.rewriter.Commands.{AppliesRule, Requested, Follows, Replied, Response, RuleName}
+use Rattle.mlir_work_transforms.specs.rewriter.Machine.{Nothing, Refused, State, Transformation}
 use Rattle.mlir_work_script.specs.SessionCommands.{SessionCommand, Rewrite, Trace}
 use Rattle.mlir_work_transforms.specs.registry.Replies.{is_accepted}
 use Rattle.mlir_work_transforms.specs.registry.Registry.{RegistryModel}
@@ -12,9 +14,11 @@ use Rattle.mlir_work_transforms.specs.Unproved.{unproved_of}
 use Rattle.mlir_work_session.specs.declared.options.SessionOptions.{SessionOptions}
 use Rattle.mlir_work_session.specs.Machine.{IsContextFull, RunsSessionCommand, SessionSetting, limit_or, told_if}
 
--- a rule list that names a registered pattern, its limit, and whether each rewrite is traced
+-- a rule list that names a registered pattern, whether the command is refused if no check proves one of the patterns,
+-- its limit, and whether each rewrite is traced
 pub record ListCommand : Type 0 where
   pub names : List RuleName
+  pub proved : Bool
   pub limit : Option ℕ
   pub tells : Bool
 
@@ -23,10 +27,10 @@ list_command_if own x = if own then Some x else None
 
 -- the rule list of a session command, if the list names a registered pattern
 abbrev pub list_command_of : SessionCommand → RegistryModel → Option ListCommand
-list_command_of (Rewrite names limit) registry =
-    list_command_if (names_own registry names) (record { names = names; limit = limit; tells = false })
-list_command_of (Trace (Some names) limit) registry =
-    list_command_if (names_own registry names) (record { names = names; limit = limit; tells = true })
+list_command_of (Rewrite names proved limit) registry =
+    list_command_if (names_own registry names) (record { names = names; proved = proved; limit = limit; tells = false })
+list_command_of (Trace (Some names) proved limit) registry =
+    list_command_if (names_own registry names) (record { names = names; proved = proved; limit = limit; tells = true })
 list_command_of _ registry = None
 
 -- the transformation of a rule list
@@ -51,9 +55,28 @@ pub record Mixes (session_options : SessionOptions) (registry : RegistryModel) (
   pub follows : Follows s requested response Nothing t
   pub text : bytes ≡ list_command_bytes session_options registry x s.held response
 
+-- whether a command that asks for proved patterns is refused: each name resolves, and a line names a pattern that no
+-- check proves for the module
+abbrev pub is_unproved : RegistryModel → ListCommand → Module → Bool
+is_unproved registry x m =
+    x.proved && (is_some (all_listed registry x.names) && not (length (unproved_of registry x.names m.tree) == 0))
+
+abbrev pub IsRefusedWith : Refusal → List ℕ → State → Response → List ℕ → State → Type 0
+IsRefusedWith refusal lines s response bytes t = (response ≡ Replied (Refused refusal)) × (bytes ≡ lines) × (t ≡ s)
+
+-- the command is refused with these lines below the reply, or memory runs out before they are written
+abbrev pub RefusesUnproved : RegistryModel → ListCommand → State → Response → List ℕ → State → Type 0
+RefusesUnproved registry x s response bytes t =
+    IsRefusedWith Memory [] s response bytes t ⊎ IsRefusedWith NotProved (unproved_of registry x.names s.held.tree) s response bytes t
+
+abbrev pub MixesUnless : Bool → SessionOptions → RegistryModel → ListCommand → State → Response → List ℕ → State → Type 0
+MixesUnless true session_options registry x s response bytes t = RefusesUnproved registry x s response bytes t
+MixesUnless false session_options registry x s response bytes t = Mixes session_options registry x s response bytes t
+
 abbrev pub RunsListCommand : SessionSetting → RegistryModel → Option ListCommand → State → SessionCommand → Response → List ℕ → State → Type 0
 RunsListCommand setting registry None s session_command response bytes t = RunsSessionCommand setting s session_command response bytes t
-RunsListCommand setting registry (Some x) s session_command response bytes t = Mixes setting.session_options registry x s response bytes t
+RunsListCommand setting registry (Some x) s session_command response bytes t =
+    MixesUnless (is_unproved registry x s.held) setting.session_options registry x s response bytes t
 
 -- when a rule list may be refused with 31
 abbrev pub ListCommandHeadroom : Type 0 → SessionOptions → RegistryModel → ListCommand → State → Response → Type 0

@@ -27,6 +27,7 @@ mod texts;
 mod tracing;
 mod transforming;
 mod why;
+pub mod why_patterns;
 
 pub use ir_text::reader;
 pub use mlir_work_script::{

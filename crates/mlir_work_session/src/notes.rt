@@ -82,6 +82,7 @@ fn about_pattern(
 {
     match command {
         RegistryCommand::Define(text) => pattern_note(alloc, refusal, text, offset),
+        RegistryCommand::Redefine(text) => pattern_note(alloc, refusal, text, offset),
         _ => Ok(Vec::new(alloc)),
     }
 }

@@ -1,6 +1,6 @@
 //! Runs session commands on a rewriter with a pattern registry. A `rewrite` or `trace` whose rule list names a
 //! registered pattern rewrites by rules and patterns.
-ghost use Rattle.std.specs.Prelude.{◌≡◌, ◌++◌, map, option_map};
+ghost use Rattle.std.specs.Prelude.{◌≡◌, ◌==◌, ◌&&◌, ◌++◌, length, map, not, option_map};
 ghost use Rattle.ir_text.specs.Public.{IsFull};
 ghost use Rattle.mlir_work_script.specs.SessionCommands.{order_of};
 ghost use Rattle.mlir_work_transforms.specs.TraceText.{trace_text};
@@ -13,7 +13,7 @@ ghost use Rattle.mlir_work_transforms.specs.rewriter.Machine.{Change, Nothing};
 ghost use Rattle.mlir_work_transforms.specs.registry.Replies.{is_accepted};
 ghost use Rattle.mlir_work_transforms.specs.registry.Registry.{registry_model};
 ghost use Rattle.mlir_work_session.specs.Machine.{IsContextFull, response_of, told_if, session_setting};
-ghost use Rattle.mlir_work_session.specs.RuleLists.{RunsListCommand, ListCommandHeadroom, Mixes, list_command_of};
+ghost use Rattle.mlir_work_session.specs.RuleLists.{RunsListCommand, ListCommandHeadroom, MixesUnless, is_unproved, list_command_of};
 ghost use Rattle.mlir_work_session.specs.ListCommandViews.{list_command_view};
 
 use crate::options::SessionOptions;
@@ -38,10 +38,12 @@ use mlir_work_transforms::trace_lines::TraceLines;
 use mlir_work_transforms::unproved::unproved_of;
 use std::alloc::Global;
 
-/// A rule list that names a registered pattern, with its limit and whether each rewrite is traced.
+/// A rule list that names a registered pattern, with its limit and whether each rewrite is traced. If `proved`, the
+/// command is refused unless checks prove all patterns of the list for the module.
 #[derive(Clone, Copy)]
 pub(crate) struct ListRewrite<'a> {
     pub(crate) rules: &'a [u8],
+    pub(crate) proved: bool,
     pub(crate) limit: Option<u32>,
     pub(crate) tells: bool,
 }
@@ -54,16 +56,23 @@ fn list_rewrite<'a>(
     ensures { option_map list_command_view result ≡ list_command_of (order_of session_command.now) (registry_model registry.now) }
 {
     let list_command = match session_command {
-        SessionCommand::Rewrite { rules, limit } => ListRewrite {
+        SessionCommand::Rewrite {
             rules,
+            proved,
+            limit,
+        } => ListRewrite {
+            rules,
+            proved: *proved,
             limit: *limit,
             tells: false,
         },
         SessionCommand::Trace {
             rules: Some(rules),
+            proved,
             limit,
         } => ListRewrite {
             rules,
+            proved: *proved,
             limit: *limit,
             tells: true,
         },
@@ -120,8 +129,16 @@ fn rewrite_telling<L: Analysis>(
     trace_reply(alloc, lines, called)
 }
 
+/// Returns whether a command that asks for proved patterns is refused because of these lines.
+fn is_refused(proved: bool, lines: &[u8]) -> bool
+    ensures { result ≡ (proved && not (length lines.now == 0)) }
+{
+    proved && !lines.is_empty()
+}
+
 /// Rewrites by the rules and patterns of a list, and shows a line for each pattern that no check proves for the
-/// module. Refused with `NoSuchKey` if a name is neither a rule nor a pattern.
+/// module. Refused with `NoSuchKey` if a name is neither a rule nor a pattern, and with `NotProved` if there is a line
+/// and the command asks for proved patterns.
 fn rewrite_list_command<L: Analysis>(
     alloc: Global,
     session_options: &SessionOptions,
@@ -130,16 +147,12 @@ fn rewrite_list_command<L: Analysis>(
     list_command: &ListRewrite<'_>,
 ) -> ShownReply
     requires { AgreesOrStale L.meaning bench.old }
-    ensures mixes { Mixes session_options.now (registry_model registry.now) (list_command_view list_command.now) (state_of L.meaning bench.old) (response_of result.reply) result.shows.items (state_of L.meaning bench.new) }
+    ensures mixes { MixesUnless (is_unproved (registry_model registry.now) (list_command_view list_command.now) (state_of L.meaning bench.old).held) session_options.now (registry_model registry.now) (list_command_view list_command.now) (state_of L.meaning bench.old) (response_of result.reply) result.shows.items (state_of L.meaning bench.new) }
     ensures headroom { ListCommandHeadroom (IsFull bench.new.transaction.ctx) session_options.now (registry_model registry.now) (list_command_view list_command.now) (state_of L.meaning bench.old) (response_of result.reply) }
     ensures kept { AgreesOrStale L.meaning bench.new }
     ensures mode { bench.new.transaction.ctx.opaque ≡ bench.old.transaction.ctx.opaque }
 {
-    let RuleList { candidates, names } = match parse_rule_list(
-        alloc,
-        registry,
-        list_command.rules,
-    ) {
+    let rule_list = match parse_rule_list(alloc, registry, list_command.rules) {
         Ok(Some(rule_list)) => rule_list,
         Ok(None) => return reply_only(alloc, Reply::Refused(Refusal::NoSuchKey)),
         Err(refusal) => return reply_only(alloc, Reply::Refused(refusal)),
@@ -147,6 +160,13 @@ fn rewrite_list_command<L: Analysis>(
     let Ok(text) = unproved_of(alloc, bench.world(), registry, list_command.rules) else {
         return reply_only(alloc, Reply::Refused(Refusal::Memory));
     };
+    if is_refused(list_command.proved, &text) {
+        return ShownReply {
+            reply: Reply::Refused(Refusal::NotProved),
+            shows: text,
+        };
+    }
+    let RuleList { candidates, names } = rule_list;
     let lines = TraceLines { text, names };
     let limit = limit_of(session_options, list_command.limit);
     if list_command.tells {

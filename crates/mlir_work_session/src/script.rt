@@ -10,7 +10,7 @@ ghost use Rattle.mlir_work_transforms.specs.registry.Notices.{IsWithin, notice_o
 ghost use Rattle.mlir_work_session.specs.Explained.{IsAbout, about_bytes};
 ghost use Rattle.mlir_work_transforms.specs.registry.Registry.{registry_model};
 ghost use Rattle.mlir_work_session.specs.Machine.{session_setting};
-ghost use Rattle.mlir_work_session.specs.RuleLists.{RunsListCommand, list_command_of};
+ghost use Rattle.mlir_work_session.specs.WhyPatterns.{RunsNamedCommand, asked_pattern};
 ghost use Rattle.mlir_work_session.specs.Output.{IsAnswered, IsReplied, Replies, Runs, accepted_after as still_accepted, asks as asks_to};
 ghost use Rattle.mlir_work_session.specs.Output.{end_of, number_after as next_number, order_asks, says_nothing, shows_alone};
 ghost use Rattle.mlir_work_session.specs.Ran.{RanOut};
@@ -21,7 +21,7 @@ use crate::notes::{Note, explained};
 use crate::options::SessionOptions;
 use crate::pattern_commands::answer_command;
 use crate::reply::Reply;
-use crate::rule_lists::run_list_command;
+use crate::why_patterns::run_named_command;
 use ir_event::analysis::Analysis;
 use ir_event::types::refusal::Refusal;
 use mlir_work_script::command::{Command, Line, read_line};
@@ -108,12 +108,12 @@ fn answer_session_command<L: AnalysisSource>(
     session_command: &SessionCommand<'_>,
 ) -> ShownResponse
     requires { AgreesOrStale L.meaning bench.old }
-    ensures fulfils { ByBench (λ response u. RunsListCommand (session_setting L.supply session_options.now) (registry_model registry.now) (list_command_of (order_of session_command.now) (registry_model registry.now)) (state_of L.meaning bench.old) (order_of session_command.now) response result.shows.items u) (sitting_of L.meaning bench.old registry.now) (notice_of result.notice) (sitting_of L.meaning bench.new registry.now) }
+    ensures fulfils { ByBench (λ response u. RunsNamedCommand (session_setting L.supply session_options.now) (registry_model registry.now) (asked_pattern (order_of session_command.now) (registry_model registry.now)) (state_of L.meaning bench.old) (order_of session_command.now) response result.shows.items u) (sitting_of L.meaning bench.old registry.now) (notice_of result.notice) (sitting_of L.meaning bench.new registry.now) }
     ensures bounded { IsWithin session_options.now.bytes (notice_of result.notice) }
     ensures kept { AgreesOrStale L.meaning bench.new }
     ensures mode { bench.new.transaction.ctx.opaque ≡ bench.old.transaction.ctx.opaque }
 {
-    let answered = run_list_command(alloc, session_options, bench, registry, session_command);
+    let answered = run_named_command(alloc, session_options, bench, registry, session_command);
     ShownResponse {
         notice: Response::RewriterReply(answered.reply),
         shows: answered.shows,

@@ -92,13 +92,13 @@ pub fn run_session_command<L: AnalysisSource>(
         ),
         SessionCommand::PrintIds => show_ids(alloc, bench),
         SessionCommand::ReportAbout { kind, subject } => show_about(alloc, bench, *kind, subject),
-        SessionCommand::Rewrite { rules, limit } => {
+        SessionCommand::Rewrite { rules, limit, .. } => {
             reply_only(
                 alloc,
                 transforming::rewrite(alloc, session_options, bench, rules, *limit),
             )
         }
-        SessionCommand::Trace { rules, limit } => tracing::trace(
+        SessionCommand::Trace { rules, limit, .. } => tracing::trace(
             alloc,
             session_options,
             bench,

@@ -58,7 +58,7 @@ fn canon<L: Analysis>(
     limit: Option<u32>,
 ) -> ShownReply
     requires { AgreesOrStale L.meaning bench.old }
-    ensures fulfils { (supply : Bool → ℕ → Option Shown) → RunsSessionCommand (session_setting supply session_options.now) (state_of L.meaning bench.old) (Trace None limit) (response_of result.reply) result.shows.items (state_of L.meaning bench.new) }
+    ensures fulfils { (supply : Bool → ℕ → Option Shown) (proved : Bool) → RunsSessionCommand (session_setting supply session_options.now) (state_of L.meaning bench.old) (Trace None proved limit) (response_of result.reply) result.shows.items (state_of L.meaning bench.new) }
     ensures headroom { (f : Transformation) → tracing None (limit_or session_options.now.limit limit) ≡ Some f → IsContextFull (IsFull bench.new.transaction.ctx) (state_of L.meaning bench.old) f (response_of result.reply) }
     ensures kept { AgreesOrStale L.meaning bench.new }
     ensures mode { bench.new.transaction.ctx.opaque ≡ bench.old.transaction.ctx.opaque }
@@ -78,7 +78,7 @@ fn rewrite<L: Analysis>(
     limit: Option<u32>,
 ) -> ShownReply
     requires { AgreesOrStale L.meaning bench.old }
-    ensures fulfils { (supply : Bool → ℕ → Option Shown) → RunsSessionCommand (session_setting supply session_options.now) (state_of L.meaning bench.old) (Trace (Some (names_of rules.now)) limit) (response_of result.reply) result.shows.items (state_of L.meaning bench.new) }
+    ensures fulfils { (supply : Bool → ℕ → Option Shown) (proved : Bool) → RunsSessionCommand (session_setting supply session_options.now) (state_of L.meaning bench.old) (Trace (Some (names_of rules.now)) proved limit) (response_of result.reply) result.shows.items (state_of L.meaning bench.new) }
     ensures headroom { (f : Transformation) → tracing (Some (names_of rules.now)) (limit_or session_options.now.limit limit) ≡ Some f → IsContextFull (IsFull bench.new.transaction.ctx) (state_of L.meaning bench.old) f (response_of result.reply) }
     ensures kept { AgreesOrStale L.meaning bench.new }
     ensures mode { bench.new.transaction.ctx.opaque ≡ bench.old.transaction.ctx.opaque }
@@ -109,7 +109,7 @@ pub(crate) fn trace<L: Analysis>(
     limit: Option<u32>,
 ) -> ShownReply
     requires { AgreesOrStale L.meaning bench.old }
-    ensures fulfils { (supply : Bool → ℕ → Option Shown) → RunsSessionCommand (session_setting supply session_options.now) (state_of L.meaning bench.old) (Trace (option_map names_of (option_copied rules.entry)) limit) (response_of result.reply) result.shows.items (state_of L.meaning bench.new) }
+    ensures fulfils { (supply : Bool → ℕ → Option Shown) (proved : Bool) → RunsSessionCommand (session_setting supply session_options.now) (state_of L.meaning bench.old) (Trace (option_map names_of (option_copied rules.entry)) proved limit) (response_of result.reply) result.shows.items (state_of L.meaning bench.new) }
     ensures headroom { (f : Transformation) → tracing (option_map names_of (option_copied rules.entry)) (limit_or session_options.now.limit limit) ≡ Some f → IsContextFull (IsFull bench.new.transaction.ctx) (state_of L.meaning bench.old) f (response_of result.reply) }
     ensures kept { AgreesOrStale L.meaning bench.new }
     ensures mode { bench.new.transaction.ctx.opaque ≡ bench.old.transaction.ctx.opaque }

@@ -116,7 +116,7 @@ pub(crate) fn rewrite<L: Analysis>(
     limit: Option<u32>,
 ) -> Reply
     requires { AgreesOrStale L.meaning bench.old }
-    ensures fulfils { (supply : Bool → ℕ → Option Shown) → RunsSessionCommand (session_setting supply session_options.now) (state_of L.meaning bench.old) (Rewrite (names_of rules.now) limit) (response_of result) [] (state_of L.meaning bench.new) }
+    ensures fulfils { (supply : Bool → ℕ → Option Shown) (proved : Bool) → RunsSessionCommand (session_setting supply session_options.now) (state_of L.meaning bench.old) (Rewrite (names_of rules.now) proved limit) (response_of result) [] (state_of L.meaning bench.new) }
     ensures headroom { (f : Transformation) → rewriting_named (names_of rules.now) (limit_or session_options.now.limit limit) ≡ Some f → IsContextFull (IsFull bench.new.transaction.ctx) (state_of L.meaning bench.old) f (response_of result) }
     ensures kept { AgreesOrStale L.meaning bench.new }
     ensures mode { bench.new.transaction.ctx.opaque ≡ bench.old.transaction.ctx.opaque }

@@ -33,7 +33,7 @@ use mlir_work_transforms::why::match_failure as lines_of;
 use std::alloc::Global;
 
 /// Returns whether an operation is in the module.
-fn is_in(world: &World, op: OpId) -> bool
+pub(crate) fn is_in(world: &World, op: OpId) -> bool
     ensures { result ≡ has_id op (module_in world.now).tree }
 {
     world.store.in_tree(op)

@@ -7,6 +7,7 @@ pub mod ConvertText
 pub mod TraceLaws
 pub mod Sweep
 pub mod WhyText
+pub mod WhyPattern
 pub mod Erasing
 pub mod Interned
 pub use Rattle.conversion.specs.Converting

@@ -18,6 +18,7 @@ pub mod laws;
 pub mod named_patterns;
 mod names;
 mod narrow;
+mod pattern_sites;
 pub mod rewrite;
 pub mod rule_items;
 pub mod rule_list;
@@ -28,6 +29,8 @@ pub mod trace;
 pub mod trace_lines;
 pub mod unproved;
 pub mod why;
+pub mod why_pattern;
+mod why_values;
 
 pub use conversion::{fault, rewriter};
 pub use greedy;

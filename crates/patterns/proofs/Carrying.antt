@@ -19,7 +19,7 @@ use Rattle.patterns_lowering.specs.RewriterCalls.{Benched, Journaled}
 use Rattle.patterns_lowering.specs.Contents.{Edit, all_edited}
 use Rattle.patterns_lowering.specs.Held.{TransactionModel, module_held}
 use Rattle.patterns_lowering.specs.Runs.{Along}
-use Rattle.patterns_lowering.specs.Lists.{IsWhy}
+use Rattle.patterns_lowering.specs.Lists.{Free, IsWhy}
 use Rattle.patterns_lowering.proofs.Journals.{recorded_none}
 use Rattle.patterns_soundness.specs.base.Makes.{made_by}
 use Rattle.patterns_soundness.specs.base.Rewrites.{becomes, refused, carried_out}
@@ -127,6 +127,11 @@ module _ (w : World) (h : TransactionModel) (ctx : w.ctx ≡ h.ctx) (store : w.s
     was_carried g after made same due e =
         unlimited es (module_held h) k (makes ∙ sym count) no_reason
         ∙ ap becomes (sym (e ∙ λ i. all_edited ((due ∙ ap (λ j. planned_edits h.ctx j x p) (sym same_next)) i) (same i)))
+
+    -- none of the edits is refused
+    pub due_free : IsFree es (module_held h) → (g : TransactionModel) (made : List Edit) → module_held g ≡ module_held h → made ≡ planned_edits h.ctx n x p → Free made (module_held g)
+    due_free free g made same due =
+        subst (λ (z : List Edit × Module). Free z.0 z.1) (λ i. (sym (due ∙ ap (λ j. planned_edits h.ctx j x p) (sym same_next)) i, sym same i)) (free (all_edited es (module_held h)) (unlimited es (module_held h) k (makes ∙ sym count) no_reason))
 
     -- the edits are refused only if memory runs out
     pub wanting : IsFree es (module_held h) → (g : TransactionModel) (made : List Edit) (e : Refusal) → module_held g ≡ module_held h → made ≡ planned_edits h.ctx n x p → IsWhy made (module_held g) e → e ≡ Memory

@@ -14,7 +14,7 @@ use ir_event::analysis::Analysis;
 use ir_event::types::ids::OpId;
 use ir_event::types::refusal::Refusal;
 use patterns_lowering::Bench;
-use patterns_lowering::apply_edits::apply_edits;
+use patterns_lowering::apply_unchecked::apply_unchecked;
 use std::alloc::Global;
 
 /// Carries out the plan of a rule at `op`. If it is refused, the module, its marks and the journal stay the same. No
@@ -50,7 +50,7 @@ pub(crate) fn apply_plan<L: Analysis>(
         Err(refusal) => return Err(refusal),
     };
     bench.is_wellformed();
-    match apply_edits(bench, &edits) {
+    match apply_unchecked(bench, &edits) {
         Ok(()) => Ok(()),
         Err(refusal) => Err(refusal),
     }

@@ -18,5 +18,6 @@ pub mod Named
 pub mod Requested
 pub mod Journals
 pub mod Carrying
+pub mod Freely
 pub mod Free
 pub use Rattle.rewriter.proofs as of_rewriter

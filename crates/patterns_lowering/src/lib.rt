@@ -3,6 +3,7 @@
 #![tactic(auto)]
 
 pub mod apply_edits;
+pub mod apply_unchecked;
 mod bare;
 mod choices;
 pub mod count;
@@ -23,6 +24,7 @@ pub mod plan;
 pub mod plans;
 mod reading;
 mod single;
+mod single_unchecked;
 mod users;
 
 pub use patterns_base::edit;

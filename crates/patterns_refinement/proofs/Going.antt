@@ -23,7 +23,7 @@ use Rattle.patterns_laws.proofs.KnownFolds.{given_at, given_some}
 use Rattle.user_patterns_data.specs.declared.pattern.PatternOp.{PatternOp}
 use Rattle.user_patterns_data.specs.Fitting.{content_with, fits, extra_step, kind_at, number_step, pattern_op_step}
 use Rattle.user_patterns_data.specs.Matching.{Header, Standing, bound, nothing, ops_match, placed, standing, types_at, written}
-use Rattle.user_patterns_data.specs.Planning.{Plan, all_made, constants_known, extra_known, extra_place, kind_standing, new_place, old_place, outcomes, places, planned, planned_by, planned_from, typed}
+use Rattle.user_patterns_data.specs.Planning.{Plan, all_made, constants_known, extra_known, extra_place, is_numeric, kind_standing, new_place, old_place, outcomes, places, planned, planned_by, planned_from, typed}
 use Rattle.user_patterns_data.specs.Shapes.{PatternModel}
 use Rattle.user_patterns_data.specs.WellFormed.{requested_stands, preceding_stands, extra_stands, is_new, is_type, is_variable, is_well_formed, kind_stands, new_begins, new_ends, news_stand, numbers_stand, old_begins, olds_stand, sides_stand}
 use Rattle.user_patterns_build.specs.CanBuild.{can_build, is_named, result_type, same_number, spares}
@@ -81,7 +81,8 @@ module _ (t : Operation) (verified : Header → Bool) (n : ℕ) (p : PatternMode
   plan_parts : (b : Standing Value) (ts : Standing TypeTerm) (os : List Operation) (v : Value) → planned_by t verified n p b ts ≡ Some (os, v) → IsPlanned b ts os v
   plan_parts b ts os v e =
       let ks = map kind_standing ts in
-      let w = when_is (fits ks p && constants_known t verified n p b) (given (run (Content.given (content_with ks p)) (outcomes t verified n p 0 p.values b)) (planned_from t verified n p b ts)) (os, v) e in
+      let a = when_is (list_all is_numeric ts) _ (os, v) e in
+      let w = when_is (fits ks p && constants_known t verified n p b) (given (run (Content.given (content_with ks p)) (outcomes t verified n p 0 p.values b)) (planned_from t verified n p b ts)) (os, v) a.1 in
       let parts = and_parts (fits ks p) (constants_known t verified n p b) w.0 in
       let g = given_some (run (Content.given (content_with ks p)) (outcomes t verified n p 0 p.values b)) (planned_from t verified n p b ts) (os, v) w.1 in
       let f = when_is (extra_known t verified n p (extra_place p) p.extra b g.0) (given (all_made ts g.0 n (new_place p) p.new b) (λ (r : List Operation × Standing Value). given (standing p.result r.1) (λ v. Some (r.0, v)))) (os, v) g.2 in

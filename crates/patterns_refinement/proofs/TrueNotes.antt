@@ -1,31 +1,34 @@
 -- The notes of a registry that changes of a session made are true, so the laws of proved patterns cover its patterns.
 use Rattle.std.proofs.Common.{◌≡◌, ◌∙◌, ℕ, zero, suc, ◌≤◌, Bool, true, true≢false, false, cond, not, if◌then◌else◌, List, [], ◌∷◌, ◌++◌, Option, Some, None, Ok, Err, refl, sym, ap, subst, arith, inl, inr, ◌⊎◌}
+use Rattle.std.specs.Prelude.{slice_set}
 use Rattle.std.specs.List.{AllByRecursion}
 use Rattle.std.proofs.lemmas.Bool.{or_cases}
 use Rattle.std.proofs.lemmas.List.Elements.{recursion_from_All}
 use Rattle.std.proofs.lemmas.Option.{none-some, same_Some}
 use Rattle.std.proofs.lemmas.Slice.Eq.{bytes_eq-Decides}
 use Rattle.user_patterns_data.specs.Shapes.{PatternModel}
+use Rattle.user_patterns_text.specs.Parts as parts
 use Rattle.user_patterns_text.specs.Refusing.{Outcome, ◌>>=◌, begins}
 use Rattle.user_patterns_text.specs.Rendered.{whole_at}
 use Rattle.user_patterns_widths.specs.AllWidths.{holds_at_all_widths}
 use Rattle.user_patterns_widths.specs.Lasting.{PolynomialsKeep}
 use Rattle.user_patterns_claims.specs.Outcomes.{HoldsAtAllWidths}
+use Rattle.user_patterns_registry.specs.Changes.{Changes, ChangesTo, Defines, IsFoundToHold, IsReached, Records, Removes, Replaces}
 use Rattle.user_patterns_registry.specs.CheckResult.{default_most, is_small, requested_width, widest}
 use Rattle.user_patterns_registry.specs.declared.check_result.CheckSummary.{CheckSummary}
 use Rattle.user_patterns_registry.specs.declared.check_result.CheckSummary.TheVariants as summary
-use Rattle.user_patterns_registry.specs.Registry.{AreApart, ForgettingKeepsARegistry, IsReady, IsRegistry, Kept, NotingKeepsARegistry, RegistryModel, StaysARegistry, added, and_kept, defined, forgotten, found, headroom_for, is_named, kept_as, kept_of, noted, noted_one, shape_of, variables_of, with_said}
+use Rattle.user_patterns_registry.specs.Registry.{AreApart, ForgettingKeepsARegistry, IsReady, IsRegistry, Kept, NotingKeepsARegistry, RegistryModel, ReplacingKeepsARegistry, StaysARegistry, added, and_kept, defined, forgotten, found, headroom_for, is_named, kept_as, kept_of, noted, noted_one, shape_of, variables_of, with_said}
 use Rattle.greedy.specs.PatternSet.{RuleOrPatternModel, OfOwn, OfRule}
 use Rattle.patterns_refinement.specs.RuleListRuns.{HoldsForAllWidths}
 use Rattle.patterns_refinement.specs.ForOutcomes.{HoldsForOutcomes, ProvedApplyRefines, ProvedRewriteRefines, is_sound_form}
 use Rattle.patterns_refinement.specs.ForOutcomesSamples.{PoisonRefutes}
 use Rattle.patterns_refinement.specs.CanonLists.{CanonListsRefine, IsNotedOrCanonical, IsProvedOrCanonical, NotedCanonListsRefine}
-use Rattle.patterns_refinement.specs.Noted.{ChangesTo, Defines, IsChecked, IsReached, IsTrulyNoted, NotedApplyRefines, NotedAreProved, NotedRewriteRefines, NotesAreTrue, Records, Removes, WrongIsNeverNoted, IsTried, is_covered}
+use Rattle.patterns_refinement.specs.Noted.{IsTrulyNoted, NotedApplyRefines, NotedAreProved, NotedRewriteRefines, NotesAreTrue, WrongIsNeverNoted, IsTried, is_covered}
 use Rattle.patterns_refinement.proofs.StrictLaws.{registered_proper}
 
 -- ---- the patterns of a registry
 abbrev IsTrue : Kept → Type 0
-IsTrue k = k.said ≡ Some summary.AllWidths → IsChecked k
+IsTrue k = k.said ≡ Some summary.AllWidths → IsFoundToHold k
 
 abbrev AllTrue : RegistryModel → Type 0
 AllTrue ks = AllByRecursion IsTrue ks
@@ -52,18 +55,24 @@ record Fresh (b new : RegistryModel) : Type 0 where
   pub is : b ++ (last ∷ []) ≡ new
   pub unsaid : last.said ≡ None
 
+-- the entry of a parsed pattern has no summary
+kept_unsaid : (p : parts.Pattern) (k : Kept) → kept_of p ≡ Ok k → k.said ≡ None
+unfolding kept_of
+kept_unsaid p k h =
+    let vs = bound_ok (variables_of p) (λ vs. shape_of p >>= λ t. Ok (kept_as p vs t)) k h in
+    let t = bound_ok (shape_of p) (λ t. Ok (kept_as p vs.0 t)) k vs.2 in
+    sym (ap (λ (k : Kept). k.said) (ok_same (kept_as p vs.0 t.0) k (Ok (kept_as p vs.0 t.0)) (Ok k) refl refl t.2))
+
 defined_fresh : (b new : RegistryModel) (text : List ℕ) → defined b text ≡ Ok new → Fresh b new
-unfolding defined kept_of
+unfolding defined
 defined_fresh b new text h =
     let p = bound_ok (whole_at text) (λ p. headroom_for p.name (begins text) b >>= λ _. added b p) new h in
     let r = bound_ok (headroom_for p.0.name (begins text) b) (λ _. added b p.0) new p.2 in
     let k = bound_ok (kept_of p.0) (λ k. Ok (and_kept b k)) new r.2 in
-    let vs = bound_ok (variables_of p.0) (λ vs. shape_of p.0 >>= λ t. Ok (kept_as p.0 vs t)) k.0 k.1 in
-    let t = bound_ok (shape_of p.0) (λ t. Ok (kept_as p.0 vs.0 t)) k.0 vs.2 in
     record {
       last = k.0;
       is = ok_same (and_kept b k.0) new (Ok (and_kept b k.0)) (Ok new) refl refl k.2;
-      unsaid = sym (ap (λ (k : Kept). k.said) (ok_same (kept_as p.0 vs.0 t.0) k.0 (Ok (kept_as p.0 vs.0 t.0)) (Ok k.0) refl refl t.2));
+      unsaid = kept_unsaid p.0 k.0 k.1;
     }
 
 added_true : (ks : RegistryModel) (k : Kept) → AllTrue ks → k.said ≡ None → AllTrue (ks ++ (k ∷ []))
@@ -84,7 +93,7 @@ module _ (name : List ℕ) (said : CheckSummary) where
       go more false i e = (subst IsTrue (ap (λ b. if b then with_said said j else j) (sym i)) all.0, more e)
 
   -- one pattern has the name, and the summary is true of it
-  noted_true : (ks : RegistryModel) → AllTrue ks → AreApart ks → (k : Kept) → found name ks ≡ Some k → (said ≡ summary.AllWidths → IsChecked k) → AllTrue (noted name said ks)
+  noted_true : (ks : RegistryModel) → AllTrue ks → AreApart ks → (k : Kept) → found name ks ≡ Some k → (said ≡ summary.AllWidths → IsFoundToHold k) → AllTrue (noted name said ks)
   unfolding found
   noted_true [] all apart k e right = tt
   noted_true (j ∷ ks) all apart k e right = go (λ e. others_true ks all.1 e) (λ e. noted_true ks all.1 apart.1 k e right) (is_named name j) refl e
@@ -95,7 +104,7 @@ module _ (name : List ℕ) (said : CheckSummary) where
           let same : with_said said j ≡ noted_one name said j = ap (λ b. if b then with_said said j else j) (sym i) in
           let is : j ≡ k = same_Some _ _ e in
           let its : j.name ≡ name = (bytes_eq-Decides j.name name).0 i in
-          let one : IsTrue (with_said said j) = (λ f. subst IsChecked (sym is) (right (same_Some _ _ f))) in
+          let one : IsTrue (with_said said j) = (λ f. subst IsFoundToHold (sym is) (right (same_Some _ _ f))) in
           (subst IsTrue same one, others (ap (λ n. found n ks) (sym its) ∙ apart.0))
       go others more false i e = (subst IsTrue (ap (λ b. if b then with_said said j else j) (sym i)) all.0, more e)
 
@@ -108,8 +117,14 @@ forgotten_true name (k ∷ ks) all = go (not (is_named name k)) (forgotten_true 
     go true more = (all.0, more)
     go false more = more
 
+-- ---- a replaced pattern
+set_true : (ks : RegistryModel) (i : ℕ) (k : Kept) → AllTrue ks → k.said ≡ None → AllTrue (slice_set ks i k)
+set_true [] i k all e = tt
+set_true (j ∷ ks) zero k all e = ((λ f. absurd (none-some summary.AllWidths (sym e ∙ f))), all.1)
+set_true (j ∷ ks) (suc i) k all e = (all.0, set_true ks i k all.1 e)
+
 -- ---- changes
-module _ (stays : StaysARegistry) (noting : NotingKeepsARegistry) (forgetting : ForgettingKeepsARegistry) where
+module _ (stays : StaysARegistry) (noting : NotingKeepsARegistry) (forgetting : ForgettingKeepsARegistry) (replacing : ReplacingKeepsARegistry) where
   abbrev Good : RegistryModel → Type 0
   Good b = IsRegistry b × AllTrue b
 
@@ -124,10 +139,15 @@ module _ (stays : StaysARegistry) (noting : NotingKeepsARegistry) (forgetting : 
   recorded_good : (b c : RegistryModel) → Good b → Records b c → Good c
   recorded_good b c g r = subst Good (sym r.5) (noting b r.0 r.2 g.0, noted_true r.0 r.2 b g.1 (IsRegistry.apart g.0) r.1 r.3 r.4)
 
-  one_good : (b c : RegistryModel) → Good b → Defines b c ⊎ (Removes b c ⊎ Records b c) → Good c
+  replaced_good : (b c : RegistryModel) → Good b → Replaces b c → Good c
+  replaced_good b c g r =
+      subst Good (sym r.7) (replacing b r.1 r.2 r.3 g.0 r.5 r.6, set_true b r.2 r.3 g.1 (kept_unsaid r.1 r.3 r.5))
+
+  one_good : (b c : RegistryModel) → Good b → Changes b c → Good c
   one_good b c g (inl d) = defined_good b c g d
   one_good b c g (inr (inl r)) = removed_good b c g r
-  one_good b c g (inr (inr r)) = recorded_good b c g r
+  one_good b c g (inr (inr (inl r))) = recorded_good b c g r
+  one_good b c g (inr (inr (inr r))) = replaced_good b c g r
 
   all_good : (k : ℕ) (b c : RegistryModel) → Good b → ChangesTo k b c → Good c
   all_good zero b c g changes = subst Good changes g

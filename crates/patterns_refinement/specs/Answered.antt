@@ -5,6 +5,7 @@ use Rattle.ir_tree_laws.specs.Members.{In}
 use Rattle.ir_event.specs.Modules.{Module}
 use Rattle.rewriter_machine.specs.Machine as call
 use Rattle.rewriter_machine.specs.Machine.{Goes, Reply, Shows, State, Transformation}
+use Rattle.user_patterns_registry.specs.Changes.{IsReached}
 use Rattle.user_patterns_registry.specs.Registry.{RegistryModel}
 use Rattle.greedy.specs.Changes.{canonicalizing, rewriting}
 use Rattle.greedy.specs.PatternSet.{RuleOrPatternModel, by_attempts}
@@ -12,7 +13,7 @@ use Rattle.patterns_refinement.specs.Keeping.{IsReady}
 use Rattle.patterns_refinement.specs.Canonical.{IsPlain}
 use Rattle.patterns_refinement.specs.Refining.{IsRefinedBy}
 use Rattle.patterns_refinement.specs.ForOutcomes.{IsInRange}
-use Rattle.patterns_refinement.specs.Noted.{IsNotedIn, IsReached}
+use Rattle.patterns_refinement.specs.Noted.{IsNotedIn}
 use Rattle.patterns_refinement.specs.CanonLists.{IsNotedOrCanonical}
 
 -- module n is ready and in range, and refines m, as an observer sees it

@@ -4,6 +4,7 @@ use Rattle.std.specs.Prelude.{◌≡◌, ◌⊎◌, ℕ, List}
 use Rattle.ir_tree_laws.specs.Members.{In}
 use Rattle.ir_event.specs.Modules.{Module}
 use Rattle.patterns_base.specs.Canonicalization.{End, ended, greedy_rules}
+use Rattle.user_patterns_registry.specs.Changes.{IsReached}
 use Rattle.user_patterns_registry.specs.Registry.{RegistryModel}
 use Rattle.greedy.specs.Rewriting.{rewriting_of}
 use Rattle.greedy.specs.PatternSet.{RuleOrPatternModel, OfOwn, OfRule, by_attempts}
@@ -12,7 +13,7 @@ use Rattle.patterns_refinement.specs.Runs.{kept_rules}
 use Rattle.patterns_refinement.specs.Canonical.{IsPlain}
 use Rattle.patterns_refinement.specs.Refining.{IsRefinedBy}
 use Rattle.patterns_refinement.specs.ForOutcomes.{IsInRange, IsProved}
-use Rattle.patterns_refinement.specs.Noted.{IsNotedIn, IsReached}
+use Rattle.patterns_refinement.specs.Noted.{IsNotedIn}
 
 -- a listed rule, a rule of canonicalization, or a pattern that holds at all widths, by its form or for all outcomes
 abbrev pub IsProvedOrCanonical : RuleOrPatternModel → Type 0

@@ -1,5 +1,5 @@
 -- The notes of a pattern registry, and the modules after `apply` and `rewrite` by patterns that it notes as `holds`.
-use Rattle.std.specs.Prelude.{◌≡◌, ◌⊎◌, ℕ, zero, suc, List, [], Bool, true, ◌||◌, Some, None, Ok}
+use Rattle.std.specs.Prelude.{◌≡◌, ℕ, List, Bool, true, ◌||◌, Some, None}
 use Rattle.ir_event.specs.Modules.{Module}
 use Rattle.ir_tree_laws.specs.Members.{In}
 use Rattle.patterns_base.specs.Rewrites.{becomes}
@@ -9,11 +9,10 @@ use Rattle.user_patterns_check.specs.Families.{IsVerdict}
 use Rattle.user_patterns_data.specs.Fitting.{content_at}
 use Rattle.user_patterns_data.specs.Shapes.{PatternModel}
 use Rattle.user_patterns_widths.specs.AllWidths.{holds_at_all_widths}
-use Rattle.user_patterns_registry.specs.CheckResult.{IsCheckResult, requested_width}
-use Rattle.user_patterns_registry.specs.declared.check_result.CheckResult.TheVariants as result
-use Rattle.user_patterns_registry.specs.declared.check_result.CheckSummary.{CheckSummary}
+use Rattle.user_patterns_registry.specs.Changes.{IsFoundToHold, IsReached}
+use Rattle.user_patterns_registry.specs.CheckResult.{requested_width}
 use Rattle.user_patterns_registry.specs.declared.check_result.CheckSummary.TheVariants as summary
-use Rattle.user_patterns_registry.specs.Registry.{IsReady as CanBeApplied, Kept, RegistryModel, defined, forgotten, found, noted}
+use Rattle.user_patterns_registry.specs.Registry.{IsReady as CanBeApplied, Kept, RegistryModel, found}
 use Rattle.greedy.specs.Rewriting.{rewriting_of}
 use Rattle.greedy.specs.PatternSet.{RuleOrPatternModel, OfOwn, OfRule, by_attempts}
 use Rattle.patterns_refinement.specs.Keeping.{IsReady}
@@ -22,39 +21,13 @@ use Rattle.patterns_refinement.specs.Refining.{IsRefinedBy}
 use Rattle.patterns_refinement.specs.ForOutcomes.{IsInRange, IsProved, applied, is_sound_form}
 use Rattle.patterns_refinement.specs.ForOutcomesSamples.{choice_as_and}
 
--- ---- registries
-
--- what a check without a width says if its result is `holds` without a width
-abbrev pub IsChecked : Kept → Type 0
-IsChecked k = IsCheckResult k.shape None result.AllWidths
-
--- a pattern is defined, by a command or in a pattern file
-abbrev pub Defines : RegistryModel → RegistryModel → Type 0
-Defines b c = (text : List ℕ) × (defined b text ≡ Ok c)
-
--- a pattern is removed
-abbrev pub Removes : RegistryModel → RegistryModel → Type 0
-Removes b c = (name : List ℕ) × (c ≡ forgotten name b)
-
--- The summary of a check of a named pattern is recorded. It is `holds` without a width only if a check said so.
-abbrev pub Records : RegistryModel → RegistryModel → Type 0
-Records b c =
-    (name : List ℕ) × (k : Kept) × (said : CheckSummary) × (found name b ≡ Some k) × (said ≡ summary.AllWidths → IsChecked k) × (c ≡ noted name said b)
-
--- so many changes lead from one registry to another
-abbrev pub ChangesTo : ℕ → RegistryModel → RegistryModel → Type 0
-ChangesTo zero b c = b ≡ c
-ChangesTo (suc k) b c = (d : RegistryModel) × (Defines b d ⊎ (Removes b d ⊎ Records b d)) × ChangesTo k d c
-
--- a registry of a session: such changes lead to it from the empty one
-abbrev pub IsReached : RegistryModel → Type 0
-IsReached c = (k : ℕ) × ChangesTo k [] c
+-- ---- notes
 
 -- What the note `holds` without a width says. The pattern can be applied, and a check found that it holds at all
 -- widths: by its form, or by claims about the bits of all outcomes of its variables.
 pub record IsTrulyNoted (k : Kept) : Type 0 where
   pub applies : CanBeApplied k
-  pub checked : IsChecked k
+  pub checked : IsFoundToHold k
 
 -- the note is true of each pattern that has it
 abbrev pub NotesAreTrue : Type 0

@@ -10,7 +10,9 @@ use crate::proved::{
 };
 use crate::refined::observed_operations_are_refined;
 use crate::rule_refinement::canonicalization_keeps_what_is_computed;
-use user_patterns_registry::laws::{forgetting_keeps_the_others, what_is_defined_is_ready};
+use user_patterns_registry::laws::{
+    forgetting_keeps_the_others, replacing_keeps_the_others, what_is_defined_is_ready,
+};
 use user_patterns_widths::laws::polynomials_keep;
 
 /// In the registry of a session, a pattern that is noted as `holds` without a width can be applied, and a check found
@@ -22,6 +24,7 @@ pub fn noted_patterns_are_proved()
 {
     what_is_defined_is_ready();
     forgetting_keeps_the_others();
+    replacing_keeps_the_others();
     polynomials_keep();
 }
 

@@ -21,4 +21,5 @@ pub mod MarkLaws
 pub mod Outcomes
 pub mod Released
 pub mod NextTo
+mod Unchecked
 pub use Rattle.rewriter_machine.proofs.Numbers

@@ -1,6 +1,6 @@
 -- Edits that were made or refused.
 use Rattle.std.proofs.Common.{◌≡◌, ℕ, List, sym, subst, ap, Option, Some, None, true, inl, inr}
-use Rattle.std.specs.Prelude.{Result, Ok, Err, IfOk, OnOk, OnErr, MatchResult}
+use Rattle.std.specs.Prelude.{Result, Ok, Err, IfOk, IfErr, IsOk, OnOk, OnErr, MatchResult}
 use Rattle.ir_event.specs.types.declared.refusal.Refusal.{Refusal}
 use Rattle.ir_event.specs.types.Reasons.{IsRefusedFor}
 use Rattle.ir_event.specs.types.Things.{ContextModel}
@@ -130,3 +130,8 @@ answered_for (Some q) (Err r) is = (let same : q ≡ r = cc in inl (ap Some same
 pub answered_exactly : (takes : Type 0) (reason : Option Refusal) (made : Result Event Refusal) → MatchResult made (λ _. reason ≡ None) (λ e. reason ≡ Some e) → IsAnswered takes reason made
 answered_exactly takes reason (Ok e) is = is
 answered_exactly takes reason (Err r) is = inl is
+
+-- a call that is never refused
+pub never_refused : {W : Refusal → Type 0} (made : Result Event Refusal) → IsOk made → IfErr made W
+never_refused (Ok e) done = tt
+never_refused (Err r) done = absurd done

@@ -1,13 +1,13 @@
 //! Edits of one event each. The listeners are notified of the event.
-ghost use Rattle.std.specs.Prelude.{◌≡◌, ◌≢◌, [], Some, true, IfOk, OnOk, OnErr};
+ghost use Rattle.std.specs.Prelude.{◌≡◌, ◌≢◌, [], Some, None, true, IfOk, OnOk, OnErr};
 ghost use Rattle.ir_event.specs.types.Terms.{name_term};
 ghost use Rattle.ir_event.specs.types.Words.{is_table};
 ghost use Rattle.ir_event.specs.trees.Meaning.{IsSoundIn, isolated_in};
 ghost use Rattle.ir_event.specs.tree_laws.Reasons.{holds_none, put_reason};
 ghost use Rattle.ir_event.specs.tree_laws.Reasons.{set_operand_reason, shift_reason, take_reason};
 ghost use Rattle.ir_event.specs.store.Calls.{after_operand, after_put, after_shift, after_take};
-ghost use Rattle.rewriter.specs.Contents.{edit_meaning};
-ghost use Rattle.rewriter.specs.Edits.{Make, Move, SetOperand};
+ghost use Rattle.rewriter.specs.Contents.{edit_meaning, tests_in};
+ghost use Rattle.rewriter.specs.Edits.{Make, Move, SetOperand, reason_by};
 ghost use Rattle.rewriter.specs.Machine.{Do};
 ghost use Rattle.rewriter.specs.Moves.{IsAnswered};
 ghost use Rattle.rewriter.specs.RewriterCalls.{Does, JournalAfter, Led, Made, id_reply_of, reply_of};
@@ -121,6 +121,27 @@ impl<L: Analysis> Bench<L> {
         ensures journal { JournalAfter L.meaning result self.old self.new }
     {
         match self.transaction.shift(op, place) {
+            Err(refusal) => Err(refusal),
+            Ok(event) => {
+                self.panel.tell(self.transaction.world(), event);
+                settle(&mut self.transaction);
+                Ok(())
+            }
+        }
+    }
+
+    /// Moves `op`, with everything inside it, to `place`. Nothing is checked: the move has no reason for a refusal.
+    ///
+    /// Refusals: `Memory` if a mark is open.
+    pub fn move_unchecked(&mut self, op: OpId, place: Place) -> Result<(), Refusal>
+        requires { reason_by (tests_in self.old.transaction.ctx) (Move op place) self.old.transaction.store.module_of ≡ None }
+        ensures does { Does L.meaning (Do (edit_meaning self.old.transaction.ctx (Move op place)))
+            (reply_of result) self.old self.new }
+        ensures led { Led L.meaning self.old self.new }
+        ensures ctx { self.new.transaction.ctx ≡ self.old.transaction.ctx }
+        ensures journal { JournalAfter L.meaning result self.old self.new }
+    {
+        match self.transaction.shift_unchecked(op, place) {
             Err(refusal) => Err(refusal),
             Ok(event) => {
                 self.panel.tell(self.transaction.world(), event);

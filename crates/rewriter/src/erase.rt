@@ -58,8 +58,25 @@ impl<L: Analysis> Bench<L> {
         }
     }
 
-    /// Removes `op` and everything inside it from the module. The reasons for a refusal are checked first. If a mark is
-    /// open, the operations are taken out under a mark of this call.
+    /// Removes `op` and everything inside it from the module. Nothing is checked: erasing it has no reason for a
+    /// refusal. A refused call leaves the module unchanged.
+    ///
+    /// Refusals: `Memory` if a mark is open.
+    pub fn erase_unchecked(&mut self, op: OpId) -> Result<(), Refusal>
+        requires { reason_by (tests_in self.old.transaction.ctx) (Erase op) self.old.transaction.store.module_of ≡ None }
+        ensures does { Does L.meaning (Do (edit_meaning self.old.transaction.ctx (Erase op)))
+            (reply_of result) self.old self.new }
+        ensures led { Led L.meaning self.old self.new }
+        ensures ctx { self.new.transaction.ctx ≡ self.old.transaction.ctx }
+        ensures journal { JournalAfter L.meaning result self.old self.new }
+    {
+        match self.take(op) {
+            Ok(()) => Ok(()),
+            Err(_) => self.erase_inside(op),
+        }
+    }
+
+    /// Removes `op` and everything inside it from the module. The reasons for a refusal are checked first.
     fn erase_whole(&mut self, op: OpId) -> Result<(), Refusal>
         ensures does { Does L.meaning (Do (edit_meaning self.old.transaction.ctx (Erase op)))
             (reply_of result) self.old self.new }
@@ -68,10 +85,23 @@ impl<L: Analysis> Bench<L> {
         ensures journal { JournalAfter L.meaning result self.old self.new }
     {
         led_benches_are_kept::<L>();
-        self.is_wellformed();
         if let Some(refusal) = erase_fault(self.world(), op) {
             return Err(refusal);
         }
+        self.erase_inside(op)
+    }
+
+    /// Takes out `op` and the operations inside it. If a mark is open, they are taken out under a mark of this call.
+    fn erase_inside(&mut self, op: OpId) -> Result<(), Refusal>
+        requires { reason_by (tests_in self.old.transaction.ctx) (Erase op) self.old.transaction.store.module_of ≡ None }
+        ensures does { Does L.meaning (Do (edit_meaning self.old.transaction.ctx (Erase op)))
+            (reply_of result) self.old self.new }
+        ensures led { Led L.meaning self.old self.new }
+        ensures ctx { self.new.transaction.ctx ≡ self.old.transaction.ctx }
+        ensures journal { JournalAfter L.meaning result self.old self.new }
+    {
+        led_benches_are_kept::<L>();
+        self.is_wellformed();
         if !self.is_marked() {
             return take_all(self, op);
         }

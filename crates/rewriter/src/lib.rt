@@ -21,6 +21,7 @@ mod listeners;
 mod making;
 pub mod mark;
 mod marks;
+mod moving;
 mod read_in_module;
 mod release;
 pub mod replace;

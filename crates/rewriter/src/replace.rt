@@ -53,12 +53,28 @@ impl<L: Analysis> Bench<L> {
         ensures ctx { self.new.transaction.ctx ≡ self.old.transaction.ctx }
         ensures journal { JournalAfter L.meaning result self.old self.new }
     {
-        replacing_by_uses::<u32, u32, u32>();
         led_benches_are_kept::<L>();
-        self.is_wellformed();
         if let Some(refusal) = replace_fault(self.world(), &old, &new) {
             return Err(refusal);
         }
+        self.replace_unchecked(old, new)
+    }
+
+    /// Replaces all uses of `old` by `new`. Nothing is checked: the replacement has no reason for a refusal. A refused
+    /// call leaves the module unchanged.
+    ///
+    /// Refusals: `Memory` if a mark is open.
+    pub fn replace_unchecked(&mut self, old: Value, new: Value) -> Result<(), Refusal>
+        requires { reason_by (tests_in self.old.transaction.ctx) (Replace old new) self.old.transaction.store.module_of ≡ None }
+        ensures does { Does L.meaning (Do (edit_meaning self.old.transaction.ctx (Replace old new)))
+            (reply_of result) self.old self.new }
+        ensures led { Led L.meaning self.old self.new }
+        ensures ctx { self.new.transaction.ctx ≡ self.old.transaction.ctx }
+        ensures journal { JournalAfter L.meaning result self.old self.new }
+    {
+        replacing_by_uses::<u32, u32, u32>();
+        led_benches_are_kept::<L>();
+        self.is_wellformed();
         if is_same(&old, &new) {
             return Ok(());
         }

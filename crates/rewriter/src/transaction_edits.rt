@@ -1,6 +1,6 @@
 //! Edits of a transaction. Each edit first reserves capacity in the journal, so that recording an accepted edit can't
 //! fail.
-ghost use Rattle.std.specs.Prelude.{◌≡◌, ◌≢◌, [], Some, true, IfOk, IfSome, OnErr};
+ghost use Rattle.std.specs.Prelude.{◌≡◌, ◌≢◌, [], Some, None, true, IfOk, IfErr, IfSome, OnErr};
 ghost use Rattle.ir_event.specs.types.Terms.{name_term};
 ghost use Rattle.ir_event.specs.types.Things.{IsName, IsAttr};
 ghost use Rattle.ir_event.specs.types.Words.{is_table};
@@ -13,6 +13,7 @@ ghost use Rattle.rewriter_machine.specs.Journals.{HasNoStaleIds};
 ghost use Rattle.rewriter.specs.Moves.{Edited, IsAnswered};
 
 use crate::claims::{claim, note};
+use crate::moving::shift_unchecked;
 use crate::transaction::Transaction;
 use ir_event::event::Event;
 use ir_event::trees::place::{Part, Place};
@@ -129,6 +130,27 @@ impl Transaction {
         };
         self.world.ctx.sound();
         let made = self.world.shift(op, place);
+        note(&mut self.journal, &self.marks, &made);
+        made
+    }
+
+    /// Moves `op`, with everything inside it, to `place` and returns the event, without checks. The move has no reason
+    /// for a refusal.
+    ///
+    /// Refusals: `Memory` if a mark is open.
+    pub fn shift_unchecked(&mut self, op: OpId, place: Place) -> Result<Event, Refusal>
+        requires { shift_reason (isolated_in self.old.ctx)
+            (λ n. is_table (name_term self.old.ctx n)) op place self.old.store.module_of.tree ≡ None }
+        ensures ok { IfOk result (λ e. Edited e (after_shift op place self.old.store) self.old self.new) }
+        ensures err { OnErr result (self.new ≡ self.old) }
+        ensures refused { IfErr result (λ e. (e ≡ Refusal.Memory) × (self.old.marks ≢ [])) }
+        ensures tidy { HasNoStaleIds self.old.store → HasNoStaleIds self.new.store }
+    {
+        let Ok(()) = claim(&mut self.journal, &self.marks) else {
+            return Err(Refusal::Memory);
+        };
+        self.world.ctx.sound();
+        let made = shift_unchecked(&mut self.world, op, place);
         note(&mut self.journal, &self.marks, &made);
         made
     }

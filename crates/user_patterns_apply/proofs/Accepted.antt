@@ -4,7 +4,7 @@ use Rattle.std.specs.Prelude.{codes, eqb, nat_le, option_map, option_and_then}
 use Rattle.std.specs.List.{list_all, range_with_len}
 use Rattle.std.proofs.lemmas.Option.{slice_get-map, slice_get_within, same_Some}
 use Rattle.ir_event.specs.types.Words.{is_isolated}
-use Rattle.ir_event.specs.types.Terms.{TypeTerm, AttrTerm, Overflow}
+use Rattle.ir_event.specs.types.Terms.{TypeTerm}
 use Rattle.ir_event.specs.types.SameTypes.{same_type}
 use Rattle.ir_event.proofs.of_types.SameTerms.{type_is, type_refl}
 use Rattle.ir_event.specs.types.declared.refusal.Refusal.TheVariants.{Full, IdsExhausted}
@@ -30,14 +30,12 @@ use Rattle.patterns_base.proofs.Plans.{StandsAt, dominated_by}
 use Rattle.patterns_base.specs.Keeps.{given as given_base}
 use Rattle.patterns_base.specs.Looks.{insertion_of, is_verified}
 use Rattle.patterns_base.specs.Looks as looks
-use Rattle.patterns_base.specs.Made.{Entries, flags, made, value_entry}
+use Rattle.patterns_base.specs.Made.{Entries, made, value_entry}
 use Rattle.patterns_base.specs.Makes.{give, made_by}
-use Rattle.patterns_base.specs.Words.{among, flagged}
 use Rattle.patterns_base.specs.Rewrites.{becomes, carried_out, refused}
 use Rattle.patterns_soundness.proofs.Fit as fit
 use Rattle.patterns_soundness.proofs.Fit.{Fit}
 use Rattle.patterns_soundness.proofs.Given.{HasHeadroom}
-use Rattle.patterns_soundness.proofs.Shapes as shapes
 use Rattle.user_patterns_check.specs.Contents.{Content}
 use Rattle.user_patterns_check.specs.Outcomes.{Outcome, given, run}
 use Rattle.user_patterns_data.specs.declared.pattern.NewValue.{NewValue}

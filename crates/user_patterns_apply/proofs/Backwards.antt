@@ -1,13 +1,16 @@
 -- Pattern ops from the last to the first.
-use Rattle.std.proofs.Common.{◌≡◌, ℕ, ◌+◌, ◌-◌, ◌≤◌, ◌<◌, refl, ap, sym, ◌∙◌, subst, List, ◌∷◌, length, take, get_or, Bool, true, false, ◌&&◌, Option, None, arith}
+use Rattle.std.proofs.Common.{◌≡◌, ℕ, ◌+◌, ◌-◌, ◌≤◌, ◌<◌, refl, ap, sym, ◌∙◌, subst, List, ◌∷◌, length, take, get_or, Bool, true, false, Option, Some, None, arith}
+use Rattle.std.specs.Prelude.{is_none}
 use Rattle.ir_event.specs.trees.declared.value.Value.{Value}
 use Rattle.ir_event.specs.trees.Meaning.{Operation}
 use Rattle.user_patterns_check.specs.Outcomes.{given}
-use Rattle.user_patterns_data.specs.Matching.{Header, Standing, op_matches, ops_match, placed, standing}
+use Rattle.user_patterns_data.specs.Matching.{Standing, op_matches, ops_match, placed}
 use Rattle.dialects_int.specs.declared.operations.Cast.TheVariants.{Truncate}
 use Rattle.user_patterns_data.specs.declared.pattern.Expression.TheVariants as form
 use Rattle.user_patterns_data.specs.declared.pattern.PatternOp.{PatternOp}
-use Rattle.user_patterns_apply.specs.Matched.{all_verified, any, is_verified_value}
+use Rattle.user_patterns_apply.specs.Matched.{any}
+use Rattle.user_patterns_apply.specs.Mismatches.{Test, each, first_of, on_value, op_tests, ops_tests, unless}
+use Rattle.user_patterns_apply.specs.declared.mismatch.Mismatch.{Mismatch}
 use Rattle.user_patterns_apply.specs.Stands.{Stands}
 use Rattle.user_patterns_apply.proofs.Binding.{stands_no, stands_yes}
 use Rattle.user_patterns_apply.proofs.Placed.{placed_last}
@@ -22,15 +25,16 @@ module _ (t : Operation) (k : ℕ) (ps : List PatternOp) (left : ℕ) (some : 0 
       let one : left ≡ left - 1 + 1 = omega (arith, some) in
       ap (λ n. placed k (take n ps)) one ∙ placed_last k ps (left - 1) d (omega (arith, some, few))
 
-  module _ (verified : Header → Bool) (b : Standing Value) (total : Bool) (d : PatternOp) (same : all_verified t verified b (placed k (take left ps)) ≡ total) (v : Option Value) (at : v ≡ standing (k + (left - 1)) b) (r : Bool) (is : r ≡ is_verified_value t verified v) where
-    here : (r && all_verified t verified b (placed k (take (left - 1) ps))) ≡ total
-    here = ap (λ z. z && all_verified t verified b (placed k (take (left - 1) ps))) (is ∙ ap (is_verified_value t verified) at) ∙ sym (ap (all_verified t verified b) (last d)) ∙ same
+  -- a test of each pattern op
+  module _ (f : ℕ × PatternOp → Bool) (m : ℕ × PatternOp → Mismatch) (total : Test) (d : PatternOp) (same : each f m (placed k (take left ps)) ≡ total) (r : Bool) (is : r ≡ f (k + (left - 1), get_or ps (left - 1) d)) where
+    here : first_of (unless r (m (k + (left - 1), get_or ps (left - 1) d))) (each f m (placed k (take (left - 1) ps))) ≡ total
+    here = ap (λ z. first_of (unless z (m (k + (left - 1), get_or ps (left - 1) d))) (each f m (placed k (take (left - 1) ps)))) is ∙ sym (ap (each f m) (last d)) ∙ same
 
-    pub verified_stops : r ≡ false → false ≡ total
-    verified_stops e = ap (λ z. z && all_verified t verified b (placed k (take (left - 1) ps))) (sym e) ∙ here
+    pub each_stops : r ≡ false → Some (m (k + (left - 1), get_or ps (left - 1) d)) ≡ total
+    each_stops e = ap (λ z. first_of (unless z (m (k + (left - 1), get_or ps (left - 1) d))) (each f m (placed k (take (left - 1) ps)))) (sym e) ∙ here
 
-    pub verified_goes : r ≡ true → all_verified t verified b (placed k (take (left - 1) ps)) ≡ total
-    verified_goes e = ap (λ z. z && all_verified t verified b (placed k (take (left - 1) ps))) (sym e) ∙ here
+    pub each_goes : r ≡ true → each f m (placed k (take (left - 1) ps)) ≡ total
+    each_goes e = ap (λ z. first_of (unless z (m (k + (left - 1), get_or ps (left - 1) d))) (each f m (placed k (take (left - 1) ps)))) (sym e) ∙ here
 
   module _ (b : Standing Value) (total : Option (Standing Value)) (same : ops_match t any (placed k (take left ps)) b ≡ total) (d : PatternOp) (new : Standing Value) (r : Bool) (stands : Stands (op_matches t any (k + (left - 1), get_or ps (left - 1) d) b) new r) where
     split : given (op_matches t any (k + (left - 1), get_or ps (left - 1) d) b) (ops_match t any (placed k (take (left - 1) ps))) ≡ total
@@ -43,3 +47,19 @@ module _ (t : Operation) (k : ℕ) (ps : List PatternOp) (left : ℕ) (some : 0 
 
     pub pattern_ops_go : r ≡ true → ops_match t any (placed k (take (left - 1) ps)) new ≡ total
     pattern_ops_go e = ap (λ o. given o (ops_match t any (placed k (take (left - 1) ps)))) (sym (stands_yes (op_matches t any (k + (left - 1), get_or ps (left - 1) d) b) new r stands e)) ∙ split
+
+  -- the tests of the pattern ops
+  module _ (b : Standing Value) (total : Test) (same : ops_tests t (placed k (take left ps)) b ≡ total) (d : PatternOp) (new : Standing Value) (r : Test) (is : r ≡ op_tests t (k + (left - 1), get_or ps (left - 1) d) b) where
+    abbrev rest : Test
+    rest = on_value (op_matches t any (k + (left - 1), get_or ps (left - 1) d) b) (ops_tests t (placed k (take (left - 1) ps)))
+
+    split_tests : first_of r rest ≡ total
+    split_tests = ap (λ z. first_of z rest) is ∙ sym (ap (λ z. ops_tests t z b) (last d)) ∙ same
+
+    pub ops_tests_stop : (m : Mismatch) → r ≡ Some m → Some m ≡ total
+    ops_tests_stop m e = ap (λ z. first_of z rest) (sym e) ∙ split_tests
+
+    pub ops_tests_go : Stands (op_matches t any (k + (left - 1), get_or ps (left - 1) d) b) new (is_none r) → r ≡ None → ops_tests t (placed k (take (left - 1) ps)) new ≡ total
+    ops_tests_go stands e =
+        sym (ap (λ z. on_value z (ops_tests t (placed k (take (left - 1) ps)))) (stands_yes (op_matches t any (k + (left - 1), get_or ps (left - 1) d) b) new (is_none r) stands (ap is_none e)))
+        ∙ ap (λ z. first_of z rest) (sym e) ∙ split_tests

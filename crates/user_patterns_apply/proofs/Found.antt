@@ -1,5 +1,6 @@
 -- The edits of a pattern, computed from the view of an operation.
-use Rattle.std.proofs.Common.{◌≡◌, refl, ap, sym, ◌∙◌, subst, ℕ, Bool, true, false, Option, Some, None, option_map}
+use Rattle.std.proofs.Common.{◌≡◌, refl, ap, sym, ◌∙◌, subst, ℕ, [], ◌∷◌, Bool, true, false, Option, Some, None, option_map}
+use Rattle.std.specs.Prelude.{is_some}
 use Rattle.ir_event.specs.types.Things.{ContextModel}
 use Rattle.ir_event.specs.trees.declared.place.Place.{Place}
 use Rattle.ir_event.specs.trees.Tree.{head}
@@ -19,6 +20,11 @@ use Rattle.user_patterns_data.specs.Shapes.{PatternModel}
 use Rattle.user_patterns_apply.specs.Built.{plan_in, plan_of}
 use Rattle.user_patterns_apply.specs.declared.rewrite_plan.BuildPlan.{BuildPlan}
 use Rattle.user_patterns_apply.specs.Own.{edits_for, is_one, own_edits, own_rewrite}
+use Rattle.user_patterns_apply.specs.Mismatches.{Test, first_failing, first_of, own_mismatch, plan_tests, point_of, point_tests, tests_at, unless, with_value}
+use Rattle.user_patterns_apply.specs.declared.mismatch.Mismatch.{Mismatch}
+use Rattle.user_patterns_apply.specs.declared.mismatch.Mismatch.TheVariants as fails
+use Rattle.user_patterns_check.specs.Outcomes.{given as given_data}
+use Rattle.user_patterns_data.specs.Matching.{when as when_data}
 use Rattle.user_patterns_apply.specs.Planned.{planned_edits}
 use Rattle.user_patterns_apply.specs.declared.match_pattern.PlacedBuild.{PlacedBuild}
 
@@ -30,48 +36,95 @@ module _ (p : PatternModel) (m : Module) (x : ℕ) where
   unfolding own_edits
   edits_are = refl
 
-  pub none_there : None ≡ head_at x m.tree → None ≡ own_edits p m x
-  none_there e = go (find x m.tree) e ∙ sym edits_are
+  -- the edits at the insertion point of the operation
+  edits_at : own_edits p m x ≡ given (point_of x m.tree) (λ point. edits_for point x (plan_of m.tree (is_verified m.tree) m.next p x))
+  edits_at = edits_are ∙ go (find x m.tree)
     where
-      go : (o : Option Operation) → None ≡ option_map (λ o. head o) o → None ≡ given o (λ o. given (insertion_of x m.tree) (λ insertion. when (is_one (head o).results) (edits_for insertion x plan)))
+      in_one : (z : Bool) (f : Option Place) → given f (λ point. when z (edits_for point x plan)) ≡ given (when_data z f) (λ point. edits_for point x plan)
+      in_one true None = refl
+      in_one true (Some f) = refl
+      in_one false None = refl
+      in_one false (Some f) = refl
+
+      go : (o : Option Operation) → given o (λ o. given (insertion_of x m.tree) (λ point. when (is_one (head o).results) (edits_for point x plan)))
+          ≡ given (given_data o (λ o. when_data (is_one (head o).results) (insertion_of x m.tree))) (λ point. edits_for point x plan)
+      go None = refl
+      go (Some o) = in_one (is_one (head o).results) (insertion_of x m.tree)
+
+  mismatch_is : own_mismatch p m x ≡ first_of (plan_tests m.tree (is_verified m.tree) m.next p x) (point_tests x m.tree)
+  unfolding own_mismatch
+  mismatch_is = refl
+
+  -- without a plan
+  pub no_plan : None ≡ plan_of m.tree (is_verified m.tree) m.next p x → None ≡ own_edits p m x
+  no_plan e = go (point_of x m.tree) ∙ ap (λ q. given (point_of x m.tree) (λ point. edits_for point x q)) e ∙ sym edits_at
+    where
+      go : (f : Option Place) → None ≡ given f (λ point. edits_for point x None)
+      go None = refl
+      go (Some f) = refl
+
+  pub plan_fails : (r : Mismatch) → Some r ≡ plan_tests m.tree (is_verified m.tree) m.next p x → Some r ≡ own_mismatch p m x
+  plan_fails r e = ap (λ z. first_of z (point_tests x m.tree)) e ∙ sym mismatch_is
+
+  -- without an insertion point
+  pub no_point : None ≡ point_of x m.tree → None ≡ own_edits p m x
+  no_point e = ap (λ f. given f (λ point. edits_for point x (plan_of m.tree (is_verified m.tree) m.next p x))) e ∙ sym edits_at
+
+  module _ (passes : None ≡ plan_tests m.tree (is_verified m.tree) m.next p x) where
+    by_point : point_tests x m.tree ≡ own_mismatch p m x
+    by_point = ap (λ z. first_of z (point_tests x m.tree)) passes ∙ sym mismatch_is
+
+    pub point_fails : (r : Test) → r ≡ point_tests x m.tree → r ≡ own_mismatch p m x
+    point_fails r e = e ∙ by_point
+
+  pub some_plan : (c : ContextModel) (f : Place) → Some f ≡ point_of x m.tree → (built : BuildPlan) → Some (plan_in c m.next built) ≡ plan_of m.tree (is_verified m.tree) m.next p x → Some (planned_edits c m.next x (record { point = f; built = built })) ≡ own_edits p m x
+  some_plan c f at built is =
+      ap (edits_for f x) is ∙ ap (λ z. given z (λ point. edits_for point x (plan_of m.tree (is_verified m.tree) m.next p x))) at ∙ sym edits_at
+
+-- ---- the insertion point, from the view of an operation
+
+module _ (x : ℕ) (t : Operation) where
+  pub nowhere : None ≡ head_at x t → None ≡ point_of x t
+  nowhere e = go (find x t) e
+    where
+      go : (o : Option Operation) → None ≡ option_map (λ o. head o) o → None ≡ given_data o (λ o. when_data (is_one (head o).results) (insertion_of x t))
       go None e = refl
       go (Some o) e = absurd cc
 
-  pub none_insertion : None ≡ insertion_of x m.tree → None ≡ own_edits p m x
-  none_insertion e = go (find x m.tree) ∙ sym edits_are
+  pub nowhere_fails : None ≡ head_at x t → Some fails.Results ≡ point_tests x t
+  nowhere_fails e = go (find x t) e
     where
-      go : (o : Option Operation) → None ≡ given o (λ o. given (insertion_of x m.tree) (λ insertion. when (is_one (head o).results) (edits_for insertion x plan)))
-      go None = refl
-      go (Some o) = ap (λ f. given f (λ insertion. when (is_one (head o).results) (edits_for insertion x plan))) e
+      go : (o : Option Operation) → None ≡ option_map (λ o. head o) o → Some fails.Results ≡ with_value o fails.Results (λ o. tests_at (is_one (head o).results) (insertion_of x t))
+      go None e = refl
+      go (Some o) e = absurd cc
 
-  module _ (h : Header) (shown : Some h ≡ head_at x m.tree) where
-    pub not_single : (b : Bool) → b ≡ is_one h.results → b ≡ false → None ≡ own_edits p m x
-    not_single b e n = go (find x m.tree) shown (insertion_of x m.tree) ∙ sym edits_are
+  module _ (h : Header) (shown : Some h ≡ head_at x t) (b : Bool) (e : b ≡ is_one h.results) where
+    point_is : point_of x t ≡ when_data b (insertion_of x t)
+    point_is = go (find x t) shown
       where
-        in_insertion : (o : Operation) → is_one (head o).results ≡ false → (f : Option Place) → None ≡ given f (λ insertion. when (is_one (head o).results) (edits_for insertion x plan))
-        in_insertion o e None = refl
-        in_insertion o e (Some f) = sym (ap (λ z. when z (edits_for f x plan)) e)
+        go : (o : Option Operation) → Some h ≡ option_map (λ o. head o) o → given_data o (λ o. when_data (is_one (head o).results) (insertion_of x t)) ≡ when_data b (insertion_of x t)
+        go None i = absurd cc
+        go (Some o) i = (let one : h ≡ head o = cc in ap (λ z. when_data z (insertion_of x t)) (sym (e ∙ ap (λ (z : Header). is_one z.results) one)))
 
-        go : (o : Option Operation) → Some h ≡ option_map (λ o. head o) o → (f : Option Place) → None ≡ given o (λ o. given f (λ insertion. when (is_one (head o).results) (edits_for insertion x plan)))
-        go None e f = refl
-        go (Some o) i f = (let one : h ≡ head o = cc in in_insertion o (ap (λ (z : Header). is_one z.results) (sym one) ∙ sym e ∙ n) f)
+    tests_are : point_tests x t ≡ tests_at b (insertion_of x t)
+    tests_are = go (find x t) shown
+      where
+        go : (o : Option Operation) → Some h ≡ option_map (λ o. head o) o → with_value o fails.Results (λ o. tests_at (is_one (head o).results) (insertion_of x t)) ≡ tests_at b (insertion_of x t)
+        go None i = absurd cc
+        go (Some o) i = (let one : h ≡ head o = cc in ap (λ z. tests_at z (insertion_of x t)) (sym (e ∙ ap (λ (z : Header). is_one z.results) one)))
 
-    module _ (f : Place) (at : Some f ≡ insertion_of x m.tree) (b : Bool) (e : b ≡ is_one h.results) (single : b ≡ true) where
-      by_plan : edits_for f x (plan_of m.tree (is_verified m.tree) m.next p x) ≡ own_edits p m x
-      by_plan = go (find x m.tree) shown ∙ sym edits_are
-        where
-          go : (o : Option Operation) → Some h ≡ option_map (λ o. head o) o → edits_for f x plan ≡ given o (λ o. given (insertion_of x m.tree) (λ insertion. when (is_one (head o).results) (edits_for insertion x plan)))
-          go None i = absurd cc
-          go (Some o) i =
-              let one : h ≡ head o = cc in
-              let true_is : is_one (head o).results ≡ true = ap (λ (z : Header). is_one z.results) (sym one) ∙ sym e ∙ single in
-              sym (ap (λ z. given z (λ insertion. when (is_one (head o).results) (edits_for insertion x plan))) (sym at) ∙ ap (λ z. when z (edits_for f x plan)) true_is)
+    pub not_single : b ≡ false → None ≡ point_of x t
+    not_single n = sym (point_is ∙ ap (λ z. when_data z (insertion_of x t)) n)
 
-      pub no_plan : (c : ContextModel) (r : Option BuildPlan) → option_map (plan_in c m.next) r ≡ plan_of m.tree (is_verified m.tree) m.next p x → r ≡ None → None ≡ own_edits p m x
-      no_plan c r is none = ap (λ z. edits_for f x (option_map (plan_in c m.next) z)) (sym none) ∙ ap (edits_for f x) is ∙ by_plan
+    pub not_single_fails : b ≡ false → Some fails.Results ≡ point_tests x t
+    not_single_fails n = sym (tests_are ∙ ap (λ z. tests_at z (insertion_of x t)) n)
 
-      pub some_plan : (c : ContextModel) (r : Option BuildPlan) → option_map (plan_in c m.next) r ≡ plan_of m.tree (is_verified m.tree) m.next p x → (built : BuildPlan) → r ≡ Some built → Some (planned_edits c m.next x (record { point = f; built = built })) ≡ own_edits p m x
-      some_plan c r is built some = ap (λ z. edits_for f x (option_map (plan_in c m.next) z)) (sym some) ∙ ap (edits_for f x) is ∙ by_plan
+    module _ (single : b ≡ true) (f : Option Place) (at : f ≡ insertion_of x t) where
+      pub single_point : f ≡ point_of x t
+      single_point = at ∙ sym (point_is ∙ ap (λ z. when_data z (insertion_of x t)) single)
+
+      pub single_tests : first_failing (unless (is_some f) fails.IsRoot ∷ []) ≡ point_tests x t
+      single_tests = ap (λ z. first_failing (unless (is_some z) fails.IsRoot ∷ [])) at ∙ sym (tests_are ∙ ap (λ z. tests_at z (insertion_of x t)) single)
 
 -- ---- the rewriter's IR state, and the module that it holds
 

@@ -13,3 +13,5 @@ pub mod Backwards
 pub mod TypesAt
 pub mod Planned
 pub mod Rooted
+pub mod Tested
+pub mod NumbersAt

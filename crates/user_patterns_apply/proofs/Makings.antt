@@ -1,8 +1,7 @@
 -- Edits by which operations are made, while a context grows.
-use Rattle.std.proofs.Common.{append_assoc, append-nil, ◌≡◌, ℕ, suc, ◌<◌, refl, ap, sym, ◌∙◌, subst, List, [], ◌∷◌, ◌++◌, length, slice_index_or, map, ◌&&◌, true, false, Option, Some, None, lt-ltb, arith}
+use Rattle.std.proofs.Common.{append_assoc, append-nil, ◌≡◌, ℕ, suc, ◌<◌, refl, ap, sym, ◌∙◌, subst, List, [], ◌∷◌, ◌++◌, length, slice_index_or, map, ◌&&◌, true, Option, Some, None, lt-ltb, arith}
 use Rattle.ir_event.specs.types.Things.{ContextModel, IsExtendedBy}
-use Rattle.std.specs.Prelude.{codes, if◌then◌else◌}
-use Rattle.ir_event.specs.types.Terms.{TypeTerm, AttrTerm, Overflow, type_term, name_term, attr_term}
+use Rattle.ir_event.specs.types.Terms.{TypeTerm, AttrTerm, type_term, name_term, attr_term}
 use Rattle.ir_event.specs.types.Sound.{Holds}
 use Rattle.ir_event.specs.types.WordNames.{word_bytes}
 use Rattle.ir_event.specs.trees.declared.place.Place.{Place}
@@ -20,9 +19,8 @@ use Rattle.patterns_lowering.specs.Lists.{AllFit, Fits, edits_meaning, numbered}
 use Rattle.patterns_lowering.specs.declared.edit.Edit.{Edit as Coded}
 use Rattle.patterns_lowering.specs.declared.edit.Edit.TheVariants as coded
 use Rattle.rewriter_machine.specs.Edits as edit
-use Rattle.patterns_base.specs.Made.{Entries, flags, made, value_entry}
+use Rattle.patterns_base.specs.Made.{Entries, made, value_entry}
 use Rattle.patterns_base.specs.Makes.{give}
-use Rattle.patterns_base.specs.Words.{among, flagged}
 use Rattle.patterns.specs.Making.{StandsFor}
 use Rattle.patterns.specs.Interned.{IsAttrOf, IsNameOf, IsTypeOf}
 use Rattle.patterns.specs.New.{new_op}
@@ -37,7 +35,6 @@ use Rattle.user_patterns_apply.specs.declared.types.BoundType.{BoundType}
 use Rattle.user_patterns_apply.specs.declared.types.BoundType.TheVariants as bound
 use Rattle.user_patterns_apply.specs.Planned.{EditStands, EntryStands, entries_of, makings, planned_edits}
 use Rattle.user_patterns_apply.specs.declared.match_pattern.PlacedBuild.{PlacedBuild}
-use Rattle.patterns.proofs.Leaves.{flags_set}
 use Rattle.patterns_base.proofs.EditFacts.{edits_more}
 
 -- ---- a context that grows

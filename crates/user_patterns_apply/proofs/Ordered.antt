@@ -21,7 +21,7 @@ use Rattle.user_patterns_check.specs.Outcomes.{given, run}
 use Rattle.user_patterns_data.specs.declared.pattern.PatternOp.{PatternOp}
 use Rattle.user_patterns_data.specs.Fitting.{content_with, fits}
 use Rattle.user_patterns_data.specs.Matching.{Header, Standing, bound, defining_op_head, header_matched, known, nothing, ops_match, placed, standing, value_matched, when}
-use Rattle.user_patterns_data.specs.Planning.{Plan, kind_standing, old_place, outcomes, places, planned, planned_by, planned_from, typed}
+use Rattle.user_patterns_data.specs.Planning.{Plan, is_numeric, kind_standing, old_place, outcomes, places, planned, planned_by, planned_from, typed}
 use Rattle.user_patterns_data.specs.Shapes.{PatternModel}
 use Rattle.user_patterns_data.proofs.Standing.{pattern_ops_stand}
 use Rattle.user_patterns_apply.specs.Built.{plan_of}
@@ -202,8 +202,9 @@ module _ (t : Operation) (verified : Header → Bool) where
   module _ (n : ℕ) (p : PatternModel) where
     unknown_plan : (c : Standing Value) → list_all (λ (k : ℕ). is_constant_value t (standing k c)) p.constants ≡ false → (ts : Standing TypeTerm) → planned_by t verified n p c ts ≡ None
     unknown_plan c e ts =
-        ap (λ z. when (fits (map kind_standing ts) p && z) (given (run (Content.given (content_with (map kind_standing ts) p)) (outcomes t verified n p 0 p.values c)) (planned_from t verified n p c ts))) (some_unknown c p.constants e)
-        ∙ ap (λ z. when z (given (run (Content.given (content_with (map kind_standing ts) p)) (outcomes t verified n p 0 p.values c)) (planned_from t verified n p c ts))) (and_false (fits (map kind_standing ts) p))
+        ap (when (list_all is_numeric ts)) (ap (λ z. when (fits (map kind_standing ts) p && z) (given (run (Content.given (content_with (map kind_standing ts) p)) (outcomes t verified n p 0 p.values c)) (planned_from t verified n p c ts))) (some_unknown c p.constants e)
+        ∙ ap (λ z. when z (given (run (Content.given (content_with (map kind_standing ts) p)) (outcomes t verified n p 0 p.values c)) (planned_from t verified n p c ts))) (and_false (fits (map kind_standing ts) p)))
+        ∙ when_none (list_all is_numeric ts)
 
     pub not_constants : (x : ℕ) (c : Standing Value) → Some c ≡ matched t any p x → (b : Bool) → b ≡ list_all (λ (k : ℕ). is_constant_value t (standing k c)) p.constants → b ≡ false → None ≡ plan_of t verified n p x
     not_constants x c is b e f =

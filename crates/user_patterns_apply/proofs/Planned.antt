@@ -1,6 +1,7 @@
 -- The rewrite plan, computed from the bindings of a match.
 use Rattle.std.proofs.Common.{append_assoc, ◌≡◌, ℕ, zero, suc, refl, ap, sym, ◌∙◌, subst, List, [], ◌∷◌, ◌++◌, length, take, drop, map, Bool, true, false, ◌&&◌, true≢false, Option, Some, None, arith}
 use Rattle.std.specs.Prelude.{IfOk, Result, option_map}
+use Rattle.std.specs.List.{list_all}
 use Rattle.ir_event.specs.types.Things.{ContextModel}
 use Rattle.ir_event.specs.types.Terms.{TypeTerm}
 use Rattle.ir_event.specs.types.declared.bits.BitsKind.{BitsKind}
@@ -15,9 +16,10 @@ use Rattle.user_patterns_data.specs.declared.pattern.PatternType.TheVariants as 
 use Rattle.user_patterns_data.specs.declared.pattern.NewValue.{NewValue}
 use Rattle.user_patterns_data.specs.Fitting.{content_with, fits}
 use Rattle.user_patterns_data.specs.Matching.{Header, Standing, standing, when, written}
-use Rattle.user_patterns_data.specs.Planning.{Plan, all_made, constants_known, extra_known, extra_place, kind_standing, new_place, outcomes, planned_by, planned_from, typed}
+use Rattle.user_patterns_data.specs.Planning.{Plan, all_made, constants_known, extra_known, extra_place, is_numeric, kind_standing, new_place, outcomes, planned_by, planned_from, typed}
 use Rattle.user_patterns_data.specs.Shapes.{PatternModel}
 use Rattle.user_patterns_apply.specs.Built.{AreAllMade, as_operands, made_in, operand_in, operands_in}
+use Rattle.user_patterns_apply.specs.Mismatches.{Test, typed_tests, typed_tests_over}
 use Rattle.user_patterns_apply.specs.Stands.{Stands}
 use Rattle.user_patterns_apply.specs.Types.{AreTypesOf, type_in, typed_over, types_in, written_of}
 use Rattle.user_patterns_apply.specs.declared.rewrite_plan.NewOp.{NewOp}
@@ -70,6 +72,9 @@ module _ (t : Operation) (verified : Header → Bool) (n : ℕ) (p : PatternMode
   typed_is : typed_over t verified p b (types_in c old) ≡ typed t verified n p b
   typed_is = ap (typed_over t verified p b) (ap (types_in c) is ∙ written_in c p.value_types)
 
+  pub typed_tests_are : typed_tests_over t verified p b (types_in c old) ≡ typed_tests t verified p b
+  typed_tests_are = ap (typed_tests_over t verified p b) (ap (types_in c) is ∙ written_in c p.value_types)
+
   pub untyped_plan : r ≡ false → None ≡ typed t verified n p b
   untyped_plan e = sym (stands_no (typed_over t verified p b (types_in c old)) (types_in c new) r stands e) ∙ typed_is
 
@@ -81,11 +86,11 @@ module _ (t : Operation) (verified : Header → Bool) (n : ℕ) (p : PatternMode
 
 -- ---- numbers
 
-ran : (r : Option (List Outcome)) (new : List Outcome) (b : Bool) → check.Stands r new b → b ≡ true → r ≡ Some new
+pub ran : (r : Option (List Outcome)) (new : List Outcome) (b : Bool) → check.Stands r new b → b ≡ true → r ≡ Some new
 ran None new b e f = absurd (true≢false (sym f ∙ e))
 ran (Some c) new b e f = ap Some (sym e.1)
 
-not_ran : (r : Option (List Outcome)) (new : List Outcome) (b : Bool) → check.Stands r new b → b ≡ false → r ≡ None
+pub not_ran : (r : Option (List Outcome)) (new : List Outcome) (b : Bool) → check.Stands r new b → b ≡ false → r ≡ None
 not_ran None new b e f = refl
 not_ran (Some c) new b e f = absurd (true≢false (sym e.0 ∙ f))
 
@@ -101,34 +106,48 @@ nothing_then true = refl
 nothing_then false = refl
 
 module _ (t : Operation) (verified : Header → Bool) (n : ℕ) (p : PatternModel) (b : Standing Value) (ts : Standing TypeTerm) where
-  pub plans : (ks : List BitsKind) → ks ≡ map kind_standing ts → (f : Bool) → f ≡ fits ks p → f ≡ true → (k : Bool) → k ≡ constants_known t verified n p b → k ≡ true
+  abbrev by_kinds : Option Plan
+  by_kinds = when (fits (map kind_standing ts) p && constants_known t verified n p b) (given (run (Content.given (content_with (map kind_standing ts) p)) (outcomes t verified n p 0 p.values b)) (planned_from t verified n p b ts))
+
+  numeric_none : None ≡ by_kinds → None ≡ planned_by t verified n p b ts
+  numeric_none e = nothing_then (list_all is_numeric ts) ∙ ap (when (list_all is_numeric ts)) e
+
+  pub not_numeric : (f : Bool) → f ≡ list_all is_numeric ts → f ≡ false → None ≡ planned_by t verified n p b ts
+  not_numeric f is failed = ap (λ z. when z by_kinds) (sym failed ∙ is)
+
+  pub plans : (a : Bool) → a ≡ list_all is_numeric ts → a ≡ true → (ks : List BitsKind) → ks ≡ map kind_standing ts → (f : Bool) → f ≡ fits ks p → f ≡ true → (k : Bool) → k ≡ constants_known t verified n p b → k ≡ true
       → (steps : List Step) → steps ≡ Content.given (content_with ks p) → (env : List Outcome) → env ≡ outcomes t verified n p 0 p.values b → (after : List Outcome) (done : Bool) → check.Stands (run steps env) after done → done ≡ true
       → (r : Option Plan) → r ≡ planned_from t verified n p b ts after → r ≡ planned_by t verified n p b ts
-  plans ks value_types f fit fine k known all steps given_is env outcomes_are after done stands yes_done r is =
+  plans a numeric whole ks value_types f fit fine k known all steps given_is env outcomes_are after done stands yes_done r is =
       let first : fits (map kind_standing ts) p ≡ true = ap (λ z. fits z p) (sym value_types) ∙ sym fit ∙ fine in
       let second : constants_known t verified n p b ≡ true = sym known ∙ all in
       let third : run (Content.given (content_with (map kind_standing ts) p)) (outcomes t verified n p 0 p.values b) ≡ Some after =
       (λ i. run ((ap (λ z. Content.given (content_with z p)) (sym value_types) ∙ sym given_is) i) (sym outcomes_are i)) ∙ ran (run steps env) after done stands yes_done in
       is ∙ ap (λ z. given z (planned_from t verified n p b ts)) (sym third)
       ∙ ap (λ z. when z (given (run (Content.given (content_with (map kind_standing ts) p)) (outcomes t verified n p 0 p.values b)) (planned_from t verified n p b ts))) (sym ((λ i. first i && second i)))
+      ∙ ap (λ z. when z by_kinds) (sym whole ∙ numeric)
 
   pub not_fitting : (ks : List BitsKind) → ks ≡ map kind_standing ts → (f : Bool) → f ≡ fits ks p → f ≡ false → None ≡ planned_by t verified n p b ts
   not_fitting ks value_types f fit failed =
-      ap (λ y. when (y && constants_known t verified n p b) (given (run (Content.given (content_with (map kind_standing ts) p)) (outcomes t verified n p 0 p.values b)) (planned_from t verified n p b ts)))
-      (sym failed ∙ fit ∙ ap (λ z. fits z p) value_types)
+      numeric_none (ap (λ y. when (y && constants_known t verified n p b) (given (run (Content.given (content_with (map kind_standing ts) p)) (outcomes t verified n p 0 p.values b)) (planned_from t verified n p b ts)))
+      (sym failed ∙ fit ∙ ap (λ z. fits z p) value_types))
 
   pub not_known : (k : Bool) → k ≡ constants_known t verified n p b → k ≡ false → None ≡ planned_by t verified n p b ts
   not_known k known failed =
-      never (fits (map kind_standing ts) p) (given (run (Content.given (content_with (map kind_standing ts) p)) (outcomes t verified n p 0 p.values b)) (planned_from t verified n p b ts))
-      ∙ ap (λ y. when (fits (map kind_standing ts) p && y) (given (run (Content.given (content_with (map kind_standing ts) p)) (outcomes t verified n p 0 p.values b)) (planned_from t verified n p b ts))) (sym failed ∙ known)
+      numeric_none (never (fits (map kind_standing ts) p) (given (run (Content.given (content_with (map kind_standing ts) p)) (outcomes t verified n p 0 p.values b)) (planned_from t verified n p b ts))
+      ∙ ap (λ y. when (fits (map kind_standing ts) p && y) (given (run (Content.given (content_with (map kind_standing ts) p)) (outcomes t verified n p 0 p.values b)) (planned_from t verified n p b ts))) (sym failed ∙ known))
 
   pub not_computed : (ks : List BitsKind) → ks ≡ map kind_standing ts → (env : List Outcome) → env ≡ outcomes t verified n p 0 p.values b → (after : List Outcome) (done : Bool)
       → check.Stands (run (Content.given (content_with ks p)) env) after done → done ≡ false → None ≡ planned_by t verified n p b ts
   not_computed ks value_types env outcomes_are after done stands failed =
       let none : run (Content.given (content_with (map kind_standing ts) p)) (outcomes t verified n p 0 p.values b) ≡ None =
       (λ i. run (Content.given (content_with (sym value_types i) p)) (sym outcomes_are i)) ∙ not_ran (run (Content.given (content_with ks p)) env) after done stands failed in
-      nothing_then (fits (map kind_standing ts) p && constants_known t verified n p b)
-      ∙ ap (λ z. when (fits (map kind_standing ts) p && constants_known t verified n p b) (given z (planned_from t verified n p b ts))) (sym none)
+      numeric_none (nothing_then (fits (map kind_standing ts) p && constants_known t verified n p b)
+      ∙ ap (λ z. when (fits (map kind_standing ts) p && constants_known t verified n p b) (given z (planned_from t verified n p b ts))) (sym none))
+
+  pub not_extra : (env : List Outcome) (f : Bool) → f ≡ extra_known t verified n p (extra_place p) p.extra b env → f ≡ false → None ≡ planned_from t verified n p b ts env
+  not_extra env f extra failed =
+      ap (λ z. when z (given (all_made ts env n (new_place p) p.new b) (λ (r : List Operation × Standing Value). given (standing p.result r.1) (λ v. Some (r.0, v))))) (sym failed ∙ extra)
 
   -- ---- new operations
 
@@ -171,3 +190,6 @@ made_some c n all (Some ms) os e made is = e ∙ ap (λ z. Some (map (made_in c 
 -- a result equal to `a` is equal to `b`
 pub answers_same : {X E : Type 0} (r : Result X E) (view : X → Option Plan) (a b : Option Plan) → a ≡ b → IfOk r (λ x. view x ≡ a) → IfOk r (λ x. view x ≡ b)
 answers_same r view a b same h = rw (← same) h
+
+pub tests_same : {X E : Type 0} (r : Result X E) (view : X → Test) (a b : Test) → a ≡ b → IfOk r (λ x. view x ≡ a) → IfOk r (λ x. view x ≡ b)
+tests_same r view a b same h = rw (← same) h

@@ -47,7 +47,7 @@ pub fn apply_pattern<L: Analysis>(
     let Ok(found) = find_plan(alloc, world, pattern, op) else {
         return Err(Refusal::Memory);
     };
-    let Some(planned) = found else {
+    let Ok(planned) = found else {
         return Ok(false);
     };
     match apply_plan(alloc, bench, op, &planned) {

@@ -3,11 +3,13 @@ ghost use Rattle.std.specs.Prelude.{◌≡◌, ◌<◌, ◌^◌, IfOk, Option, m
 ghost use Rattle.ir_event.specs.Modules.{module_in};
 ghost use Rattle.dialects_int.specs.Folds.{known_of};
 ghost use Rattle.patterns_base.specs.Looks.{is_verified};
-ghost use Rattle.user_patterns_data.specs.Planning.{are_same, constants_known, extra_known, extra_place};
+ghost use Rattle.user_patterns_data.specs.Planning.{are_same, extra_place};
 ghost use Rattle.user_patterns_data.specs.Planning.{known_at, outcomes};
 ghost use Rattle.user_patterns_data.specs.Shapes.{pattern_model};
 ghost use Rattle.user_patterns_apply.specs.Matched.{outcome_at};
+ghost use Rattle.user_patterns_apply.specs.Mismatches.{extra_tests, known_tests};
 
+use crate::mismatch::Mismatch;
 use crate::places::standing;
 use crate::types::same_kind;
 use crate::verified_operands::is_first;
@@ -40,24 +42,24 @@ fn known_at(
     Ok(known)
 }
 
-/// Returns whether the numbers of all constants of the pattern are known.
-pub(crate) fn all_known(
+/// Tests that the numbers of all constants of the pattern are known. Returns the first test that fails.
+pub(crate) fn test_known(
     alloc: Global,
     world: &World,
     pattern: &Pattern,
     values: &[Option<Value>],
-) -> Result<bool, AllocError>
-    ensures { IfOk result (λ b. b ≡ constants_known (module_in world.now).tree (is_verified (module_in world.now).tree)
+) -> Result<Option<Mismatch>, AllocError>
+    ensures { IfOk result (λ m. m ≡ known_tests (module_in world.now).tree (is_verified (module_in world.now).tree)
         (module_in world.now).next (pattern_model pattern.now) values.now) }
 {
     let mut rest: &[usize] = &pattern.constants;
     'constants: while let [first, tail @ ..] = rest {
         if known_at(alloc, world, pattern, *first as u128, values)?.is_none() {
-            return Ok(false);
+            return Ok(Some(Mismatch::Unknown(*first)));
         }
         rest = tail;
     }
-    Ok(true)
+    Ok(None)
 }
 
 /// Returns the number of the value at `place` if the pattern has a constant there, and `None` otherwise.
@@ -124,15 +126,16 @@ pub(crate) fn value_at(env: &[Option<Bits>], place: u128) -> Option<Option<Bits>
     }
 }
 
-/// Returns whether each extra constant of the pattern has the number that the pattern computes for it.
-pub(crate) fn all_extra(
+/// Tests that each extra constant of the pattern has the number that the pattern computes for it. Returns the first test
+/// that fails.
+pub(crate) fn test_extra(
     alloc: Global,
     world: &World,
     pattern: &Pattern,
     values: &[Option<Value>],
     env: &[Option<Bits>],
-) -> Result<bool, AllocError>
-    ensures { IfOk result (λ b. b ≡ extra_known (module_in world.now).tree (is_verified (module_in world.now).tree)
+) -> Result<Option<Mismatch>, AllocError>
+    ensures { IfOk result (λ m. m ≡ extra_tests (module_in world.now).tree (is_verified (module_in world.now).tree)
         (module_in world.now).next (pattern_model pattern.now) (extra_place (pattern_model pattern.now)) (pattern_model pattern.now).extra
         values.now (map known_of env.now)) }
 {
@@ -141,10 +144,10 @@ pub(crate) fn all_extra(
     'extra: while let [_, tail @ ..] = rest {
         let known = known_at(alloc, world, pattern, place, values)?;
         if !are_same(&known, &value_at(env, place)) {
-            return Ok(false);
+            return Ok(Some(Mismatch::Number(place)));
         }
         place += 1;
         rest = tail;
     }
-    Ok(true)
+    Ok(None)
 }

@@ -1,5 +1,6 @@
 //! Matches the operations of a pattern in a module.
-ghost use Rattle.std.specs.Prelude.{◌≡◌, ◌<◌, ◌^◌, IfOk, IfSome, None, Option, Some, codes, option_map, true};
+ghost use Rattle.std.specs.Prelude.{◌≡◌, ◌<◌, ◌^◌, IfOk, IfSome, None, Option, Some, codes, is_none, option_map, true};
+ghost use Rattle.std.specs.Result.{result_err, result_ok};
 ghost use Rattle.ir_event.specs.types.Things.{IsAttr};
 ghost use Rattle.ir_event.specs.types.Terms.{attr_term};
 ghost use Rattle.ir_event.specs.trees.Uses.{same_value};
@@ -7,14 +8,17 @@ ghost use Rattle.ir_event.specs.Modules.{NodeIsOf, module_in};
 ghost use Rattle.op_registry.specs.Registry.{next_to};
 ghost use Rattle.dialects_int.specs.Folds.{property_of};
 ghost use Rattle.patterns_matchers.specs.Reads.{header_of_node};
-ghost use Rattle.user_patterns_data.specs.Matching.{all_bound, asks_alike, defining_op_head, op_matches};
+ghost use Rattle.user_patterns_data.specs.Matching.{all_bound, defining_op_head, header_matched, op_matches};
 ghost use Rattle.user_patterns_data.specs.Matching.{ops_match, placed, predicate_is};
 ghost use Rattle.user_patterns_data.specs.Names.{are_none, operands_of, predicate_of};
 ghost use Rattle.user_patterns_data.specs.Planning.{old_place};
 ghost use Rattle.user_patterns_data.specs.Shapes.{pattern_model};
 ghost use Rattle.user_patterns_apply.specs.Matched.{any, matched};
+ghost use Rattle.user_patterns_apply.specs.Mismatches.{first_unbound, header_tests, matched_tests, op_tests, ops_tests};
 ghost use Rattle.user_patterns_apply.specs.Stands.{Stands};
+ghost use Rattle.user_patterns_apply.specs.declared.mismatch.Mismatch.TheVariants.{Operation};
 
+use crate::mismatch::Mismatch;
 use crate::names::{is_named, predicate_number};
 use crate::places::{bind, bind_all, nothing_at, standing};
 use ir_event::store::node::Node;
@@ -83,18 +87,15 @@ fn has_predicate(world: &World, form: &Expression, node: &Node<'_>) -> bool
     }
 }
 
-/// Returns whether the operation has the predicate and the flags that the pattern op `piece` needs.
-fn asks_alike(world: &World, pattern_op: &PatternOp, node: &Node<'_>) -> bool
-    requires { NodeIsOf world.now.ctx node.now }
-    ensures { result ≡ asks_alike (module_in world.now).tree any pattern_op.now (header_of_node world.now.ctx node.now) }
-{
-    has_predicate(world, &pattern_op.form, node) && (!pattern_op.bare || is_bare(&world.ctx, node))
-}
-
-/// Binds the operands of an operation at the places of `form`. Returns whether their number fits and none of the places
-/// is bound to another value.
-fn bind_operands(form: &Expression, operands: &[Value], values: &mut [Option<Value>]) -> bool
-    ensures { Stands (all_bound same_value (operands_of form.now) operands.now values.old) values.new result }
+/// Binds the operands of an operation at the places of `form`. Returns the index of the first operand that can't be
+/// bound: its place is bound to another value, or the number of operands doesn't fit.
+fn bind_operands(
+    form: &Expression,
+    operands: &[Value],
+    values: &mut [Option<Value>],
+) -> Option<usize>
+    ensures stands { Stands (all_bound same_value (operands_of form.now) operands.now values.old) values.new (is_none result) }
+    ensures index { result ≡ first_unbound 0 (operands_of form.now) operands.now values.old }
 {
     match form {
         Expression::Binary(_, i, j) => bind_all(&[*i, *j], operands, values),
@@ -105,48 +106,78 @@ fn bind_operands(form: &Expression, operands: &[Value], values: &mut [Option<Val
     }
 }
 
-/// Matches a pattern op at the value bound at `place`, verified or not. Returns whether it matches.
+/// Matches a pattern op at an operation, verified or not. `place` is the place of the pattern op. Returns the first test
+/// that fails.
+fn match_node(
+    world: &World,
+    place: u128,
+    pattern_op: &PatternOp,
+    node: &Node<'_>,
+    values: &mut [Option<Value>],
+) -> Option<Mismatch>
+    requires { NodeIsOf world.now.ctx node.now }
+    ensures stands { Stands (header_matched (module_in world.now).tree any pattern_op.now (header_of_node world.now.ctx node.now) values.old)
+        values.new (is_none result) }
+    ensures tests { result ≡ header_tests (module_in world.now).tree place pattern_op.now (header_of_node world.now.ctx node.now) values.old }
+{
+    if !is_named(&world.ctx, node.name(), &pattern_op.form) {
+        return Some(Mismatch::Operation(place));
+    }
+    if !has_predicate(world, &pattern_op.form, node) {
+        return Some(Mismatch::Predicate(place));
+    }
+    if pattern_op.bare && !is_bare(&world.ctx, node) {
+        return Some(Mismatch::Flags(place));
+    }
+    match bind_operands(&pattern_op.form, node.operands(), values) {
+        Some(index) => Some(Mismatch::Operand(place, index)),
+        None => None,
+    }
+}
+
+/// Matches a pattern op at the value bound at `place`, verified or not. Returns the first test that fails.
 fn match_pattern_op(
     world: &World,
     place: u128,
     pattern_op: &PatternOp,
     values: &mut [Option<Value>],
-) -> bool
-    ensures { Stands (op_matches (module_in world.now).tree any (place, pattern_op.now) values.old) values.new result }
+) -> Option<Mismatch>
+    ensures stands { Stands (op_matches (module_in world.now).tree any (place, pattern_op.now) values.old) values.new (is_none result) }
+    ensures tests { result ≡ op_tests (module_in world.now).tree (place, pattern_op.now) values.old }
 {
     let Some(value) = standing(values, place) else {
-        return false;
+        return Some(Mismatch::Operation(place));
     };
     let Some(node) = defining_op(world, &value) else {
-        return false;
+        return Some(Mismatch::Operation(place));
     };
-    if !is_named(&world.ctx, node.name(), &pattern_op.form) {
-        return false;
-    }
-    if !asks_alike(world, pattern_op, &node) {
-        return false;
-    }
-    bind_operands(&pattern_op.form, node.operands(), values)
+    match_node(world, place, pattern_op, &node, values)
 }
 
-/// Matches the pattern ops from the last to the first, which has place `begins`. Returns whether all match.
-fn match_all(world: &World, begins: u128, old: &[PatternOp], values: &mut [Option<Value>]) -> bool
+/// Matches the pattern ops from the last to the first, which has place `begins`. Returns the first test that fails.
+fn match_all(
+    world: &World,
+    begins: u128,
+    old: &[PatternOp],
+    values: &mut [Option<Value>],
+) -> Option<Mismatch>
     requires { begins < 2 ^ 100 }
-    ensures { Stands (ops_match (module_in world.now).tree any (placed begins old.now) values.old)
-        values.new result }
+    ensures stands { Stands (ops_match (module_in world.now).tree any (placed begins old.now) values.old)
+        values.new (is_none result) }
+    ensures tests { result ≡ ops_tests (module_in world.now).tree (placed begins old.now) values.old }
 {
     let mut left = old.len();
     'old: while left > 0 {
         left -= 1;
-        if !match_pattern_op(world, begins + left as u128, &old[left], values) {
-            return false;
+        if let Some(mismatch) = match_pattern_op(world, begins + left as u128, &old[left], values) {
+            return Some(mismatch);
         }
     }
-    true
+    None
 }
 
 /// Returns the place of the first pattern op on the left.
-pub(crate) fn old_begins(pattern: &Pattern) -> u128
+pub fn old_begins(pattern: &Pattern) -> u128
     ensures place { result ≡ old_place (pattern_model pattern.now) }
     ensures below { result < 2 ^ 100 }
 {
@@ -156,7 +187,8 @@ pub(crate) fn old_begins(pattern: &Pattern) -> u128
 /// Returns whether the name of operation `op` differs from the name of the pattern's root. Then the pattern doesn't
 /// match. The test allocates no memory.
 fn is_other(world: &World, pattern: &Pattern, op: OpId) -> bool
-    ensures { result ≡ true → matched (module_in world.now).tree any (pattern_model pattern.now) op ≡ None }
+    ensures matched { result ≡ true → matched (module_in world.now).tree any (pattern_model pattern.now) op ≡ None }
+    ensures tests { result ≡ true → matched_tests (module_in world.now).tree (pattern_model pattern.now) op ≡ Some (Operation (pattern_model pattern.now).root) }
 {
     let old = pattern.old.as_slice();
     let pattern_ops = old.len();
@@ -173,26 +205,27 @@ fn is_other(world: &World, pattern: &Pattern, op: OpId) -> bool
     !is_named(&world.ctx, node.name(), &old[last].form)
 }
 
-/// Returns the values bound at the pattern's places by a match at `op`, or `None` if there is no match. The matched
+/// Returns the values bound at the pattern's places by a match at `op`, or the first test that fails. The matched
 /// operations aren't verified here.
 pub(crate) fn match_pattern(
     alloc: Global,
     world: &World,
     pattern: &Pattern,
     op: OpId,
-) -> Result<Option<Vec<Option<Value>>>, AllocError>
-    ensures { IfOk result (λ values. option_map (λ v. v.items) values
+) -> Result<Result<Vec<Option<Value>>, Mismatch>, AllocError>
+    ensures values { IfOk result (λ r. option_map (λ v. v.items) (result_ok r)
         ≡ matched (module_in world.now).tree any (pattern_model pattern.now) op) }
+    ensures tests { IfOk result (λ r. result_err r ≡ matched_tests (module_in world.now).tree (pattern_model pattern.now) op) }
 {
     if is_other(world, pattern, op) {
-        return Ok(None);
+        return Ok(Err(Mismatch::Operation(pattern.root as u128)));
     }
     let mut values = nothing_at(alloc, pattern)?;
     if !bind(pattern.root, &Value::Result(op, 0), &mut values) {
-        return Ok(None);
+        return Ok(Err(Mismatch::Operation(pattern.root as u128)));
     }
-    if !match_all(world, old_begins(pattern), &pattern.old, &mut values) {
-        return Ok(None);
+    match match_all(world, old_begins(pattern), &pattern.old, &mut values) {
+        Some(mismatch) => Ok(Err(mismatch)),
+        None => Ok(Ok(values)),
     }
-    Ok(Some(values))
 }

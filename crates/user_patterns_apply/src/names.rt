@@ -49,7 +49,7 @@ fn cast_word(cast: Cast) -> Word
 }
 
 /// Returns the operation name of `form`, or `None` if `form` has none.
-pub(crate) fn word_of(form: &Expression) -> Option<Word>
+pub fn word_of(form: &Expression) -> Option<Word>
     ensures { name_by result ≡ name_of form.now }
 {
     match form {
@@ -66,7 +66,7 @@ pub(crate) fn word_of(form: &Expression) -> Option<Word>
 }
 
 /// Returns the number of a predicate in MLIR's `predicate` attribute.
-pub(crate) fn predicate_number(predicate: Predicate) -> u128
+pub fn predicate_number(predicate: Predicate) -> u128
     ensures { result ≡ predicate_number predicate }
 {
     match predicate {

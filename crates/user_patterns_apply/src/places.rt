@@ -1,9 +1,10 @@
 //! Values at places.
-ghost use Rattle.std.specs.Prelude.{◌≡◌, ◌++◌, IfOk, OnOk};
+ghost use Rattle.std.specs.Prelude.{◌≡◌, ◌++◌, IfOk, OnOk, is_none};
 ghost use Rattle.ir_event.specs.trees.Uses.{same_value};
 ghost use Rattle.user_patterns_data.specs.Matching.{all_bound, bound, nothing, standing};
 ghost use Rattle.user_patterns_data.specs.Planning.{places};
 ghost use Rattle.user_patterns_data.specs.Shapes.{pattern_model};
+ghost use Rattle.user_patterns_apply.specs.Mismatches.{first_unbound};
 ghost use Rattle.user_patterns_apply.specs.Stands.{Stands};
 
 use ir_event::trees::uses::is_same;
@@ -38,24 +39,31 @@ pub(crate) fn bind(place: usize, value: &Value, values: &mut [Option<Value>]) ->
     }
 }
 
-/// Binds the values at the places, one after another. Returns `false` if the lists differ in length or a place is bound
-/// to another value.
-pub(crate) fn bind_all(places: &[usize], given: &[Value], values: &mut [Option<Value>]) -> bool
-    ensures { Stands (all_bound same_value places.now given.now values.old) values.new result }
+/// Binds the values at the places, one after another. Returns the index of the first value that can't be bound: the
+/// place is bound to another value, or the lists differ in length.
+pub(crate) fn bind_all(
+    places: &[usize],
+    given: &[Value],
+    values: &mut [Option<Value>],
+) -> Option<usize>
+    ensures stands { Stands (all_bound same_value places.now given.now values.old) values.new (is_none result) }
+    ensures index { result ≡ first_unbound 0 places.now given.now values.old }
 {
+    let mut index: usize = 0;
     let mut places = places;
     let mut given = given;
     'places: while let [place, places_tail @ ..] = places {
         let [value, given_tail @ ..] = given else {
-            return false;
+            return Some(index);
         };
         if !bind(*place, value, values) {
-            return false;
+            return Some(index);
         }
+        index += 1;
         places = places_tail;
         given = given_tail;
     }
-    given.is_empty()
+    if given.is_empty() { None } else { Some(index) }
 }
 
 /// Appends `count` unbound places.

@@ -20,7 +20,7 @@ pub enum BoundType {
 
 /// Returns the kind of the type's values, or `None` if the type is neither a signless integer type nor `index`.
 #[tactic(auto, using(crate::proofs::Widths::of_width, crate::proofs::Widths::of_index, crate::proofs::Widths::no_kind))]
-pub(crate) fn kind_of(ctx: &Context, ty: TypeId) -> Option<BitsKind>
+pub fn kind_of(ctx: &Context, ty: TypeId) -> Option<BitsKind>
     requires { IsType ctx.now ty }
     ensures { result ≡ kind_of (type_term ctx.now ty) }
 {

@@ -1,18 +1,22 @@
 //! Binds the types of the matched values.
-ghost use Rattle.std.specs.Prelude.{◌≡◌, ◌≤◌, ◌<◌, ◌^◌, IfOk, IfSome, map, option_map};
+ghost use Rattle.std.specs.Prelude.{◌≡◌, ◌≤◌, ◌<◌, ◌^◌, IfOk, IfSome, map, option_map, is_none};
+ghost use Rattle.std.specs.List.{list_all};
+ghost use Rattle.std.specs.Result.{result_err, result_ok};
 ghost use Rattle.ir_event.specs.types.Things.{IsType};
 ghost use Rattle.ir_event.specs.types.Terms.{type_term};
 ghost use Rattle.ir_event.specs.types.SameTypes.{same_type};
 ghost use Rattle.ir_event.specs.Modules.{module_in};
 ghost use Rattle.patterns_base.specs.Looks.{is_verified};
 ghost use Rattle.user_patterns_data.specs.Matching.{bound, type_at, types_at};
-ghost use Rattle.user_patterns_data.specs.Planning.{kind_standing, typed};
+ghost use Rattle.user_patterns_data.specs.Planning.{is_numeric, kind_standing, typed};
 ghost use Rattle.user_patterns_data.specs.Shapes.{pattern_model};
 ghost use Rattle.user_patterns_data.specs.declared.pattern.PatternOp.{PatternOp};
+ghost use Rattle.user_patterns_apply.specs.Mismatches.{typed_tests, typed_tests_over, types_tests};
 ghost use Rattle.user_patterns_apply.specs.Stands.{Stands};
 ghost use Rattle.user_patterns_apply.specs.Types.{AreTypesOf, TypeIsOf, type_in, typed_over, types_in, written_of};
 
 use crate::match_ops::old_begins;
+use crate::mismatch::Mismatch;
 use crate::places::standing;
 use crate::types::{BoundType, is_same, kind_of};
 use ir_event::trees::value::Value;
@@ -90,92 +94,102 @@ fn bind_type_at(
     bind_type(&world.ctx, number, ty, types)
 }
 
-/// Binds the types of the values whose first place is given, one for each type number. Returns whether all types agree.
+/// Binds the types of the values from the first place on, one for each type number. Returns the first test that fails.
 fn bind_types(
     world: &World,
     numbers: &[usize],
     values: &[Option<Value>],
     types: &mut [Option<BoundType>],
-) -> bool
+) -> Option<Mismatch>
     requires of { AreTypesOf world.now.ctx types.old }
     ensures stands { Stands (types_at (module_in world.now).tree (is_verified (module_in world.now).tree) 0 numbers.now
-        values.now (types_in world.now.ctx types.old)) (types_in world.now.ctx types.new) result }
+        values.now (types_in world.now.ctx types.old)) (types_in world.now.ctx types.new) (is_none result) }
+    ensures tests { result ≡ types_tests (module_in world.now).tree (is_verified (module_in world.now).tree) 0 numbers.now
+        values.now (types_in world.now.ctx types.old) }
     ensures of { AreTypesOf world.now.ctx types.new }
 {
     let mut place: u128 = 0;
     let mut rest = numbers;
     'numbers: while let [first, tail @ ..] = rest {
         if !bind_type_at(world, place, *first, values, types) {
-            return false;
+            return Some(Mismatch::Type(place));
         }
         place += 1;
         rest = tail;
     }
-    true
+    None
 }
 
-/// Binds the types of the matched operations, the first at place `begins`. Returns whether all types agree.
+/// Binds the types of the matched operations, the first at place `begins`. Returns the first test that fails.
 fn bind_old_types(
     world: &World,
     begins: u128,
     old: &[PatternOp],
     values: &[Option<Value>],
     types: &mut [Option<BoundType>],
-) -> bool
+) -> Option<Mismatch>
     requires begins { begins < 2 ^ 100 }
     requires of { AreTypesOf world.now.ctx types.old }
     ensures stands { Stands (types_at (module_in world.now).tree (is_verified (module_in world.now).tree) begins
         (map PatternOp.ty old.now) values.now (types_in world.now.ctx types.old)) (types_in world.now.ctx types.new)
-        result }
+        (is_none result) }
+    ensures tests { result ≡ types_tests (module_in world.now).tree (is_verified (module_in world.now).tree) begins
+        (map PatternOp.ty old.now) values.now (types_in world.now.ctx types.old) }
     ensures of { AreTypesOf world.now.ctx types.new }
 {
     let mut place = begins;
     let mut rest = old;
     'old: while let [first, tail @ ..] = rest {
         if !bind_type_at(world, place, first.ty, values, types) {
-            return false;
+            return Some(Mismatch::Type(place));
         }
         place += 1;
         rest = tail;
     }
-    true
+    None
 }
 
-/// Binds the types of all matched values. Returns whether all types agree.
+/// Binds the types of all matched values. Returns the first test that fails.
 fn bind_all_types(
     world: &World,
     pattern: &Pattern,
     values: &[Option<Value>],
     types: &mut [Option<BoundType>],
-) -> bool
+) -> Option<Mismatch>
     requires of { AreTypesOf world.now.ctx types.old }
     ensures stands { Stands (typed_over (module_in world.now).tree (is_verified (module_in world.now).tree)
-        (pattern_model pattern.now) values.now (types_in world.now.ctx types.old)) (types_in world.now.ctx types.new) result }
+        (pattern_model pattern.now) values.now (types_in world.now.ctx types.old)) (types_in world.now.ctx types.new)
+        (is_none result) }
+    ensures tests { result ≡ typed_tests_over (module_in world.now).tree (is_verified (module_in world.now).tree)
+        (pattern_model pattern.now) values.now (types_in world.now.ctx types.old) }
     ensures of { AreTypesOf world.now.ctx types.new }
 {
-    if !bind_types(world, &pattern.values, values, types) {
-        return false;
+    if let Some(mismatch) = bind_types(world, &pattern.values, values, types) {
+        return Some(mismatch);
     }
     bind_old_types(world, old_begins(pattern), &pattern.old, values, types)
 }
 
-/// Returns the bound types of the pattern, given the bound values, or `None` if the types of two values don't agree.
+/// Returns the bound types of the pattern, given the bound values, or the first test that fails: the types of two values
+/// don't agree.
 pub(crate) fn bound_types(
     alloc: Global,
     world: &World,
     pattern: &Pattern,
     values: &[Option<Value>],
-) -> Result<Option<Vec<Option<BoundType>>>, AllocError>
-    ensures types { IfOk result (λ types. option_map (λ ts. types_in world.now.ctx ts.items) types
+) -> Result<Result<Vec<Option<BoundType>>, Mismatch>, AllocError>
+    ensures types { IfOk result (λ types. option_map (λ ts. types_in world.now.ctx ts.items) (result_ok types)
         ≡ typed (module_in world.now).tree (is_verified (module_in world.now).tree) (module_in world.now).next
         (pattern_model pattern.now) values.now) }
-    ensures of { IfOk result (λ types. IfSome types (λ ts. AreTypesOf world.now.ctx ts.items)) }
+    ensures tests { IfOk result (λ types. result_err types ≡ typed_tests (module_in world.now).tree
+        (is_verified (module_in world.now).tree) (pattern_model pattern.now) values.now) }
+    ensures of { IfOk result (λ types. IfOk types (λ ts. AreTypesOf world.now.ctx ts.items)) }
 {
     let mut types = written_types(alloc, &pattern.value_types)?;
-    if !bind_all_types(world, pattern, values, &mut types) {
-        return Ok(None);
+    match bind_all_types(world, pattern, values, &mut types) {
+        Some(mismatch) => Ok(Err(mismatch)),
+        None => Ok(Ok(types)),
     }
-    Ok(Some(types))
 }
 
 /// Returns the kind of a bound type. A type that isn't bound has a kind without values.
@@ -191,6 +205,33 @@ fn kind_standing(ctx: &Context, bound: &Option<BoundType>) -> BitsKind
         Some(BoundType::Concrete(kind)) => *kind,
         None => BitsKind::Int(0),
     }
+}
+
+/// Returns whether a bound type is a signless integer type or `index`. A type that isn't bound is one.
+fn is_numeric(ctx: &Context, bound: &Option<BoundType>) -> bool
+    requires { IfSome bound.now (λ t. TypeIsOf ctx.now t) }
+    ensures { result ≡ is_numeric (option_map (type_in ctx.now) bound.now) }
+{
+    match bound {
+        Some(BoundType::Matched(ty)) => kind_of(ctx, *ty).is_some(),
+        Some(BoundType::Concrete(_)) => true,
+        None => true,
+    }
+}
+
+/// Returns whether the bound types are signless integer types or `index`. A type that isn't bound passes.
+pub(crate) fn all_numeric(ctx: &Context, types: &[Option<BoundType>]) -> bool
+    requires { AreTypesOf ctx.now types.now }
+    ensures { result ≡ list_all is_numeric (types_in ctx.now types.now) }
+{
+    let mut rest = types;
+    'types: while let [first, tail @ ..] = rest {
+        if !is_numeric(ctx, first) {
+            return false;
+        }
+        rest = tail;
+    }
+    true
 }
 
 /// Returns the kinds of the bound types.

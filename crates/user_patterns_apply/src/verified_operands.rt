@@ -1,11 +1,12 @@
 //! Tests that the matched operations are verified, and that constants define the pattern's constants.
-ghost use Rattle.std.specs.Prelude.{◌≡◌, ◌<◌, ◌^◌, ℕ, IfOk};
-ghost use Rattle.std.specs.List.{list_all};
+ghost use Rattle.std.specs.Prelude.{◌≡◌, ◌<◌, ◌^◌, IfOk};
 ghost use Rattle.ir_event.specs.Modules.{module_in};
 ghost use Rattle.patterns_base.specs.Looks.{is_verified};
 ghost use Rattle.user_patterns_data.specs.Matching.{placed, standing};
-ghost use Rattle.user_patterns_apply.specs.Matched.{all_verified, is_verified_value, is_constant_value, is_first};
+ghost use Rattle.user_patterns_apply.specs.Matched.{is_verified_value, is_constant_value, is_first};
+ghost use Rattle.user_patterns_apply.specs.Mismatches.{constants_tests, verified_tests};
 
+use crate::mismatch::Mismatch;
 use crate::places::standing;
 use ir_event::trees::value::Value;
 use ir_event::world::World;
@@ -43,27 +44,29 @@ pub(crate) fn is_first(value: &Value) -> bool
     }
 }
 
-/// Returns whether the matched operations are verified. The first pattern op has the given place.
-pub(crate) fn all_verified(
+/// Tests that the matched operations are verified. The first pattern op has the given place. Returns the first test that
+/// fails.
+pub(crate) fn test_verified(
     alloc: Global,
     world: &World,
     begins: u128,
     old: &[PatternOp],
     values: &[Option<Value>],
-) -> Result<bool, AllocError>
+) -> Result<Option<Mismatch>, AllocError>
     requires { begins < 2 ^ 100 }
-    ensures { IfOk result (λ b. b ≡ all_verified (module_in world.now).tree (is_verified (module_in world.now).tree)
-        values.now (placed begins old.now)) }
+    ensures { IfOk result (λ m. m ≡ verified_tests (module_in world.now).tree (is_verified (module_in world.now).tree)
+        (placed begins old.now) values.now) }
 {
     let mut left = old.len();
     'old: while left > 0 {
         left -= 1;
-        let value = standing(values, begins + left as u128);
+        let place = begins + left as u128;
+        let value = standing(values, place);
         if !is_verified_value(alloc, world, &value)? {
-            return Ok(false);
+            return Ok(Some(Mismatch::NotVerified(place)));
         }
     }
-    Ok(true)
+    Ok(None)
 }
 
 /// Returns whether the value at `place` is defined by a constant operation, verified or not.
@@ -76,17 +79,21 @@ fn is_constant_at(world: &World, place: usize, values: &[Option<Value>]) -> bool
     }
 }
 
-/// Returns whether the values at the places `constants` are defined by constant operations, verified or not.
-pub(crate) fn are_constants(world: &World, constants: &[usize], values: &[Option<Value>]) -> bool
-    ensures { result ≡ list_all (λ (k : ℕ). is_constant_value (module_in world.now).tree (standing k values.now))
-        constants.now }
+/// Tests that constants, verified or not, define the values at the places `constants`. Returns the first test that
+/// fails.
+pub(crate) fn test_constants(
+    world: &World,
+    constants: &[usize],
+    values: &[Option<Value>],
+) -> Option<Mismatch>
+    ensures { result ≡ constants_tests (module_in world.now).tree constants.now values.now }
 {
     let mut rest = constants;
     'constants: while let [first, tail @ ..] = rest {
         if !is_constant_at(world, *first, values) {
-            return false;
+            return Some(Mismatch::Constant(*first));
         }
         rest = tail;
     }
-    true
+    None
 }

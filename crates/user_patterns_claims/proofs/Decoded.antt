@@ -20,7 +20,7 @@ use Rattle.user_patterns_data.specs.Fitting.{content_at, kind_at, kinds_with}
 use Rattle.user_patterns_data.specs.Shapes.{PatternModel}
 use Rattle.width_claims.specs.declared.width.Width.{Width}
 use Rattle.user_patterns_claims.specs.declared.assignment.Assignment.{Assignment}
-use Rattle.user_patterns_claims.specs.Decoding.{IsAssignment, IsRefutation, IsWitness, RefutationsRefute, WitnessesWitness, decoded_outcomes, decoded_widths, first_place, is_kept, is_poison, mask_place, ones, outcome_by, outcomes_from, set_after, spelled, widths_from}
+use Rattle.user_patterns_claims.specs.Decoding.{IsAssignment, IsRefutation, IsWitness, RefutationsRefute, WitnessesWitness, decoded_outcomes, decoded_widths, first_place, is_kept, is_poison, mask_place, ones, outcome_by, outcomes_from, set_after, number_in_word, widths_from}
 use Rattle.user_patterns_claims.specs.Outcomes.{AreKindsOf, AreOutcomes, IsNumberIf, IsOutcome, are_kinds, is_number_at, keeps_outcomes, new_result, old_outcomes, old_result}
 use Rattle.user_patterns_claims.specs.Translation.{is_constant}
 
@@ -42,8 +42,8 @@ decoded_are : (p : PatternModel) (ks : List BitsKind) (word : List ℕ) (first i
 decoded_are p ks word first i set [] = tt
 decoded_are p ks word first i set (t ∷ tys) =
     let c = is_constant p i in (
-      outcome_is (is_poison c set) (kind_at ks t) (spelled (first + i) word),
-      number_is c set (kind_at ks t) (spelled (first + i) word),
+      outcome_is (is_poison c set) (kind_at ks t) (number_in_word (first + i) word),
+      number_is c set (kind_at ks t) (number_in_word (first + i) word),
       decoded_are p ks word first (i + 1) (set_after c set) tys,
     )
 

@@ -28,9 +28,9 @@ bit_at zero letter = letter % 2
 bit_at (suc place) letter = bit_at place (letter / 2)
 
 -- the number whose bits are at a place of the letters
-abbrev pub spelled : ℕ → List ℕ → ℕ
-spelled place [] = 0
-spelled place (letter ∷ word) = 2 * spelled place word + bit_at place letter
+abbrev pub number_in_word : ℕ → List ℕ → ℕ
+number_in_word place [] = 0
+number_in_word place (letter ∷ word) = 2 * number_in_word place word + bit_at place letter
 
 -- the number of letters with a one at a place
 abbrev pub ones : ℕ → List ℕ → ℕ
@@ -84,7 +84,7 @@ set_after constant set = if constant then set else set / 2
 abbrev pub outcomes_from : PatternModel → List ℕ → ℕ → ℕ → ℕ → List BitsKind → List Outcome
 outcomes_from p word first i set [] = []
 outcomes_from p word first i set (k ∷ ks) =
-    outcome_by (is_poison (is_constant p i) set) k (spelled (first + i) word) ∷ outcomes_from p word first (i + 1) (set_after (is_constant p i) set) ks
+    outcome_by (is_poison (is_constant p i) set) k (number_in_word (first + i) word) ∷ outcomes_from p word first (i + 1) (set_after (is_constant p i) set) ks
 
 -- the place of the first variable
 abbrev pub first_place : PatternModel → ℕ

@@ -10,7 +10,7 @@ ghost use Rattle.user_patterns_claims.specs.Decoding.{IsAssignment, decoded_widt
 ghost use Rattle.user_patterns_claims.specs.Outcomes.{are_kinds};
 
 use crate::assignment::Assignment;
-use crate::letters::{ones, spelled};
+use crate::letters::{number_in_word, ones};
 use crate::pattern_word::PatternWord;
 use crate::variables::is_constant;
 use ir_types::bits::{Bits, BitsKind, width};
@@ -191,7 +191,7 @@ fn push_outcomes(
         return Ok(true);
     };
     let constant = is_constant(read.pattern, i);
-    let Some(number) = spelled(read.first + i, read.word) else {
+    let Some(number) = number_in_word(read.first + i, read.word) else {
         return Ok(false);
     };
     let Some(outcome) = outcome_of(*kind, is_poison(constant, set), number) else {

@@ -1,6 +1,6 @@
 //! The numbers that the letters of a word spell.
 ghost use Rattle.std.specs.Prelude.{◌≡◌, IfSome};
-ghost use Rattle.user_patterns_claims.specs.Decoding.{bit_at, ones, spelled};
+ghost use Rattle.user_patterns_claims.specs.Decoding.{bit_at, ones, number_in_word};
 
 /// Returns the bit at a place of a letter.
 fn bit_at(place: usize, letter: u32) -> u32
@@ -13,13 +13,13 @@ fn bit_at(place: usize, letter: u32) -> u32
 }
 
 /// Returns the number whose bits are at a place of the letters, the lowest first, if it has at most 128 bits.
-pub(crate) fn spelled(place: usize, word: &[u32]) -> Option<u128>
-    ensures { IfSome result (λ n. n ≡ spelled place word.now) }
+pub(crate) fn number_in_word(place: usize, word: &[u32]) -> Option<u128>
+    ensures { IfSome result (λ n. n ≡ number_in_word place word.now) }
 {
     let [letter, tail @ ..] = word else {
         return Some(0);
     };
-    let rest = spelled(place, tail)?;
+    let rest = number_in_word(place, tail)?;
     let twice = rest.checked_mul(2)?;
     twice.checked_add(bit_at(place, *letter) as u128)
 }

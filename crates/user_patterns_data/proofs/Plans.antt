@@ -21,7 +21,7 @@ use Rattle.user_patterns_data.specs.declared.pattern.PatternOp.{PatternOp}
 use Rattle.user_patterns_data.specs.declared.pattern.ExtraConstant.{ExtraConstant}
 use Rattle.user_patterns_data.specs.Fitting.{content_with, fits}
 use Rattle.user_patterns_data.specs.Matching.{Header, Standing, bound, defining_op_head, known, nothing, ops_match, placed, standing, type_at, types_at, when, written}
-use Rattle.user_patterns_data.specs.Planning.{all_made, are_same, constants_known, extra_known, extra_place, kind_standing, known_at, new_place, old_place, outcomes, places, planned, planned_by, planned_from, typed}
+use Rattle.user_patterns_data.specs.Planning.{all_made, are_same, constants_known, extra_known, extra_place, is_numeric, kind_standing, known_at, new_place, old_place, outcomes, places, planned, planned_by, planned_from, typed}
 use Rattle.user_patterns_data.specs.Shapes.{PatternModel}
 use Rattle.user_patterns_data.specs.Depth.{all_near_from, are_near, is_near, is_shallow, is_shallow_by, is_shallow_from, takes_below}
 use Rattle.user_patterns_data.specs.Alike.{PlansAlike, ShowAlike, TypesAlike}
@@ -133,7 +133,7 @@ module _ (t u : Operation) (verified cleans : Header → Bool) (x : ℕ) (s : Sh
           some_same e i = cc
 
       pub planned_alike : (ts : Standing TypeTerm) → Both (planned_by t verified n p b ts) (planned_by u cleans m p b ts)
-      planned_alike ts = by_alike ts (map kind_standing ts)
+      planned_alike ts = when_both (list_all is_numeric ts) (list_all is_numeric ts) _ _ refl (by_alike ts (map kind_standing ts))
 
 pub plans_alike : PlansAlike
 unfolding is_shallow planned

@@ -76,6 +76,11 @@ kind_standing (Some term) = or_none (kind_of term)
     or_none None = kind.Int 0
     or_none (Some k) = k
 
+-- a type is a signless integer type or index, as is a type that isn't bound
+abbrev pub is_numeric : Option TypeTerm → Bool
+is_numeric None = true
+is_numeric (Some term) = is_some (kind_of term)
+
 -- ---- the plan
 
 -- the new operations, and the value that replaces the root's result
@@ -109,7 +114,7 @@ module _ (t : Operation) (verified : Header → Bool) (n : ℕ) (p : PatternMode
       (given (all_made ts env n (new_place p) p.new b) (λ (r : List Operation × Standing Value). given (standing p.result r.1) (λ v. Some (r.0, v))))
 
   abbrev pub planned_by : Standing Value → Standing TypeTerm → Option Plan
-  planned_by b ts = by (map kind_standing ts)
+  planned_by b ts = when (list_all is_numeric ts) (by (map kind_standing ts))
     where
       by : List BitsKind → Option Plan
       by ks =

@@ -3,7 +3,7 @@ use Rattle.std.proofs.Common.{◌≡◌, ◌∙◌, ℕ, ◌≤◌, Bool, true, 
 use Rattle.std.specs.Str.{bytes_eq}
 use Rattle.std.proofs.lemmas.List.Elements.{All-filter}
 use Rattle.ir_types.proofs.Growth.{name_is}
-use Rattle.user_patterns_registry.specs.Registry.{AreApart, ForgetsNothing, ForgetsOne, ForgettingKeepsARegistry, IsForgotten, IsReady, Kept, RegistryModel, forgotten, found, is_named, kept_view, kept_views}
+use Rattle.user_patterns_registry.specs.Registry.{AreApart, ForgetsNothing, ForgetsOne, ForgettingKeepsARegistry, IsReady, Kept, RegistryModel, forgotten, found, is_named, kept_view, kept_views}
 use Rattle.user_patterns_registry.specs.declared.registry.RegisteredPattern.{RegisteredPattern}
 use Rattle.user_patterns_registry.proofs.Registries.{extra_on, not_first}
 

@@ -1,9 +1,8 @@
 pub mod Forgetting
 pub mod Registries
+pub mod Replacing
 pub mod Halves
-pub mod Ranges
 pub mod Refuting
 pub mod Telling
 pub mod Trying
-pub mod Wide
 pub mod Widest

@@ -1,7 +1,6 @@
 -- A definition is found by its name, and leaves the other patterns.
-use Rattle.std.proofs.Common.{◌≡◌, ◌∙◌, ℕ, ◌+◌, ◌<◌, ◌≤◌, Bool, true, false, nat_lt, if◌then◌else◌, List, [], ◌∷◌, ◌++◌, length, Option, Some, None, is_some, OnOk, Result, Ok, Err, refl, sym, ap, subst, arith, length-append, true≢false}
+use Rattle.std.proofs.Common.{◌≡◌, ◌∙◌, ℕ, ◌<◌, Bool, true, false, nat_lt, if◌then◌else◌, List, [], ◌∷◌, ◌++◌, length, Option, Some, None, is_some, OnOk, Result, Ok, Err, refl, sym, ap, subst, arith, length-append}
 use Rattle.std.specs.Str.{bytes_eq}
-use Rattle.std.specs.List.{All}
 use Rattle.std.proofs.lemmas.Bool.{ltb-true}
 use Rattle.std.proofs.lemmas.List.{length-map}
 use Rattle.std.proofs.lemmas.List.Elements.{All-map, All-nil, All-push, All-weaker}
@@ -19,7 +18,6 @@ use Rattle.user_patterns_text.specs.Refusing.{Returns, Outcome, ◌>>=◌, begin
 use Rattle.user_patterns_text.specs.declared.error.PatternError.{PatternError}
 use Rattle.user_patterns_text.specs.Rendered.{Spells, whole_at}
 use Rattle.user_patterns_sema.specs.Sema.{wellformed}
-use Rattle.user_patterns_sema_base.specs.Names.{Names, names_of}
 use Rattle.user_patterns_build.specs.CanBuild.{can_build}
 use Rattle.user_patterns_build.specs.Unified.{ready}
 use Rattle.user_patterns_build.proofs.Numbered.{is_ready}
@@ -27,7 +25,7 @@ use Rattle.user_patterns_data.specs.Shapes.{PatternModel}
 use Rattle.user_patterns_data.specs.WellFormed.{is_well_formed}
 use Rattle.user_patterns_registry.specs.declared.check_result.CheckSummary.{CheckSummary}
 use Rattle.user_patterns_registry.specs.Rows.{Variable}
-use Rattle.user_patterns_registry.specs.Registry.{AddsOne, AreApart, RegistryModel, IsAdded, IsRegistry, IsReady, Kept, LastSpells, NotingKeepsARegistry, StaysARegistry, added, and_kept, defined, found, is_named, kept_as, kept_of, made_ready, most_patterns, noted, noted_one, headroom_for, shape_of, variables_of, with_said, Text}
+use Rattle.user_patterns_registry.specs.Registry.{AddsOne, AreApart, RegistryModel, IsRegistry, IsReady, Kept, LastSpells, NotingKeepsARegistry, StaysARegistry, added, and_kept, defined, found, is_named, kept_as, kept_of, made_ready, most_patterns, noted, noted_one, headroom_for, shape_of, variables_of, with_said, Text}
 
 -- ---- outcomes
 
@@ -108,15 +106,15 @@ shape_ready p t h =
     ready_made s.0 t (ready s.0) refl s.2
 
 -- the entry has the name and the text of the parsed pattern, and can be applied
-record KeptOf (p : parts.Pattern) (k : Kept) : Type 0 where
-  name : k.name ≡ p.name
-  text : k.text ≡ pattern_text p
-  ready : IsReady k
+pub record KeptOf (p : parts.Pattern) (k : Kept) : Type 0 where
+  pub name : k.name ≡ p.name
+  pub text : k.text ≡ pattern_text p
+  pub ready : IsReady k
 
 as_kept : (p : parts.Pattern) (vs : List Variable) (t : PatternModel) (k : Kept) → kept_as p vs t ≡ k → (is_well_formed t ≡ true) × (can_build t ≡ true) → KeptOf p k
 as_kept p vs t k e r = subst (KeptOf p) e (record { name = refl; text = refl; ready = record { stands = r.0; buildable = r.1 } })
 
-kept_is : (p : parts.Pattern) (k : Kept) → kept_of p ≡ Ok k → KeptOf p k
+pub kept_is : (p : parts.Pattern) (k : Kept) → kept_of p ≡ Ok k → KeptOf p k
 unfolding kept_of
 kept_is p k h =
     let vs = bound_ok (variables_of p) (λ vs. shape_of p >>= λ t. Ok (kept_as p vs t)) k h in

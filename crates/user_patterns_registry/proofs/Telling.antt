@@ -16,7 +16,7 @@ use Rattle.user_patterns_claims.specs.Answered.{IsRefuted}
 use Rattle.user_patterns_claims.specs.Outcomes.{IsNeverNumber, OutcomesDecide}
 use Rattle.user_patterns_claims.specs.Outcomes.{HoldsAtAllWidths as HoldsForOutcomes}
 use Rattle.user_patterns_registry.specs.CheckResult.{IsCheckResult, IsFirstFound, IsKept, IsSampledIf, IsWrong, requested_width, reports_all_widths}
-use Rattle.user_patterns_registry.specs.Sampled.{IsWideSampled, wide_widths}
+use Rattle.user_patterns_registry.specs.Sampled.{IsWideSampled}
 use Rattle.user_patterns_registry.specs.Shown.{IsShown, told_width, width_told}
 
 pub alike : {X : Type 0} (f : Content → List ℕ → X) (s t : Content) (us vs : List ℕ) → s ≡ t → us ≡ vs → f s us ≡ f t vs
@@ -32,46 +32,46 @@ form_speaks p (Some w) e = absurd (false_true e)
 
 -- what is true of the width that was tried is true of the one that was asked
 module _ (p : PatternModel) (requested : Option ℕ) (most : ℕ) (is : most ≡ requested_width p requested) where
-  to_asked : (v : Verdict) → IsVerdict (content_at p) p.types most v → IsVerdict (content_at p) p.types (requested_width p requested) v
-  to_asked v right = subst (λ (m : ℕ). IsVerdict (content_at p) p.types m v) is right
+  to_requested : (v : Verdict) → IsVerdict (content_at p) p.types most v → IsVerdict (content_at p) p.types (requested_width p requested) v
+  to_requested v right = subst (λ (m : ℕ). IsVerdict (content_at p) p.types m v) is right
 
   width_is : (v : ℕ) → v ≡ told_width p most → v ≡ told_width p (requested_width p requested)
   width_is v width = width ∙ ap (told_width p) is
 
   -- a check up to a width that was asked
-  pub asked_told : (w v : ℕ) → requested ≡ Some w → v ≡ told_width p most → IsVerdict (content_at p) p.types most verdict.Holds → reports_all_widths p requested ≡ false
+  pub requested_result : (w v : ℕ) → requested ≡ Some w → v ≡ told_width p most → IsVerdict (content_at p) p.types most verdict.Holds → reports_all_widths p requested ≡ false
       → IsCheckResult p requested (judgement.Holds v)
-  asked_told w v e width right told = (width_is v width, to_asked verdict.Holds right, told, subst (IsSampledIf p) (sym e) tt)
+  requested_result w v e width right told = (width_is v width, to_requested verdict.Holds right, told, subst (IsSampledIf p) (sym e) tt)
 
   pub samples_told : (v : ℕ) → requested ≡ None → v ≡ told_width p most → IsVerdict (content_at p) p.types most verdict.Holds → reports_all_widths p requested ≡ false
-      → IsWideSampled p wide_widths None → IsCheckResult p requested (judgement.Holds v)
-  samples_told v e width right told kept = (width_is v width, to_asked verdict.Holds right, told, subst (IsSampledIf p) (sym e) kept)
+      → IsWideSampled p None → IsCheckResult p requested (judgement.Holds v)
+  samples_told v e width right told kept = (width_is v width, to_requested verdict.Holds right, told, subst (IsSampledIf p) (sym e) kept)
 
-  pub sampled_told : (c : Counterexample) → requested ≡ None → IsVerdict (content_at p) p.types most verdict.Holds → IsWideSampled p wide_widths (Some c)
+  pub sampled_told : (c : Counterexample) → requested ≡ None → IsVerdict (content_at p) p.types most verdict.Holds → IsWideSampled p (Some c)
       → IsCheckResult p requested (judgement.Fails c)
-  sampled_told c e right found = inr (e, to_asked verdict.Holds right, found)
+  sampled_told c e right found = inr (e, to_requested verdict.Holds right, found)
 
   pub form_told : HoldsAtAllWidths → 1 ≤ most → IsVerdict (content_at p) p.types most verdict.Holds → reports_all_widths p requested ≡ true
       → IsCheckResult p requested judgement.AllWidths
   form_told law some right told =
       let form = form_speaks p requested told in
       let refines = law p form.1 most some right in
-      (form.0, inl (to_asked verdict.Holds right), (λ ks widths kinds. refines ks widths), inl (form.1, refines))
+      (form.0, inl (to_requested verdict.Holds right), (λ ks widths kinds. refines ks widths), inl (form.1, refines))
 
   pub claims_told : OutcomesDecide → requested ≡ None → IsVerdict (content_at p) p.types most verdict.Holds → HoldsForOutcomes p
       → IsCheckResult p requested judgement.AllWidths
-  claims_told law e right claimed = (e, inl (to_asked verdict.Holds right), law p claimed, inr claimed)
+  claims_told law e right claimed = (e, inl (to_requested verdict.Holds right), law p claimed, inr claimed)
 
   pub wide_told : OutcomesDecide → requested ≡ None → IsVerdict (content_at p) p.types most verdict.Vacuous → HoldsForOutcomes p → (IsNeverNumber p → ⊥)
       → IsCheckResult p requested judgement.AllWidths
-  wide_told law e right claimed somewhere = (e, inr (to_asked verdict.Vacuous right, somewhere), law p claimed, inr claimed)
+  wide_told law e right claimed somewhere = (e, inr (to_requested verdict.Vacuous right, somewhere), law p claimed, inr claimed)
 
   pub never_told : (v : ℕ) → requested ≡ None → v ≡ told_width p most → IsVerdict (content_at p) p.types most verdict.Holds → IsNeverNumber p
       → IsCheckResult p requested (judgement.Vacuous v)
-  never_told v e width right never = (width_is v width, inr (e, to_asked verdict.Holds right, never))
+  never_told v e width right never = (width_is v width, inr (e, to_requested verdict.Holds right, never))
 
   pub empty_told : (v : ℕ) → v ≡ told_width p most → IsVerdict (content_at p) p.types most verdict.Vacuous → IsCheckResult p requested (judgement.Vacuous v)
-  empty_told v width right = (width_is v width, inl (to_asked verdict.Vacuous right))
+  empty_told v width right = (width_is v width, inl (to_requested verdict.Vacuous right))
 
   -- a pattern that holds, and whether its old side is a number somewhere
   pub right_told : OutcomesDecide → requested ≡ None → IsVerdict (content_at p) p.types most verdict.Vacuous → (b : Bool) → HoldsForOutcomes p × (b ≡ true → IsNeverNumber p → ⊥)

@@ -18,7 +18,7 @@ use Rattle.user_patterns_registry.specs.declared.check_result.CheckResult.{Check
 use Rattle.user_patterns_registry.specs.declared.check_result.CheckResult.TheVariants as judgement
 use Rattle.user_patterns_registry.specs.declared.check_result.CheckSummary.{CheckSummary}
 use Rattle.user_patterns_registry.specs.declared.check_result.CheckSummary.TheVariants as said
-use Rattle.user_patterns_registry.specs.Sampled.{IsWideRefuted, NoneRefutes, most_types, wide_widths}
+use Rattle.user_patterns_registry.specs.Sampled.{IsFirstSample, IsUnrefuted, most_types, wide_widths}
 use Rattle.user_patterns_registry.specs.Shown.{IsShown, told_width, width_told}
 
 -- ---- the width
@@ -75,7 +75,7 @@ IsDefinedSomewhere p w = IsVerdict (content_at p) p.types w verdict.Holds ⊎ (I
 
 -- no sample of wide types refutes the pattern, if no width was asked
 abbrev pub IsSampledIf : PatternModel → Option ℕ → Type 0
-IsSampledIf p None = p.types ≤ most_types → NoneRefutes p wide_widths
+IsSampledIf p None = p.types ≤ most_types → IsUnrefuted p wide_widths
 IsSampledIf p (Some w) = Unit {0}
 
 -- the first counterexample among the values up to the width
@@ -114,7 +114,7 @@ IsCheckResult p requested (judgement.Vacuous v) =
     ⊎ ((requested ≡ None) × IsVerdict (content_at p) p.types (requested_width p requested) verdict.Holds × IsNeverNumber p))
 IsCheckResult p requested (judgement.Fails c) =
     IsFirstFound p (requested_width p requested) c
-    ⊎ ((requested ≡ None) × IsVerdict (content_at p) p.types (requested_width p requested) verdict.Holds × IsWideRefuted p c)
+    ⊎ ((requested ≡ None) × IsVerdict (content_at p) p.types (requested_width p requested) verdict.Holds × IsFirstSample p wide_widths c)
 IsCheckResult p requested (judgement.Refuted w r) =
     (requested ≡ None) × (w ≡ width_told p r.assignment.widths.items) × IsKept p (requested_width p requested) × IsRefuted p r
 IsCheckResult p requested (judgement.Sampled v) = ⊥

@@ -1,6 +1,6 @@
 pub mod Registry
 pub mod Shown
 pub mod CheckResult
+pub mod Changes
 pub mod Rows
-pub mod Values
 pub mod Sampled

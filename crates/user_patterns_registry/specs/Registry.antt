@@ -1,5 +1,5 @@
 -- The pattern registry of a session: patterns by name, in the order of their definitions.
-use Rattle.std.specs.Prelude.{◌≡◌, ℕ, ◌≤◌, Bool, true, false, not, nat_lt, if◌then◌else◌, List, [], ◌∷◌, ◌++◌, codes, filter, length, map, Option, Some, None, is_some, Ok, Err}
+use Rattle.std.specs.Prelude.{◌≡◌, ℕ, ◌≤◌, Bool, true, false, not, nat_lt, if◌then◌else◌, List, [], ◌∷◌, ◌++◌, codes, filter, length, map, position, slice_set, Option, Some, None, is_some, Ok}
 use Rattle.std.specs.Str.{bytes_eq}
 use Rattle.std.specs.List.{All}
 use Rattle.ir_text_tokens.specs.declared.refusal.TextRefusal.TheVariants.{Redefined, TooMany, TypeMismatch}
@@ -155,6 +155,12 @@ NotingKeepsARegistry = (registry : RegistryModel) (name : List ℕ) (said : Chec
 -- a registry without one of its patterns is a registry
 abbrev pub ForgettingKeepsARegistry : Type 0
 ForgettingKeepsARegistry = (registry : RegistryModel) (name : List ℕ) → IsRegistry registry → IsRegistry (forgotten name registry)
+
+-- a registry with a pattern in place of the first one of its name is a registry
+abbrev pub ReplacingKeepsARegistry : Type 0
+ReplacingKeepsARegistry =
+    (registry : RegistryModel) (p : parts.Pattern) (place : ℕ) (k : Kept) → IsRegistry registry → kept_of p ≡ Ok k → position (is_named p.name) registry ≡ Some place
+    → IsRegistry (slice_set registry place k)
 
 -- no pattern has the name any more, and the pattern of any other name is the same as before
 pub record IsForgotten (name : List ℕ) (registry new : RegistryModel) : Type 0 where

@@ -1,6 +1,6 @@
 -- The sampled check of a pattern at wide types. A reported counterexample is one. Without a counterexample, the check
 -- says nothing about other values.
-use Rattle.std.specs.Prelude.{◌≡◌, ℕ, ◌<◌, ◌≤◌, ◌/◌, ◌^◌, ◌⊎◌, Bool, false, List, [], ◌∷◌, ◌++◌, get_or, map, max, replicate, take, Option, Some, None}
+use Rattle.std.specs.Prelude.{◌≡◌, ℕ, ◌<◌, ◌≤◌, ◌⊎◌, Bool, false, List, [], ◌∷◌, ◌++◌, get_or, replicate, Option, Some, None}
 use Rattle.ir_types.specs.declared.refusal.Refusal.{Refusal}
 use Rattle.ir_types.specs.declared.refusal.Refusal.TheVariants.{BadLimit, Memory}
 use Rattle.user_patterns_check.specs.Cases.{first_failing}
@@ -9,11 +9,13 @@ use Rattle.user_patterns_check.specs.Checks.{keeps}
 use Rattle.user_patterns_check.specs.Families.{IsVerdict}
 use Rattle.user_patterns_data.specs.Fitting.{content_at}
 use Rattle.user_patterns_data.specs.Shapes.{PatternModel}
+use Rattle.user_patterns_widths.specs.NearLiterals.{near_literals}
+use Rattle.user_patterns_widths.specs.SampledValues.{values_of}
+use Rattle.user_patterns_widths.specs.SampledWidths.{levels, widths_tried}
 use Rattle.user_patterns_registry.specs.declared.check_result.Counterexample.{Counterexample}
 use Rattle.user_patterns_registry.specs.declared.check_result.CheckResult.{CheckResult}
 use Rattle.user_patterns_registry.specs.declared.check_result.CheckResult.TheVariants as judgement
 use Rattle.user_patterns_registry.specs.Shown.{IsShown, told_width, width_told}
-use Rattle.user_patterns_registry.specs.Values.{values_of}
 
 -- ---- the samples
 
@@ -24,37 +26,32 @@ most_sampled = 128
 abbrev pub most_types : ℕ
 most_types = 4
 
--- each type variable has the given width, half of it or a quarter, by three levels
-abbrev pub levels : ℕ
-levels = 3
+-- the numbers near which the usual samples are: none
+abbrev pub usual : List ℕ
+usual = []
 
-abbrev pub level_width : ℕ → ℕ → ℕ
-level_width w level = max 1 (w / 2 ^ level)
-
--- the number of test cases at each list of widths
-abbrev pub cases : ℕ
-cases = 4096
+-- the number of test cases at each list of widths: of usual ones, and of those near numbers
+abbrev pub cases : List ℕ → ℕ
+cases [] = 4096
+cases (n ∷ ns) = 1681
 
 -- the check runs over lists of numbers: a level for each type variable, then a case
-abbrev pub tried_bounds : PatternModel → List ℕ
-tried_bounds p = replicate p.types levels ++ (cases ∷ [])
-
-abbrev pub widths_tried : PatternModel → ℕ → List ℕ → List ℕ
-widths_tried p w numbers = map (level_width w) (take p.types numbers)
+abbrev pub tried_bounds : PatternModel → List ℕ → List ℕ
+tried_bounds p near = replicate p.types levels ++ (cases near ∷ [])
 
 abbrev pub case_tried : PatternModel → List ℕ → ℕ
 case_tried p numbers = get_or numbers p.types 0
 
-abbrev pub values_tried : PatternModel → ℕ → List ℕ → List ℕ
-values_tried p w numbers = values_of (case_tried p numbers) (content_at p (widths_tried p w numbers)).value_types
+abbrev pub values_tried : PatternModel → List ℕ → ℕ → List ℕ → List ℕ
+values_tried p near w numbers = values_of near (case_tried p numbers) (content_at p (widths_tried p w numbers)).value_types
 
 -- whether the pattern refines at the values of a case, at the widths of the levels
-abbrev pub keeps_tried : PatternModel → ℕ → List ℕ → Bool
-keeps_tried p w numbers = keeps (content_at p (widths_tried p w numbers)) (values_tried p w numbers)
+abbrev pub keeps_tried : PatternModel → List ℕ → ℕ → List ℕ → Bool
+keeps_tried p near w numbers = keeps (content_at p (widths_tried p w numbers)) (values_tried p near w numbers)
 
 -- the first levels and case at which it doesn't
-abbrev pub first_refuting : PatternModel → ℕ → Option (List ℕ)
-first_refuting p w = first_failing (keeps_tried p w) (tried_bounds p)
+abbrev pub first_refuting : PatternModel → List ℕ → ℕ → Option (List ℕ)
+first_refuting p near w = first_failing (keeps_tried p near w) (tried_bounds p near)
 
 -- ---- the report
 
@@ -70,47 +67,64 @@ pub record IsTried (p : PatternModel) (w : ℕ) : Type 0 where
 
 -- a counterexample has the first widths and values at which the pattern doesn't refine, and the values that both
 -- sides compute
-pub record IsRefuted (p : PatternModel) (w : ℕ) (c : Counterexample) : Type 0 where
+pub record IsRefuted (p : PatternModel) (near : List ℕ) (w : ℕ) (c : Counterexample) : Type 0 where
   pub first :
       (numbers : List ℕ)
-      × (first_refuting p w ≡ Some numbers)
+      × (first_refuting p near w ≡ Some numbers)
       × (c.widths.items ≡ widths_tried p w numbers)
-      × (c.values.items ≡ values_tried p w numbers)
+      × (c.values.items ≡ values_tried p near w numbers)
   pub width : c.width ≡ width_told p c.widths.items
   pub broken : keeps (content_at p c.widths.items) c.values.items ≡ false
   pub shown : IsShown (content_at p c.widths.items) c
 
 -- a counterexample, or none of the samples of a width is one
-abbrev pub IsFoundAt : PatternModel → ℕ → Option Counterexample → Type 0
-IsFoundAt p w None = first_refuting p w ≡ None
-IsFoundAt p w (Some c) = IsRefuted p w c
-
-abbrev pub IsSampled : PatternModel → ℕ → CheckResult → Type 0
-IsSampled p w (judgement.Sampled v) = IsTried p w × (v ≡ told_width p w) × (first_refuting p w ≡ None)
-IsSampled p w (judgement.Fails c) = IsTried p w × IsRefuted p w c
-IsSampled p w _ = ⊥
-
--- the widths that are sampled if no width is asked
-abbrev pub wide_widths : List ℕ
-wide_widths = 16 ∷ 32 ∷ 64 ∷ 128 ∷ []
-
--- none of the samples at these widths is a counterexample
-abbrev pub NoneRefutes : PatternModel → List ℕ → Type 0
-NoneRefutes p [] = Unit {0}
-NoneRefutes p (w ∷ ws) = (first_refuting p w ≡ None) × NoneRefutes p ws
+abbrev pub IsFoundAt : PatternModel → List ℕ → ℕ → Option Counterexample → Type 0
+IsFoundAt p near w None = first_refuting p near w ≡ None
+IsFoundAt p near w (Some c) = IsRefuted p near w c
 
 -- each of these widths is accepted
 abbrev pub AreTried : PatternModel → List ℕ → Type 0
 AreTried p [] = Unit {0}
 AreTried p (w ∷ ws) = IsTried p w × AreTried p ws
 
--- a counterexample among the samples of some width
-abbrev pub IsWideRefuted : PatternModel → Counterexample → Type 0
-IsWideRefuted p c = (w : ℕ) × IsTried p w × IsRefuted p w c
+-- none of the samples at these widths is a counterexample
+abbrev pub NoneRefutes : PatternModel → List ℕ → List ℕ → Type 0
+NoneRefutes p near [] = Unit {0}
+NoneRefutes p near (w ∷ ws) = (first_refuting p near w ≡ None) × NoneRefutes p near ws
 
-abbrev pub IsWideSampled : PatternModel → List ℕ → Option Counterexample → Type 0
-IsWideSampled p ws None = p.types ≤ most_types → NoneRefutes p ws
-IsWideSampled p ws (Some c) = IsWideRefuted p c
+-- the first counterexample among the samples at these widths
+abbrev pub IsFirstAmong : PatternModel → List ℕ → List ℕ → Counterexample → Type 0
+IsFirstAmong p near [] c = ⊥
+IsFirstAmong p near (w ∷ ws) c = (IsTried p w × IsRefuted p near w c) ⊎ ((first_refuting p near w ≡ None) × IsFirstAmong p near ws c)
+
+abbrev pub IsFoundAmong : PatternModel → List ℕ → List ℕ → Option Counterexample → Type 0
+IsFoundAmong p near ws None = NoneRefutes p near ws
+IsFoundAmong p near ws (Some c) = IsFirstAmong p near ws c
+
+-- no sample at these widths is a counterexample: no usual one, and none near the literals of the pattern
+abbrev pub IsUnrefuted : PatternModel → List ℕ → Type 0
+IsUnrefuted p ws = NoneRefutes p usual ws × NoneRefutes p (near_literals p) ws
+
+-- the first counterexample: the samples near the literals come after all usual ones
+abbrev pub IsFirstSample : PatternModel → List ℕ → Counterexample → Type 0
+IsFirstSample p ws c = IsFirstAmong p usual ws c ⊎ (NoneRefutes p usual ws × IsFirstAmong p (near_literals p) ws c)
+
+abbrev pub IsSampledAt : PatternModel → List ℕ → Option Counterexample → Type 0
+IsSampledAt p ws None = IsUnrefuted p ws
+IsSampledAt p ws (Some c) = IsFirstSample p ws c
+
+abbrev pub IsSampled : PatternModel → ℕ → CheckResult → Type 0
+IsSampled p w (judgement.Sampled v) = IsTried p w × (v ≡ told_width p w) × IsUnrefuted p (w ∷ [])
+IsSampled p w (judgement.Fails c) = IsTried p w × IsFirstSample p (w ∷ []) c
+IsSampled p w _ = ⊥
+
+-- the widths that are sampled if no width is asked
+abbrev pub wide_widths : List ℕ
+wide_widths = 16 ∷ 32 ∷ 64 ∷ 128 ∷ []
+
+abbrev pub IsWideSampled : PatternModel → Option Counterexample → Type 0
+IsWideSampled p None = p.types ≤ most_types → IsUnrefuted p wide_widths
+IsWideSampled p (Some c) = IsFirstSample p wide_widths c
 
 -- the reason why a check is refused
 abbrev pub IsNotSampled : PatternModel → ℕ → Refusal → Type 0
@@ -124,4 +138,4 @@ IsNotSampled p w _ = ⊥
 -- width, its values are of the variables' kinds, and the pattern doesn't refine at them
 abbrev pub RefutesTruly : Type 0
 RefutesTruly =
-    (p : PatternModel) (w : ℕ) (c : Counterexample) → IsTried p w → IsRefuted p w c → IsVerdict (content_at p) p.types w (verdict.Fails c.widths c.values)
+    (p : PatternModel) (near : List ℕ) (w : ℕ) (c : Counterexample) → IsTried p w → IsRefuted p near w c → IsVerdict (content_at p) p.types w (verdict.Fails c.widths c.values)

@@ -65,7 +65,7 @@ fn write_truth(out: &mut Vec<u8>, value: u128) -> Result<(), AllocError>
 }
 
 /// Prints a value as an attribute: a signed number with its type, or a word for `i1`.
-fn write_value(out: &mut Vec<u8>, bits: &Bits) -> Result<(), AllocError>
+pub fn write_value(out: &mut Vec<u8>, bits: &Bits) -> Result<(), AllocError>
     ensures { OnOk result (out.new.items ≡ out.old.items ++ value_text bits.now.kind bits.now.value) }
 {
     if is_truth(bits.kind) {

@@ -14,3 +14,5 @@ pub mod PolyLaw
 pub mod PolyForAllWidths
 pub mod Inserting
 pub mod Counting
+pub mod Wide
+pub mod Ranges

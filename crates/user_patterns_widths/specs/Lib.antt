@@ -3,3 +3,6 @@ pub mod AllWidths
 pub mod Views
 pub mod Lasting
 pub mod Passing
+pub mod SampledValues
+pub mod SampledWidths
+pub mod NearLiterals

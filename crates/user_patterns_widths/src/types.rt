@@ -5,22 +5,15 @@ ghost use Rattle.user_patterns_data.specs.Shapes.{pattern_model};
 ghost use Rattle.user_patterns_widths.specs.AllWidths as for_all_widths;
 
 use user_patterns_data::pattern::{
-    ConstantExpression, ExtraConstant, Literal, NewValue, Pattern, PatternOp, PatternType,
+    ConstantExpression, ExtraConstant, NewValue, Pattern, PatternOp, PatternType,
 };
-
-/// Returns whether the literal has the type.
-fn literal_has(ty: usize, literal: &Literal) -> bool
-    ensures { result ≡ for_all_widths.literal_has ty literal.now }
-{
-    literal.ty == ty
-}
 
 /// Returns whether the extra constant has the type. A second use of a constant has the type of its first.
 fn extra_has(ty: usize, extra: &ExtraConstant) -> bool
     ensures { result ≡ for_all_widths.extra_has ty extra.now }
 {
     match extra {
-        ExtraConstant::Literal(literal) => literal_has(ty, literal),
+        ExtraConstant::Literal(literal) => literal.ty == ty,
         ExtraConstant::SameAs(_) => true,
     }
 }
@@ -30,7 +23,7 @@ fn number_has(ty: usize, number: &ConstantExpression) -> bool
     ensures { result ≡ for_all_widths.number_has ty number.now }
 {
     match number {
-        ConstantExpression::Literal(literal) => literal_has(ty, literal),
+        ConstantExpression::Literal(literal) => literal.ty == ty,
         ConstantExpression::Width(of) => *of == ty,
         ConstantExpression::Binary(_, _, _) => true,
         ConstantExpression::Compare(_, _, _) => true,

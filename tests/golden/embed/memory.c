@@ -191,6 +191,78 @@ static int reads(void) {
   return held ? fprintf(stderr, "%ld blocks are left by reads\n", held) : 0;
 }
 
+/* The calls by numbers that take memory, and whether the turn's call makes an operation. */
+static uint32_t name, type, attribute;
+
+static void call(mlir_work_session *session, int which, unsigned long turn, mlir_work_answer *answer) {
+  static const char *const texts[] = {"test.name%lu", "memref<%lux?xi9>", "[%lu : i9, \"text\", @f]"};
+  const mlir_work_value operand = {0, 0, 0};
+  const mlir_work_new made = {{MLIR_WORK_END, 0, 0}, name};
+  const mlir_work_new_entry entries[] = {{name, attribute, 1}, {name, attribute, 0}};
+  mlir_work_cell cells[4];
+  char text[64];
+  const int length = snprintf(text, sizeof text, texts[which % 3], turn + 1);
+  if (which == 0)
+    mlir_work_name(session, (const uint8_t *)text, (size_t)length, answer);
+  else if (which == 1)
+    mlir_work_type(session, (const uint8_t *)text, (size_t)length, answer);
+  else if (which == 2)
+    mlir_work_attribute(session, (const uint8_t *)text, (size_t)length, answer);
+  else if (which == 3)
+    mlir_work_insert(session, &made, &operand, 0, &type, 1, entries, 2, answer);
+  else if (which == 4)
+    mlir_work_set_attribute(session, 2, name, attribute, answer);
+  else if (which == 5)
+    mlir_work_drop_attribute(session, 2, name, answer);
+  else
+    mlir_work_report(session, (uint32_t)(which - 5), cells, 4, answer);
+}
+
+enum { CALLS = 13 };
+
+/* A call whose memory is refused says so, and leaves the module as it was; then it is accepted. */
+static int numbers(void) {
+  static struct told before, after;
+  for (int which = 0; which < CALLS; which++) {
+    unsigned long turns = 0;
+    for (bool is_over = false; !is_over; turns++) {
+      mlir_work_session session = MLIR_WORK_CLOSED;
+      mlir_work_answer answer;
+      off = true;
+      open_one(&session, &answer);
+      mlir_work_name(&session, (const uint8_t *)"test.key", 8, &answer);
+      name = (uint32_t)answer.number;
+      mlir_work_type(&session, (const uint8_t *)"i32", 3, &answer);
+      type = (uint32_t)answer.number;
+      mlir_work_attribute(&session, (const uint8_t *)"5 : i32", 7, &answer);
+      attribute = (uint32_t)answer.number;
+      if (which == 5)
+        mlir_work_set_attribute(&session, 2, name, attribute, &answer);
+      say(&session, "print", &before);
+      count = 0, refused = turns + 1, all = turns % 2, off = false;
+      call(&session, which, turns, &answer);
+      off = true;
+      is_over = count < refused;
+      if (answer.outcome == MLIR_WORK_REFUSED && answer.refusal == MLIR_WORK_MEMORY) {
+        say(&session, "print", &after);
+        if (!is_same(&before, &after))
+          return fault(turns, "a call by numbers", &after, &before);
+        call(&session, which, turns, &answer);
+      }
+      if (answer.outcome != MLIR_WORK_OK && answer.outcome != MLIR_WORK_MADE && answer.refusal != MLIR_WORK_STALE)
+        return fprintf(stderr, "call %d, allocation %lu: outcome %u, refusal %u\n", which, turns + 1, answer.outcome,
+                       answer.refusal);
+      refused = 0;
+      mlir_work_close(&session);
+      if (held)
+        return fprintf(stderr, "call %d, allocation %lu: %ld blocks are left\n", which, turns + 1, held);
+    }
+    if (turns < 2 && which != 5)
+      return fprintf(stderr, "call %d: no allocation was refused\n", which);
+  }
+  return 0;
+}
+
 int main(int argc, char **argv) {
   mlir_work_session session = MLIR_WORK_CLOSED;
   mlir_work_answer answer;
@@ -204,7 +276,7 @@ int main(int argc, char **argv) {
   mlir_work_close(&session);
   if (held)
     return fprintf(stderr, "%ld blocks are left where none is refused\n", held) > 0;
-  if (reads())
+  if (reads() || numbers())
     return 1;
   for (int rest = 0; rest < 2; rest++) {
     bool is_over = false;

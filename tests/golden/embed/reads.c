@@ -155,6 +155,94 @@ static void uses(void) {
   WANT(mlir_work_uses(&s, &missing, some, 3) == 0);
 }
 
+/* Whether a head is what the calls for one operation answer. */
+static bool is_head(const mlir_work_head *head, uint32_t operation) {
+  mlir_work_count counts = {0, 0, 0, 0, 0};
+  mlir_work_counts(&s, operation, &counts);
+  return head->name == mlir_work_name_of(&s, operation) && !memcmp(&head->counts, &counts, sizeof counts);
+}
+
+/* Many operations by one call: what the calls for one operation answer, in the given order, also twice. */
+static void heads(void) {
+  const uint32_t asked[] = {PAIR, 99, ADD, PAIR, ROOT};
+  mlir_work_head all[6];
+  memset(all, '.', sizeof all);
+  WANT(mlir_work_heads(&s, asked, 5, all, 6) == 5);
+  for (size_t k = 0; k < 5; k++)
+    WANT(is_head(&all[k], asked[k]));
+  WANT(all[1].name == MLIR_WORK_NONE && all[5].counts.regions == 0x2e2e2e2e2e2e2e2e);
+  memset(all, '.', sizeof all);
+  WANT(mlir_work_heads(&s, asked, 5, all, 1) == 1 && is_head(&all[0], PAIR) && all[1].name == 0x2e2e2e2e2e2e2e2e);
+  WANT(mlir_work_heads(&s, asked, 0, all, 6) == 0 && mlir_work_heads(&s, asked, 5, all, 0) == 0);
+}
+
+static void operands(void) {
+  const uint32_t asked[] = {ADD, 99, PAIR, CONSTANT, RETURN};
+  const mlir_work_value wanted[] = {argument(FUNC, 0, 0), result(CONSTANT, 0), result(ADD, 0), result(ADD, 0),
+                                    result(CONSTANT, 0), result(ADD, 0)};
+  mlir_work_value all[7];
+  for (size_t space = 0; space < 8; space++) {
+    const size_t count = space < 6 ? space : 6;
+    memset(all, '.', sizeof all);
+    WANT(mlir_work_operands(&s, asked, 5, all, space) == count);
+    WANT(!memcmp(all, wanted, count * sizeof *all) && (count == 7 || all[count].place == 0x2e2e2e2e));
+  }
+  WANT(mlir_work_operands(&s, asked, 0, all, 7) == 0);
+}
+
+static void types(void) {
+  const mlir_work_value asked[] = {result(PAIR, 1), result(99, 0), argument(FUNC, 0, 1), result(PAIR, 2)};
+  uint64_t all[5] = {9, 9, 9, 9, 9};
+  WANT(mlir_work_types(&s, asked, 4, all, 5) == 4 && all[4] == 9);
+  for (size_t k = 0; k < 4; k++)
+    WANT(all[k] == mlir_work_value_type(&s, &asked[k]));
+  WANT(all[1] == MLIR_WORK_NONE && all[0] != all[2] && all[0] != MLIR_WORK_NONE);
+  all[1] = 9;
+  WANT(mlir_work_types(&s, asked, 4, all, 1) == 1 && all[1] == 9);
+}
+
+static void value_uses(void) {
+  const mlir_work_value asked[] = {result(CONSTANT, 0), result(PAIR, 0), result(ADD, 0), result(99, 0),
+                                   argument(FUNC, 0, 1), argument(PAIR, 1, 0)};
+  mlir_work_value_use all[8], some[8];
+  bool seen[6][ALL][3];
+  memset(seen, 0, sizeof seen);
+  memset(all, '.', sizeof all);
+  WANT(mlir_work_value_uses(&s, asked, 6, all, 8) == 7 && all[7].operation == 0x2e2e2e2e);
+  for (size_t k = 0; k < 7; k++) {
+    WANT(k == 0 || all[k - 1].value <= all[k].value);
+    WANT(!seen[all[k].value][all[k].operation][all[k].operand]);
+    seen[all[k].value][all[k].operation][all[k].operand] = true;
+  }
+  WANT(seen[0][ADD][1] && seen[0][PAIR][2] && seen[2][PAIR][0] && seen[2][PAIR][1] && seen[2][INNER][0]);
+  WANT(seen[2][RETURN][0] && seen[5][INNER][1]);
+  for (size_t space = 0; space < 7; space++) {
+    memset(some, '.', sizeof some);
+    WANT(mlir_work_value_uses(&s, asked, 6, some, space) == space && some[space].operand == 0x2e2e2e2e);
+    WANT(!memcmp(all, some, space * sizeof *some));
+  }
+}
+
+/* Integers are given with their widths; other attributes and numbers are none. */
+static void integers(void) {
+  const uint64_t five = mlir_work_property_by_key(&s, CONSTANT, (uint32_t)name("value"));
+  const uint64_t tag = mlir_work_attribute_by_key(&s, CONSTANT, (uint32_t)name("tag"));
+  const mlir_work_value constant = result(CONSTANT, 0);
+  mlir_work_integer_value it = {9, 9, 9, 9};
+  WANT(!mlir_work_integer(&s, (uint32_t)tag, &it) && !mlir_work_integer(&s, UINT32_MAX, &it) && it.low == 9);
+  WANT(mlir_work_integer(&s, (uint32_t)five, &it) && it.low == 5 && it.high == 0 && it.width == 32);
+  WANT(it.type == mlir_work_value_type(&s, &constant));
+  const char *const texts[] = {"-1 : i128", "true", "-2 : index", "18446744073709551617 : i65", "255 : i8"};
+  const mlir_work_integer_value wanted[] = {{UINT64_MAX, UINT64_MAX, 0, 128}, {1, 0, 0, 1}, {UINT64_MAX - 1, 0, 0, 0},
+                                            {1, 1, 0, 65}, {255, 0, 0, 8}};
+  for (size_t k = 0; k < 5; k++) {
+    mlir_work_answer answer;
+    mlir_work_attribute(&s, (const uint8_t *)texts[k], strlen(texts[k]), &answer);
+    WANT(answer.outcome == MLIR_WORK_OK && mlir_work_integer(&s, (uint32_t)answer.number, &it));
+    WANT(it.low == wanted[k].low && it.high == wanted[k].high && it.width == wanted[k].width);
+  }
+}
+
 /* A number keeps its meaning through edits and a rollback, also if only the edits that were undone needed it. */
 static void numbers(void) {
   const uint64_t addi = mlir_work_name_of(&s, ADD);
@@ -189,6 +277,14 @@ static void closed(void) {
   WANT(name("arith.addi") == MLIR_WORK_NONE && mlir_work_name_text(&s, 0, &byte, 1) == MLIR_WORK_NONE);
   WANT(mlir_work_type_text(&s, 0, &byte, 1) == MLIR_WORK_NONE);
   WANT(mlir_work_attribute_text(&s, 0, &byte, 1) == MLIR_WORK_NONE);
+  mlir_work_head head = {9, {9, 9, 9, 9, 9}};
+  mlir_work_value_use value_use = {9, 9, 9};
+  mlir_work_integer_value integer = {9, 9, 9, 9};
+  uint64_t type = 9;
+  WANT(mlir_work_heads(&s, &operation, 1, &head, 1) == 0 && mlir_work_operands(&s, &operation, 1, &value, 1) == 0);
+  WANT(mlir_work_types(&s, &value, 1, &type, 1) == 0 && mlir_work_value_uses(&s, &value, 1, &value_use, 1) == 0);
+  WANT(!mlir_work_integer(&s, 0, &integer) && integer.low == 9 && head.name == 9 && type == 9 && value_use.value == 9);
+  WANT(value.operation == ADD);
   WANT(operation == 99 && byte == '.' && count.results == 9 && entry.key == 9 && use.operand == 9);
 }
 
@@ -200,6 +296,11 @@ int main(void) {
   texts();
   entries();
   uses();
+  heads();
+  operands();
+  types();
+  value_uses();
+  integers();
   numbers();
   mlir_work_close(&s);
   closed();

@@ -26,7 +26,7 @@ class Completion:
 
     def patterns(self):
         """Returns the names of the patterns from the files of the command line, and of the typed ones."""
-        typed = [line.split()[1] for line in self.session.kept() if line.split()[:1] == ["pattern"]]
+        typed = [line.split()[1] for line in self.session.kept() if line.split()[:1] in (["pattern"], ["pattern!"])]
         return program.named_from_the_start() + typed
 
     def of_kind(self, kind):

@@ -114,8 +114,8 @@ def unknown_name(words):
         return f"found {named(names)}, expected the name of a pattern: define one with `pattern`, or correct the name"
     if words[0] == "drop-attr":
         return (f"found the key `{' '.join(words[2:])}`, expected one of operation {words[1]}: `print` shows its keys")
-    what = "a rule" if words[0] == "why" else "a rule or a pattern"
-    return f"found {named(names)}, expected {what}: correct the name, or define a pattern; `help RULE` describes a rule"
+    return (f"found {named(names)}, expected a rule or a pattern: correct the name, or define a pattern; "
+            "`help RULE` describes a rule")
 
 
 def bad_limit(words):

@@ -51,7 +51,7 @@ def hint(number, line, column):
 
 def of_text(it, about, line, column):
     """Returns why the text of a command is refused at a byte of its line. The reply says it of a pattern."""
-    if first_word(line)[0] == "pattern":
+    if first_word(line)[0] in ("pattern", "pattern!"):
         return messages.of_pattern(it.number, about)
     return messages.of_module(line.encode("latin-1").rstrip(b" \t\r"), column, it.number, it.word)
 

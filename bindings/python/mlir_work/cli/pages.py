@@ -64,7 +64,7 @@ def commands():
 
 def grammar(word):
     """Returns the grammar of patterns, for words about patterns."""
-    if word not in ("pattern", "patterns", "grammar", "check"):
+    if word not in ("pattern", "pattern!", "patterns", "grammar", "check"):
         return []
     lines = sections("PATTERNS.md")["The language"].splitlines()
     return ["Grammar of patterns:", *(line[2:] for line in lines if line.startswith("    "))]

@@ -16,10 +16,12 @@ from .program import asked, explaining, ran
 from .ways import REFUSED
 
 # Commands that change neither the module nor a report, but must be run again.
-KEEPS = {"begin", "commit", "pattern", "check"}
+KEEPS = {"begin", "commit", "pattern", "pattern!", "check"}
 REWRITES = {"converged", "limit", "converted"}
 # A command that rewrites, without its limit and `trace`. One that names an operation can't be traced.
 REWRITING = re.compile(r"rewrite[ \t]+[^ \t]+|canon(?:[ \t]+only[ \t]+[^ \t]+|[ \t]+(at)[ \t]+#\d+)?")
+# The word that asks for proved patterns. The parts of an accepted rewrite leave it out.
+PROVED = re.compile(r"((?:rewrite|canon[ \t]+only)[ \t]+[^ \t]+)[ \t]+proved(?![^ \t])")
 TRACE = re.compile(r"[ \t]+trace(?![^ \t])")
 APPLY = re.compile(r"apply[ \t]+(\S+)[ \t]+#(\d+)")
 # A traced conversion. After all its rules, RECONCILE reconciles the casts.
@@ -79,6 +81,7 @@ def conversion(reply, most):
 
 def rewrites(line, reply, most):
     """Returns lines that repeat a line in parts of one rewrite each. All rewrites beyond `most` are one part."""
+    line = PROVED.sub(r"\1", line, count=1) if PROVED.match(line) else line
     by = REWRITING.match(line)
     is_told = reply.outcome in REWRITES and (by or TOLD_CONVERSION.match(line))
     count = reply.number if is_told else 0

@@ -76,6 +76,16 @@ impl<'a, K: interned::Kind> Interned<'a, K> {
     }
 }
 
+impl Attribute<'_> {
+    /// Returns the integer that it is, such as `5 : i32` or `true`.
+    pub fn integer(self) -> Option<sys::Integer> {
+        let mut integer = sys::Integer::default();
+        // SAFETY: the session is open, and no reference is null.
+        let is_integer = unsafe { sys::mlir_work_integer(self.session.handle(), self.number, &mut integer) };
+        is_integer.then_some(integer)
+    }
+}
+
 impl<K> PartialEq for Interned<'_, K> {
     fn eq(&self, other: &Self) -> bool {
         self.number == other.number
@@ -341,9 +351,19 @@ impl Session {
 
     /// Returns all operations in pre-order, the root first. Panics if memory runs out.
     pub fn walk(&self) -> impl ExactSizeIterator<Item = Operation<'_>> {
+        self.numbers().into_iter().map(|number| self.operation(number))
+    }
+
+    /// Returns the numbers of all operations in pre-order.
+    pub(crate) fn numbers(&self) -> Vec<u32> {
         let mut numbers = vec![0; self.fill(&mut [])];
         self.fill(&mut numbers);
-        numbers.into_iter().map(|number| self.operation(number))
+        numbers
+    }
+
+    /// Returns the text of an interned number.
+    pub(crate) fn text_of<K: interned::Kind>(&self, number: u32) -> String {
+        Interned::<K> { session: self, number, kind: PhantomData }.text()
     }
 
     /// Returns the name with this text, or `None` if the session has no such name. Compare it with the names of

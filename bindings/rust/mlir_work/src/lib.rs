@@ -8,6 +8,10 @@
 //! ```
 
 mod handles;
+mod numbers;
+
+pub use mlir_work_sys::{Cell, Integer};
+pub use numbers::{CellRow, TableRow};
 
 pub use handles::{interned, Attribute, Entry, Interned, Name, Operation, Region, Type, ValueHandle};
 
@@ -196,6 +200,17 @@ impl Session {
         let count = unsafe { sys::mlir_work_read(self.handle(), 0, bytes.as_mut_ptr(), bytes.len()) };
         bytes.truncate(count);
         Ok(String::from_utf8_lossy(&bytes).into_owned())
+    }
+
+    /// Defines the user patterns of a text, a line each, and returns how many they are. Empty lines and lines that
+    /// begin with `//` are skipped. The patterns before one that is refused stay.
+    pub fn define(&mut self, patterns: &str) -> Result<usize, Refused> {
+        let mut count = 0;
+        for line in patterns.lines().map(str::trim).filter(|it| !it.is_empty() && !it.starts_with("//")) {
+            self.command(format!("pattern {line}"))?;
+            count += 1;
+        }
+        Ok(count)
     }
 
     /// Returns the rows of a report, by the word of its kind.
@@ -516,6 +531,39 @@ mod tests {
             it.erase(3).unwrap();
         }
         assert!(all.iter_mut().enumerate().all(|(at, it)| it.has(3) == (at % 2 == 1)));
+    }
+
+    /// Operations that are inserted by numbers are those of a text, and a table shows them.
+    #[test]
+    fn edits_by_numbers() {
+        let mut session = Session::open(MODULE, 1000).unwrap();
+        let (name, ty) = (session.intern_name("test.d").unwrap(), session.intern_type("i32").unwrap());
+        let (b, a) = (session.intern_name("b").unwrap(), session.intern_name("a").unwrap());
+        let five = session.intern_attribute("5 : i8").unwrap();
+        let operands = [Value::Result(1, 0), Value::Result(2, 0)];
+        let made = session.insert(Spot::After(2), name, &operands, &[ty, ty], &[], &[(b, five), (a, five)]).unwrap();
+        assert_eq!(made, 4);
+        assert!(session.text("print").unwrap().contains("\"test.d\"(%0, %1) {a = 5 : i8, b = 5 : i8} : (i32, i32)"));
+        session.drop_attribute(4, a).unwrap();
+        session.set_attribute(3, b, five).unwrap();
+        assert_eq!(session.operation(3).attribute("b").and_then(|it| it.integer()).map(|it| it.low), Some(5));
+        assert_eq!(session.insert(Spot::After(99), name, &[], &[], &[], &[]).unwrap_err().refusal, 20);
+        assert_eq!(session.insert(Spot::After(2), u32::MAX, &[], &[], &[], &[]).unwrap_err().refusal, 60);
+        let rows = session.rows(1).unwrap();
+        assert_eq!(rows.len(), session.report("uses").unwrap().len());
+        let mut seen = Vec::new();
+        session.each(|it| seen.push((it.operation, it.operands.len(), it.types.len(), it.uses.len())));
+        assert_eq!(seen, [(0, 0, 0, 0), (1, 0, 1, 2), (2, 0, 1, 1), (4, 2, 2, 0), (3, 1, 0, 0)]);
+    }
+
+    /// User patterns are defined from a text, and checked.
+    #[test]
+    fn patterns_of_a_text() {
+        let mut session = Session::open(MODULE, 1000).unwrap();
+        let text = "// doubles\n\ndouble arith.addi(%a, %a) => arith.shli(%a, 1)\n";
+        assert_eq!(session.define(text), Ok(1));
+        assert!(matches!(session.command("check double width 4"), Ok(Outcome::Holds(4) | Outcome::Fails(_))));
+        assert!(session.define("what").is_err());
     }
 
     #[test]

@@ -78,8 +78,66 @@ pub struct Entry {
     pub attribute: u32,
 }
 
+/// The number of the name of an operation, or `NONE`, and its counts.
+#[repr(C)]
+#[derive(Clone, Copy, Debug, Default, PartialEq, Eq)]
+pub struct Head {
+    pub name: u64,
+    pub counts: Count,
+}
+
+/// A use of one of several values: the index of the value, the operation, and the number of its operand.
+#[repr(C)]
+#[derive(Clone, Copy, Debug, Default, PartialEq, Eq, Hash)]
+pub struct ValueUse {
+    pub value: usize,
+    pub operation: u32,
+    pub operand: u32,
+}
+
+/// An integer attribute: its value below 2^w, the number of its type, and the width w, or 0 for index.
+#[repr(C)]
+#[derive(Clone, Copy, Debug, Default, PartialEq, Eq, Hash)]
+pub struct Integer {
+    pub low: u64,
+    pub high: u64,
+    pub ty: u32,
+    pub width: u32,
+}
+
+/// A new operation: where it is inserted, and the number of its name.
+#[repr(C)]
+#[derive(Clone, Copy, Debug, PartialEq, Eq, Hash)]
+pub struct New {
+    pub spot: Spot,
+    pub name: u32,
+}
+
+/// An entry of a new operation; `is_property` is 0 for a discardable attribute.
+#[repr(C)]
+#[derive(Clone, Copy, Debug, Default, PartialEq, Eq, Hash)]
+pub struct NewEntry {
+    pub key: u32,
+    pub attribute: u32,
+    pub is_property: u32,
+}
+
+/// A cell of a report row; `left` cells of the row follow.
+#[repr(C)]
+#[derive(Clone, Copy, Debug, Default, PartialEq, Eq, Hash)]
+pub struct Cell {
+    pub kind: u32,
+    pub value: Value,
+    pub low: u64,
+    pub high: u64,
+    pub left: usize,
+}
+
 /// The result of a call that fills an array or a buffer, if memory ran out.
 pub const NO_MEMORY: u64 = u64::MAX - 1;
+
+/// The signature of the calls that intern a text.
+pub type Intern = unsafe extern "C" fn(*mut Handle, *const u8, usize, *mut Answer);
 
 /// The signature of the calls that write the text of an interned number.
 pub type Text = unsafe extern "C" fn(*mut Handle, u32, *mut u8, usize) -> u64;
@@ -139,4 +197,62 @@ extern "C" {
     pub fn mlir_work_name_text(session: *mut Handle, name: u32, into: *mut u8, into_length: usize) -> u64;
     pub fn mlir_work_type_text(session: *mut Handle, ty: u32, into: *mut u8, into_length: usize) -> u64;
     pub fn mlir_work_attribute_text(session: *mut Handle, attribute: u32, into: *mut u8, into_length: usize) -> u64;
+    pub fn mlir_work_heads(
+        session: *mut Handle,
+        operations: *const u32,
+        count: usize,
+        heads: *mut Head,
+        capacity: usize,
+    ) -> usize;
+    pub fn mlir_work_operands(
+        session: *mut Handle,
+        operations: *const u32,
+        count: usize,
+        operands: *mut Value,
+        capacity: usize,
+    ) -> usize;
+    pub fn mlir_work_types(
+        session: *mut Handle,
+        values: *const Value,
+        count: usize,
+        types: *mut u64,
+        capacity: usize,
+    ) -> usize;
+    pub fn mlir_work_value_uses(
+        session: *mut Handle,
+        values: *const Value,
+        count: usize,
+        uses: *mut ValueUse,
+        capacity: usize,
+    ) -> usize;
+    pub fn mlir_work_name(session: *mut Handle, text: *const u8, text_length: usize, answer: *mut Answer);
+    pub fn mlir_work_type(session: *mut Handle, text: *const u8, text_length: usize, answer: *mut Answer);
+    pub fn mlir_work_attribute(session: *mut Handle, text: *const u8, text_length: usize, answer: *mut Answer);
+    pub fn mlir_work_integer(session: *mut Handle, attribute: u32, integer: *mut Integer) -> bool;
+    pub fn mlir_work_insert(
+        session: *mut Handle,
+        operation: *const New,
+        operands: *const Value,
+        operand_count: usize,
+        results: *const u32,
+        result_count: usize,
+        entries: *const NewEntry,
+        entry_count: usize,
+        answer: *mut Answer,
+    );
+    pub fn mlir_work_set_attribute(
+        session: *mut Handle,
+        operation: u32,
+        key: u32,
+        attribute: u32,
+        answer: *mut Answer,
+    );
+    pub fn mlir_work_drop_attribute(session: *mut Handle, operation: u32, key: u32, answer: *mut Answer);
+    pub fn mlir_work_report(
+        session: *mut Handle,
+        kind: u32,
+        cells: *mut Cell,
+        capacity: usize,
+        answer: *mut Answer,
+    );
 }

@@ -6,14 +6,14 @@ use Rattle.mlir_work_session.proofs.session_commands.run_session_command.Goals a
 
 pub returns-in-Rewrite-clause-fulfils : goal.returns-in-Rewrite-clause-fulfils
 returns-in-Rewrite-clause-fulfils g c =
-    fulfils_plainly (session_setting g.L.AnalysisSource.supply c.args.session_options.now) _ _ _ _ _ _ _ (ap order_of c.in-Rewrite.is) (ap response_of c.reply_only-in-Rewrite.ensures.reply) c.reply_only-in-Rewrite.ensures.shows (c.rewrite.ensures.fulfils g.L.AnalysisSource.supply)
+    fulfils_plainly (session_setting g.L.AnalysisSource.supply c.args.session_options.now) _ _ _ _ _ _ _ (ap order_of c.in-Rewrite.is) (ap response_of c.reply_only-in-Rewrite.ensures.reply) c.reply_only-in-Rewrite.ensures.shows (c.rewrite.ensures.fulfils g.L.AnalysisSource.supply _)
 
 pub returns-in-Rewrite-clause-headroom : goal.returns-in-Rewrite-clause-headroom
 returns-in-Rewrite-clause-headroom g c =
     orders_headroom_plainly _ (session_setting g.L.AnalysisSource.supply c.args.session_options.now) _ _ _ _ _ (ap order_of c.in-Rewrite.is) (ap response_of c.reply_only-in-Rewrite.ensures.reply) c.rewrite.ensures.headroom
 
 pub returns-in-Trace-clause-fulfils : goal.returns-in-Trace-clause-fulfils
-returns-in-Trace-clause-fulfils g c = fulfils_alike (session_setting g.L.AnalysisSource.supply c.args.session_options.now) _ _ _ _ _ _ (ap order_of c.in-Trace.is) (c.trace.ensures.fulfils g.L.AnalysisSource.supply)
+returns-in-Trace-clause-fulfils g c = fulfils_alike (session_setting g.L.AnalysisSource.supply c.args.session_options.now) _ _ _ _ _ _ (ap order_of c.in-Trace.is) (c.trace.ensures.fulfils g.L.AnalysisSource.supply _)
 
 pub returns-in-Trace-clause-headroom : goal.returns-in-Trace-clause-headroom
 returns-in-Trace-clause-headroom g c = orders_headroom_plainly _ (session_setting g.L.AnalysisSource.supply c.args.session_options.now) _ _ _ _ _ (ap order_of c.in-Trace.is) refl c.trace.ensures.headroom

@@ -7,8 +7,8 @@ use Rattle.mlir_work_session.proofs.Headroom.{traced_headroom}
 use Rattle.mlir_work_session.proofs.tracing.canon.Goals as goal
 
 pub returns-clause-fulfils : goal.returns-clause-fulfils
-returns-clause-fulfils g c supply =
-    fulfils_told (session_setting supply c.args.session_options.now) None c.args.limit (canonicalizing c.limit_of.result) _ _ _ _ _ (ap (λ n. Some (canonicalizing n)) (sym c.limit_of.ensures)) c.trace_reply.ensures.reply c.canon_traced-called.ensures.does
+returns-clause-fulfils g c supply proved =
+    fulfils_told (session_setting supply c.args.session_options.now) None proved c.args.limit (canonicalizing c.limit_of.result) _ _ _ _ _ (ap (λ n. Some (canonicalizing n)) (sym c.limit_of.ensures)) c.trace_reply.ensures.reply c.canon_traced-called.ensures.does
     (told_trace _ _ _ _ _ _ _ _ _ c.limit_of.ensures c.new-lines.ensures.text (ap (λ (ns : List (Vec ℕ Global)). map (λ n. n.items) ns) c.new-lines.ensures.names) c.canon_traced-called.ensures.told c.trace_reply.ensures.shows)
 
 pub returns-clause-headroom : goal.returns-clause-headroom

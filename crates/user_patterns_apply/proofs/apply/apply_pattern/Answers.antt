@@ -1,4 +1,5 @@
-use Rattle.std.proofs.Common.{◌∙◌, refl, inl}
+use Rattle.std.proofs.Common.{◌∙◌, ap, refl, inl}
+use Rattle.std.specs.Result.{result_ok}
 use Rattle.patterns_lowering.specs.Held.{module_held}
 use Rattle.user_patterns_data.specs.Shapes.{pattern_model}
 use Rattle.user_patterns_apply.specs.Own.{own_rewrite}
@@ -23,7 +24,7 @@ pub returns-in_default-clause-stays : goal.returns-in_default-clause-stays
 returns-in_default-clause-stays g c = applied_none g.L.Analysis.meaning c.args.bench.now
 
 pub returns-in_default-found-clause-ok : goal.returns-in_default-found-clause-ok
-returns-in_default-found-clause-ok g c = was_none c.world-world.result.now c.args.bench.now.transaction c.world-world.ensures.ctx c.world-world.ensures.store c.args.op (pattern_model c.args.pattern.now) c.in-Ok.found c.in-Ok.ensures.edits c.in_default-found.is
+returns-in_default-found-clause-ok g c = was_none c.world-world.result.now c.args.bench.now.transaction c.world-world.ensures.ctx c.world-world.ensures.store c.args.op (pattern_model c.args.pattern.now) (result_ok c.in-Ok.found) c.in-Ok.ensures.edits (ap (λ r. result_ok r) c.in_default-found.is)
 
 pub returns-in_default-found-clause-stays : goal.returns-in_default-found-clause-stays
 returns-in_default-found-clause-stays g c = applied_none g.L.Analysis.meaning c.args.bench.now
@@ -31,15 +32,15 @@ returns-in_default-found-clause-stays g c = applied_none g.L.Analysis.meaning c.
 pub returns-in-Ok-apply_plan-clause-ok : goal.returns-in-Ok-apply_plan-clause-ok
 returns-in-Ok-apply_plan-clause-ok g c =
     gave (own_rewrite (pattern_model c.args.pattern.now) (module_held c.args.bench.now.transaction) c.args.op) (module_held c.args.bench.now.transaction) (module_held c.apply_plan.new.bench.transaction)
-    (rewrite_due c.world-world.result.now c.args.bench.now.transaction c.world-world.ensures.ctx c.world-world.ensures.store c.args.op (pattern_model c.args.pattern.now) c.in-Ok.found c.in-Ok.ensures.edits c.in-Some.planned c.in-Some.is ∙ c.in-Ok-apply_plan.ensures.carried)
+    (rewrite_due c.world-world.result.now c.args.bench.now.transaction c.world-world.ensures.ctx c.world-world.ensures.store c.args.op (pattern_model c.args.pattern.now) (result_ok c.in-Ok.found) c.in-Ok.ensures.edits c.in-Ok-found.planned (ap (λ r. result_ok r) c.in-Ok-found.is) ∙ c.in-Ok-apply_plan.ensures.carried)
 
 pub returns-clause-err : goal.returns-clause-err
 returns-clause-err g c = c.in-Err.ensures.carried.0
 
 pub returns-clause-refused : goal.returns-clause-refused
 returns-clause-refused g c =
-    stopped (own_rewrite (pattern_model c.args.pattern.now) (module_held c.args.bench.now.transaction) c.args.op) (planned_edits c.args.bench.now.transaction.ctx (module_held c.args.bench.now.transaction).next c.args.op c.in-Some.planned) c.args.op (module_held c.args.bench.now.transaction) c.apply_plan.new.bench.transaction.ctx c.in-Err.refusal
-    (rewrite_due c.world-world.result.now c.args.bench.now.transaction c.world-world.ensures.ctx c.world-world.ensures.store c.args.op (pattern_model c.args.pattern.now) c.in-Ok.found c.in-Ok.ensures.edits c.in-Some.planned c.in-Some.is) c.in-Err.ensures.carried.1
+    stopped (own_rewrite (pattern_model c.args.pattern.now) (module_held c.args.bench.now.transaction) c.args.op) (planned_edits c.args.bench.now.transaction.ctx (module_held c.args.bench.now.transaction).next c.args.op c.in-Ok-found.planned) c.args.op (module_held c.args.bench.now.transaction) c.apply_plan.new.bench.transaction.ctx c.in-Err.refusal
+    (rewrite_due c.world-world.result.now c.args.bench.now.transaction c.world-world.ensures.ctx c.world-world.ensures.store c.args.op (pattern_model c.args.pattern.now) (result_ok c.in-Ok.found) c.in-Ok.ensures.edits c.in-Ok-found.planned (ap (λ r. result_ok r) c.in-Ok-found.is)) c.in-Err.ensures.carried.1
 
 pub returns-in_default-found-clause-journal : goal.returns-in_default-found-clause-journal
 returns-in_default-found-clause-journal g c = journaled_none g.L.Analysis.meaning c.args.bench.now
@@ -54,8 +55,8 @@ pub apply_plan-requires-clause-free : goal.apply_plan-requires-clause-free
 apply_plan-requires-clause-free g c n e =
     c.pattern_edits_are_accepted.ensures (pattern_model c.args.pattern.now) (module_held c.args.bench.now.transaction) c.args.op
     (wellformed_meaning c.args.bench.now.transaction.ctx c.args.bench.now.transaction.store.module_of c.is_wellformed.ensures.wellformed)
-    (planned_edits c.args.bench.now.transaction.ctx (module_held c.args.bench.now.transaction).next c.args.op c.in-Some.planned) n
-    (edits_due c.world-world.result.now c.args.bench.now.transaction c.world-world.ensures.ctx c.world-world.ensures.store c.args.op (pattern_model c.args.pattern.now) c.in-Ok.found c.in-Ok.ensures.edits c.in-Some.planned c.in-Some.is) e
+    (planned_edits c.args.bench.now.transaction.ctx (module_held c.args.bench.now.transaction).next c.args.op c.in-Ok-found.planned) n
+    (edits_due c.world-world.result.now c.args.bench.now.transaction c.world-world.ensures.ctx c.world-world.ensures.store c.args.op (pattern_model c.args.pattern.now) (result_ok c.in-Ok.found) c.in-Ok.ensures.edits c.in-Ok-found.planned (ap (λ r. result_ok r) c.in-Ok-found.is)) e
 
 pub returns-in_default-clause-there : goal.returns-in_default-clause-there
 returns-in_default-clause-there g c gone = absurd (is_there c.world-world.result.now c.args.bench.now.transaction c.world-world.ensures.ctx c.world-world.ensures.store c.args.op c.in_tree.result c.in_tree.ensures c.if-not-in_tree.false gone)

@@ -1,26 +1,35 @@
+use Rattle.std.proofs.Common.{ap, sym, ◌∙◌}
+use Rattle.std.specs.Prelude.{option_map}
+use Rattle.std.specs.Result.{result_err, result_ok}
 use Rattle.ir_event.specs.Modules.{module_in}
-use Rattle.patterns_matchers.specs.Reads.{header_of_node}
 use Rattle.user_patterns_data.specs.Shapes.{pattern_model}
-use Rattle.user_patterns_apply.proofs.Found.{no_plan, none_insertion, none_there, not_single, some_plan}
+use Rattle.user_patterns_apply.specs.Built.{plan_in}
+use Rattle.user_patterns_apply.proofs.Found.{no_plan, no_point, plan_fails, point_fails, some_plan}
 use Rattle.user_patterns_apply.proofs.match_pattern.find_plan.Goals as goal
 
-pub returns-in_default-clause-edits : goal.returns-in_default-clause-edits
-returns-in_default-clause-edits c = none_there (pattern_model c.args.pattern.now) (module_in c.args.world.now) c.args.op c.in_default.ensures.node
-
-pub returns-then-not-is_single-clause-edits : goal.returns-then-not-is_single-clause-edits
-returns-then-not-is_single-clause-edits c = not_single (pattern_model c.args.pattern.now) (module_in c.args.world.now) c.args.op (header_of_node c.args.world.now.ctx c.in-Some.node) c.in-Some.ensures.node _ (c.is_single.ensures c.args.world.now.ctx) c.if-not-is_single.true
-
-pub returns-in_default-insertion_point_before-clause-edits : goal.returns-in_default-insertion_point_before-clause-edits
-returns-in_default-insertion_point_before-clause-edits c = none_insertion (pattern_model c.args.pattern.now) (module_in c.args.world.now) c.args.op c.in_default-insertion_point_before.ensures
-
-pub returns-in-Some-2-clause-edits : goal.returns-in-Some-2-clause-edits
-returns-in-Some-2-clause-edits c =
+pub returns-in-Err-clause-edits : goal.returns-in-Err-clause-edits
+returns-in-Err-clause-edits c =
     let w = c.args.world.now in
-    some_plan (pattern_model c.args.pattern.now) (module_in w) c.args.op (header_of_node w.ctx c.in-Some.node) c.in-Some.ensures.node c.in-Some-insertion_point_before.point c.in-Some-insertion_point_before.ensures c.is_single.result (c.is_single.ensures w.ctx) c.if-not-is_single.false
-    w.ctx c.in_ok-built.field-0 c.in_ok-built.ensures.plan c.in-Some-2.built c.in-Some-2.is
+    no_plan (pattern_model c.args.pattern.now) (module_in w) c.args.op (ap (λ r. option_map (plan_in w.ctx (module_in w).next) (result_ok r)) (sym c.in-Err.is) ∙ c.in_ok-built.ensures.plan)
 
-pub returns-in-None-clause-edits : goal.returns-in-None-clause-edits
-returns-in-None-clause-edits c =
+pub returns-in-Err-clause-tests : goal.returns-in-Err-clause-tests
+returns-in-Err-clause-tests c =
+    plan_fails (pattern_model c.args.pattern.now) (module_in c.args.world.now) c.args.op c.in-Err.mismatch (ap (λ r. result_err r) (sym c.in-Err.is) ∙ c.in_ok-built.ensures.tests)
+
+pub returns-in-Ok-find_point-clause-edits : goal.returns-in-Ok-find_point-clause-edits
+returns-in-Ok-find_point-clause-edits c =
     let w = c.args.world.now in
-    no_plan (pattern_model c.args.pattern.now) (module_in w) c.args.op (header_of_node w.ctx c.in-Some.node) c.in-Some.ensures.node c.in-Some-insertion_point_before.point c.in-Some-insertion_point_before.ensures c.is_single.result (c.is_single.ensures w.ctx) c.if-not-is_single.false
-    w.ctx c.in_ok-built.field-0 c.in_ok-built.ensures.plan c.in-None.is
+    some_plan (pattern_model c.args.pattern.now) (module_in w) c.args.op w.ctx c.in-Ok-find_point.point (ap (λ r. result_ok r) (sym c.in-Ok-find_point.is) ∙ c.find_point.ensures.point) c.in-Ok.built
+    (ap (λ r. option_map (plan_in w.ctx (module_in w).next) (result_ok r)) (sym c.in-Ok.is) ∙ c.in_ok-built.ensures.plan)
+
+pub returns-in-Ok-find_point-clause-tests : goal.returns-in-Ok-find_point-clause-tests
+returns-in-Ok-find_point-clause-tests c =
+    point_fails (pattern_model c.args.pattern.now) (module_in c.args.world.now) c.args.op (ap (λ r. result_err r) (sym c.in-Ok.is) ∙ c.in_ok-built.ensures.tests) _ (ap (λ r. result_err r) (sym c.in-Ok-find_point.is) ∙ c.find_point.ensures.tests)
+
+pub returns-in-Err-find_point-clause-edits : goal.returns-in-Err-find_point-clause-edits
+returns-in-Err-find_point-clause-edits c =
+    no_point (pattern_model c.args.pattern.now) (module_in c.args.world.now) c.args.op (ap (λ r. result_ok r) (sym c.in-Err-find_point.is) ∙ c.find_point.ensures.point)
+
+pub returns-in-Err-find_point-clause-tests : goal.returns-in-Err-find_point-clause-tests
+returns-in-Err-find_point-clause-tests c =
+    point_fails (pattern_model c.args.pattern.now) (module_in c.args.world.now) c.args.op (ap (λ r. result_err r) (sym c.in-Ok.is) ∙ c.in_ok-built.ensures.tests) _ (ap (λ r. result_err r) (sym c.in-Err-find_point.is) ∙ c.find_point.ensures.tests)

@@ -2,6 +2,7 @@ use Rattle.std.proofs.Common.{length, ◌+◌, ◌≡◌}
 use Rattle.ir_event.specs.Modules.{module_in}
 use Rattle.patterns_base.specs.Looks.{is_verified}
 use Rattle.user_patterns_data.specs.Matching.{types_at}
+use Rattle.user_patterns_apply.specs.Mismatches.{types_tests}
 use Rattle.user_patterns_apply.specs.Types.{AreTypesOf, types_in}
 use Rattle.user_patterns_apply.proofs.typing.bind_types.Given as goal
 
@@ -9,6 +10,7 @@ abbrev pub invariant-numbers : goal.invariant-numbers
 invariant-numbers l = record {
   of : AreTypesOf l.fn.world.ctx l.types;
   left : types_at (module_in l.fn.world).tree (is_verified (module_in l.fn.world).tree) l.place l.rest l.fn.values (types_in l.fn.world.ctx l.types) ≡ types_at (module_in l.fn.world).tree (is_verified (module_in l.fn.world).tree) 0 l.fn.numbers l.fn.values (types_in l.fn.world.ctx l.fn.types);
+  tests : types_tests (module_in l.fn.world).tree (is_verified (module_in l.fn.world).tree) l.place l.rest l.fn.values (types_in l.fn.world.ctx l.types) ≡ types_tests (module_in l.fn.world).tree (is_verified (module_in l.fn.world).tree) 0 l.fn.numbers l.fn.values (types_in l.fn.world.ctx l.fn.types);
   counted : l.place + length l.rest ≡ length l.fn.numbers;
 }
 

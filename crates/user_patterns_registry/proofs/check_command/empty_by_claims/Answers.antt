@@ -1,5 +1,5 @@
 use Rattle.user_patterns_data.specs.Shapes.{pattern_model}
-use Rattle.user_patterns_registry.proofs.Telling.{empty_told, right_told, wrong_empty}
+use Rattle.user_patterns_registry.proofs.Telling.{right_told, wrong_empty}
 use Rattle.user_patterns_registry.proofs.check_command.empty_by_claims.Goals as goal
 
 pub returns-in-Ok-Right-clause-ok : goal.returns-in-Ok-Right-clause-ok

@@ -1,4 +1,4 @@
-use Rattle.user_patterns_registry.proofs.Ranges.{sampled_values}
+use Rattle.user_patterns_widths.proofs.Ranges.{sampled_values}
 use Rattle.user_patterns_registry.proofs.Refuting.{refutes_truly}
 use Rattle.user_patterns_registry.proofs.check_laws.what_is_sampled.Goals as goal
 

@@ -1,0 +1,135 @@
+//! The C functions that read many operations or values by one call, and report rows. They change nothing. Each read writes
+//! as many items as there is space for, and returns how many it wrote.
+ghost use Rattle.std.specs.Prelude.{◌≡◌};
+ghost use Rattle.rewriter.specs.RewriterCalls.{AgreesOrStale};
+ghost use Rattle.mlir_work_analyses.specs.Listeners.{any_analysis};
+ghost use Rattle.mlir_work_c.specs.Calls.{IsHeld};
+ghost use Rattle.mlir_work_c.specs.Bulk.{ReportGoes, ReportsIn, WritesHeadsOf, WritesOperandsOf, WritesTypesOf, WritesValueUsesOf};
+
+use crate::answer::{Answer, closed, counted, refused};
+use crate::handle::Handle;
+use crate::session::Session;
+use ir_event::row::Kind;
+use ir_event::types::refusal::Refusal;
+use mlir_work_c_read::bulk::{write_heads, write_operands, write_types, write_value_uses};
+use mlir_work_c_read::numbers::{CellNumbers, Head, ValueNumbers, ValueUse};
+use mlir_work_c_read::rows::{count_cells, write_rows};
+use std::alloc::Global;
+
+/// Writes the names and the counts of operations.
+#[unsafe(no_mangle)]
+pub extern "C" fn mlir_work_heads(
+    alloc: Global,
+    held: &mut Handle,
+    operations: &[u32],
+    into: &mut [Head],
+) -> usize
+    requires kept { IsHeld held.old.slot.value }
+    ensures same { held.new.slot.value ≡ held.old.slot.value }
+    ensures told { WritesHeadsOf operations.now held.old.slot.value into.old into.new result }
+{
+    let Some(found) = held.take(alloc) else {
+        return 0;
+    };
+    let count = write_heads(found.bench.world(), operations, into);
+    held.open_with(found);
+    count
+}
+
+/// Writes the operands of operations, one operation after the other.
+#[unsafe(no_mangle)]
+pub extern "C" fn mlir_work_operands(
+    alloc: Global,
+    held: &mut Handle,
+    operations: &[u32],
+    into: &mut [ValueNumbers],
+) -> usize
+    requires kept { IsHeld held.old.slot.value }
+    ensures same { held.new.slot.value ≡ held.old.slot.value }
+    ensures told { WritesOperandsOf operations.now held.old.slot.value into.old into.new result }
+{
+    let Some(found) = held.take(alloc) else {
+        return 0;
+    };
+    let count = write_operands(found.bench.world(), operations, into);
+    held.open_with(found);
+    count
+}
+
+/// Writes the types of values.
+#[unsafe(no_mangle)]
+pub extern "C" fn mlir_work_types(
+    alloc: Global,
+    held: &mut Handle,
+    values: &[ValueNumbers],
+    into: &mut [u64],
+) -> usize
+    requires kept { IsHeld held.old.slot.value }
+    ensures same { held.new.slot.value ≡ held.old.slot.value }
+    ensures told { WritesTypesOf values.now held.old.slot.value into.old into.new result }
+{
+    let Some(found) = held.take(alloc) else {
+        return 0;
+    };
+    let count = write_types(found.bench.world(), values, into);
+    held.open_with(found);
+    count
+}
+
+/// Writes the uses of values, one value after the other.
+#[unsafe(no_mangle)]
+pub extern "C" fn mlir_work_value_uses(
+    alloc: Global,
+    held: &mut Handle,
+    values: &[ValueNumbers],
+    into: &mut [ValueUse],
+) -> usize
+    requires kept { IsHeld held.old.slot.value }
+    ensures same { held.new.slot.value ≡ held.old.slot.value }
+    ensures told { WritesValueUsesOf values.now held.old.slot.value into.old into.new result }
+{
+    let Some(found) = held.take(alloc) else {
+        return 0;
+    };
+    let count = write_value_uses(found.bench.world(), values, into);
+    held.open_with(found);
+    count
+}
+
+/// Writes the cells of the report of a kind, and returns the answer with the number of cells.
+fn report_into(session: &Session, kind: u8, into: &mut [CellNumbers]) -> Answer
+    requires kept { AgreesOrStale any_analysis session.now.bench }
+    ensures { ReportsIn kind session.now into.old into.new result }
+{
+    let rows = match session.bench.report(Kind::new(kind)) {
+        Ok(rows) => rows,
+        Err(refusal) => return refused(refusal),
+    };
+    write_rows(&rows, into);
+    counted(count_cells(&rows) as u64)
+}
+
+/// Writes the cells of the report of a kind, as many as there is space for. The answer has the number of cells.
+#[unsafe(no_mangle)]
+pub extern "C" fn mlir_work_report(
+    alloc: Global,
+    held: &mut Handle,
+    kind: u32,
+    into: &mut [CellNumbers],
+    answer: &mut Answer,
+)
+    requires kept { IsHeld held.old.slot.value }
+    ensures same { held.new.slot.value ≡ held.old.slot.value }
+    ensures told { ReportGoes kind held.old.slot.value into.old into.new answer.new }
+{
+    let Some(found) = held.take(alloc) else {
+        *answer = closed();
+        return;
+    };
+    *answer = if kind < 256 {
+        report_into(&found, kind as u8, into)
+    } else {
+        refused(Refusal::NoSuchKind)
+    };
+    held.open_with(found);
+}

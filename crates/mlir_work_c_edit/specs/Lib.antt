@@ -1,0 +1,3 @@
+pub mod Edits
+pub mod Headers
+pub mod Interned

@@ -1,6 +1,0 @@
-use Rattle.std.proofs.Common.{arith}
-use Rattle.user_patterns_registry.proofs.Wide.{two_stays}
-use Rattle.user_patterns_registry.proofs.edges.two.Goals as goal
-
-pub returns-else-width-eq1 : goal.returns-else-width-eq1
-returns-else-width-eq1 c = two_stays c.args.width (omega arith)
