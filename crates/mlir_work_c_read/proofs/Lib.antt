@@ -1,5 +1,9 @@
 mod Found
+mod Growing
 mod Joining
 mod Lengths
 mod Nodes
+mod Placed
+mod Refusing
+mod Testing
 mod Using
