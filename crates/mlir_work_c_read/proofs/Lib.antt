@@ -1,4 +1,5 @@
 mod Found
+mod Giving
 mod Growing
 mod Joining
 mod Lengths

@@ -26,9 +26,6 @@ module _ (c : ContextModel) (op : Option ℕ) (ps : Entries) where
     pub size : count + length rest ≡ length es
     pub told : entries_fault c op ps (take count es) rest ≡ entries_fault c op ps [] es
 
-  pub walk_begins : (es : Entries) → Walked es es 0
-  walk_begins es = record { rest_is = refl; size = omega arith; told = refl }
-
   module _ (es rest : Entries) (count : ℕ) (x d : ℕ × ℕ) (l : 1 ≤ length rest) (z : x ≡ get_or rest 0 d) (h : Walked es rest count) where
 
     rest_splits : rest ≡ x ∷ take (length rest - 1) (drop 1 rest)

@@ -32,8 +32,8 @@ entries_of properties (e ∷ es) =
 
 -- why an entry with the key can't follow these entries, after these properties. The reader refuses the same ones
 abbrev pub entry_fault : ContextModel → Option ℕ → Entries → ℕ → Entries → Option Refusal
-entry_fault c op properties k before =
-    if refused_in c op properties k before
+entry_fault c named properties k before =
+    if refused_in c named properties k before
     then Some (if has_key nat_eq k properties || has_key nat_eq k before then DuplicateKey else TooMany)
     else None
 
@@ -44,9 +44,9 @@ first_of None other = other
 
 -- why the first entry that is refused can't follow the entries before it
 abbrev pub entries_fault : ContextModel → Option ℕ → Entries → Entries → Entries → Option Refusal
-entries_fault c op properties before [] = None
-entries_fault c op properties before (e ∷ es) =
-    first_of (entry_fault c op properties e.0 before) (entries_fault c op properties (before ++ e ∷ []) es)
+entries_fault c named properties before [] = None
+entries_fault c named properties before (e ∷ es) =
+    first_of (entry_fault c named properties e.0 before) (entries_fault c named properties (before ++ e ∷ []) es)
 
 -- why an operation of this name can't have these properties and attributes: in a text the properties come first
 abbrev pub dictionaries_fault : ContextModel → ℕ → Entries → Entries → Option Refusal

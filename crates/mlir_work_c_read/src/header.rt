@@ -1,8 +1,8 @@
 //! New operations from C arrays.
-ghost use Rattle.std.specs.Prelude.{◌≡◌, IfOk, Some, map, true};
+ghost use Rattle.std.specs.Prelude.{◌≡◌, IfOk, OnOk, Some, [], ◌∷◌, ◌++◌, map, true};
 ghost use Rattle.ir_event.specs.tree_laws.Reasons.{holds_none};
 ghost use Rattle.mlir_work_c_read.specs.Numbers.{value_of as told_value};
-ghost use Rattle.mlir_work_c_read.specs.Headers.{IsOrMemory, dictionaries, entries_of, header};
+ghost use Rattle.mlir_work_c_read.specs.Headers.{IsOrMemory, dictionaries, entries_of, header, is_property, same_truth};
 
 use crate::dictionaries::{attributes_of, dictionaries_fault, properties_of};
 use crate::numbers::{ValueNumbers, value_of};
@@ -82,7 +82,7 @@ fn values_of(alloc: Global, values: &[ValueNumbers]) -> Result<Vec<Value>, Alloc
     ensures { IfOk result (λ v. v.items ≡ map told_value values.now) }
 {
     let mut out = Vec::with_capacity(alloc, values.len())?;
-    for value in values {
+    'values: for value in values {
         out.push(value_of(value))?;
     }
     Ok(out)
@@ -93,7 +93,7 @@ fn types_of(alloc: Global, types: &[u32]) -> Result<Vec<TypeId>, AllocError>
     ensures { IfOk result (λ v. v.items ≡ types.now) }
 {
     let mut out = Vec::with_capacity(alloc, types.len())?;
-    for ty in types {
+    'types: for ty in types {
         out.push(TypeId::new(*ty))?;
     }
     Ok(out)
@@ -108,10 +108,30 @@ fn entries_of(
     ensures { IfOk result (λ v. v.items ≡ entries_of properties entries.now) }
 {
     let mut out = Vec::new(alloc);
-    for entry in entries {
-        if (entry.is_property != 0) == properties {
-            out.push((NameId::new(entry.key), AttrId::new(entry.attribute)))?;
-        }
+    let mut rest = entries;
+    'entries: while let [entry, tail @ ..] = rest {
+        push_given(&mut out, entry, properties)?;
+        rest = tail;
     }
     Ok(out)
+}
+
+/// Appends an entry if it is given as a property, or if it isn't.
+fn push_given(out: &mut Vec<Entry>, entry: &NewEntry, properties: bool) -> Result<(), AllocError>
+    ensures { OnOk result (out.new.items ≡ out.old.items ++ entries_of properties (entry.now ∷ [])) }
+{
+    if is_given(entry, properties) {
+        out.push((NameId::new(entry.key), AttrId::new(entry.attribute)))?;
+    }
+    Ok(())
+}
+
+/// Returns whether an entry is given as a property, or as no property.
+fn is_given(entry: &NewEntry, properties: bool) -> bool
+    ensures { result ≡ same_truth (is_property entry.now) properties }
+{
+    if entry.is_property != 0 {
+        return properties;
+    }
+    !properties
 }
