@@ -18,8 +18,12 @@ module _ (point : Point) (told : Result Op Refusal) (s : Session) (a : Answer) w
   pub refused_so : (refusal : Refusal) → a ≡ refused refusal → (refusal ≡ Memory) ⊎ (told ≡ Err refusal) → Inserts point told s a s
   refused_so refusal is (inl e) = inl (is ∙ ap refused e, refl)
   refused_so refusal is (inr e) =
-      inr (Refused refusal, subst (λ (t : Result Op Refusal). InsertsNumbered any_analysis point t (Refused refusal) s.bench s.bench) (sym e) (refl, refl), is,
-      record { registry = refl; limit = refl; counted = refl; shows = refl; mode = refl })
+      inr (
+        Refused refusal,
+        subst (λ (t : Result Op Refusal). InsertsNumbered any_analysis point t (Refused refusal) s.bench s.bench) (sym e) (refl, refl),
+        is,
+        record { registry = refl; limit = refl; counted = refl; shows = refl; mode = refl },
+      )
 
   pub inserted_so : (header : Op) (reply : Reply) (t : Session) → told ≡ Ok header → InsertsHeader any_analysis point header reply s.bench t.bench
       → a ≡ replied_of (Replied reply) 0 → KeepsRest s t → Inserts point told s a t

@@ -95,7 +95,12 @@ pub extern "C" fn mlir_work_set_attribute(
         *answer = closed();
         return;
     };
-    *answer = set_in(&mut found, OpId::new(operation), NameId::new(key), AttrId::new(attribute));
+    *answer = set_in(
+        &mut found,
+        OpId::new(operation),
+        NameId::new(key),
+        AttrId::new(attribute),
+    );
     held.open_with(found);
 }
 
@@ -143,12 +148,7 @@ fn name_in(session: &mut Session, text: &[u8]) -> Answer
 
 /// Gets the number of a name. A new name is interned.
 #[unsafe(no_mangle)]
-pub extern "C" fn mlir_work_name(
-    alloc: Global,
-    held: &mut Handle,
-    text: &[u8],
-    answer: &mut Answer,
-)
+pub extern "C" fn mlir_work_name(alloc: Global, held: &mut Handle, text: &[u8], answer: &mut Answer)
     requires kept { IsHeld held.old.slot.value }
     ensures goes { NameGoes text.now held.old.slot.value answer.new held.new.slot.value }
     ensures kept { IsHeld held.new.slot.value }
@@ -175,12 +175,7 @@ fn type_in(session: &mut Session, text: &[u8]) -> Answer
 
 /// Gets the number of a type. A new type is interned.
 #[unsafe(no_mangle)]
-pub extern "C" fn mlir_work_type(
-    alloc: Global,
-    held: &mut Handle,
-    text: &[u8],
-    answer: &mut Answer,
-)
+pub extern "C" fn mlir_work_type(alloc: Global, held: &mut Handle, text: &[u8], answer: &mut Answer)
     requires kept { IsHeld held.old.slot.value }
     ensures goes { TypeGoes text.now held.old.slot.value answer.new held.new.slot.value }
     ensures kept { IsHeld held.new.slot.value }

@@ -27,7 +27,6 @@ module _ (c : ContextModel) (op : Option ℕ) (ps : Entries) where
     pub told : entries_fault c op ps (take count es) rest ≡ entries_fault c op ps [] es
 
   module _ (es rest : Entries) (count : ℕ) (x d : ℕ × ℕ) (l : 1 ≤ length rest) (z : x ≡ get_or rest 0 d) (h : Walked es rest count) where
-
     rest_splits : rest ≡ x ∷ take (length rest - 1) (drop 1 rest)
     rest_splits = rest_at rest x d l z
 

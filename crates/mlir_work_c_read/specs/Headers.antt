@@ -64,9 +64,10 @@ abbrev pub dictionaries : ContextModel → ℕ → List NewEntry → Result (Ent
 dictionaries c name entries =
     let given = entries_of true entries in
     let others = entries_of false entries in
-    or_fault (dictionaries_fault c name given others)
-    (properties_of (is_property_in c (Some name)) (key_before_in c) given others,
-    attributes_of (is_property_in c (Some name)) (key_before_in c) others)
+    or_fault (dictionaries_fault c name given others) (
+      properties_of (is_property_in c (Some name)) (key_before_in c) given others,
+      attributes_of (is_property_in c (Some name)) (key_before_in c) others,
+    )
 
 abbrev pub with_dictionaries : ℕ → List ValueNumbers → List ℕ → Result (Entries × Entries) Refusal → Result Op Refusal
 with_dictionaries name operands results (Err refusal) = Err refusal

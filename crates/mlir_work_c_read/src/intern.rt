@@ -35,10 +35,7 @@ pub fn intern_name<L: Analysis>(bench: &mut Bench<L>, text: &[u8]) -> Result<Nam
 /// Returns the number of an attribute.
 ///
 /// Errors: those of the reader.
-pub fn intern_attribute<L: Analysis>(
-    bench: &mut Bench<L>,
-    text: &[u8],
-) -> Result<AttrId, ReadError>
+pub fn intern_attribute<L: Analysis>(bench: &mut Bench<L>, text: &[u8]) -> Result<AttrId, ReadError>
     requires { AgreesOrStale L.meaning bench.old }
     ensures attr { IfOk result (λ a. IsAttr bench.new.transaction.ctx a × SpellsAttr bench.old.transaction.ctx.opaque text.now (attr_term bench.new.transaction.ctx a)) }
     ensures refused { (r : Reason) (o : ℕ) → result ≡ Err (ReadError.Refused r o) → IsNoAttr (SpellsAttr bench.old.transaction.ctx.opaque text.now) }
