@@ -1,5 +1,5 @@
 //! The numbers of names, types and attributes by their texts. Those that are new are interned.
-ghost use Rattle.std.specs.Prelude.{◌≡◌, ℕ, Err, IfErr, IfOk, OnErr};
+ghost use Rattle.std.specs.Prelude.{◌≡◌, ℕ, Err, IfErr, IfOk, IfSome, OnErr};
 ghost use Rattle.ir_event.specs.types.Interning.{with_name};
 ghost use Rattle.ir_event.specs.types.Terms.{TypeOf, attr_term, type_term};
 ghost use Rattle.ir_event.specs.types.Things.{IsAttr, IsType};
@@ -9,9 +9,11 @@ ghost use Rattle.rewriter.specs.RewriterCalls.{AgreesOrStale};
 ghost use Rattle.mlir_work_c_read.specs.Interned.{Grown};
 
 use ir_event::analysis::Analysis;
+use ir_event::types::context::Context;
 use ir_event::types::ids::{AttrId, NameId, TypeId};
 use ir_event::types::node::AttrNode;
 use ir_event::types::refusal::Refusal;
+use ir_event::types::things::attr_of;
 use rewriter::laws::led_benches_are_kept;
 use rewriter::{Bench, ReadError};
 
@@ -64,11 +66,22 @@ pub fn intern_type<L: Analysis>(bench: &mut Bench<L>, text: &[u8]) -> Result<Typ
         Ok(attr) => attr,
         Err(e) => return Err(e),
     };
-    match bench.world().ctx.attr_node(attr) {
-        AttrNode::Ty(ty) => Ok(*ty),
-        _ => Err(ReadError::Refused {
+    match type_of_attribute(&bench.world().ctx, attr) {
+        Some(ty) => Ok(ty),
+        None => Err(ReadError::Refused {
             refusal: Refusal::Unexpected,
             offset: 0,
         }),
+    }
+}
+
+/// Returns the type that an attribute is, or `None` if it is another attribute.
+fn type_of_attribute(ctx: &Context, attr: AttrId) -> Option<TypeId>
+    requires { IsAttr ctx.now attr }
+    ensures { IfSome result (λ t. IsType ctx.now t × (attr_term ctx.now attr ≡ TypeOf (type_term ctx.now t))) }
+{
+    match attr_of(ctx, attr) {
+        AttrNode::Ty(ty) => Some(*ty),
+        _ => None,
     }
 }
