@@ -21,10 +21,10 @@ REFUSED = {
          "rewrite nope fired limit 0", "rewrite fired", "rewrite fired fired", "canon only fired", "rewrite fired,1"),
     60: ("rewrite 25 fired", "rewrite 1, fired", "canon fired x", "canon fired limit", "canon fired limit x",
          "canon fired limit 1 x", "canon fired fired", "canon fired trace", "canon trace fired",
-         "rewrite 1 fired trace", "rewrite 1 trace fired", "canon fired only 1", "canon limit 1 fired", "canon fire", "canon Fired",
-         "rewrite 1 fires", "rewrite 1 fired proved", "rewrite 1 limit 1 fired", "canon only 1 fired limit x",
-         "canon at #3 fired", "canon fired at #3", "fired", "fired limit 1", "sweep fired", "apply fired 1 #2",
-         "convert fired partial", "convert partial fired")}
+         "rewrite 1 fired trace", "rewrite 1 trace fired", "canon fired only 1", "canon limit 1 fired", "canon fire",
+         "canon Fired", "rewrite 1 fires", "rewrite 1 fired proved", "rewrite 1 limit 1 fired",
+         "canon only 1 fired limit x", "canon at #3 fired", "canon fired at #3", "fired", "fired limit 1",
+         "sweep fired", "apply fired 1 #2", "convert fired partial", "convert partial fired")}
 
 
 def by_hand(cases):

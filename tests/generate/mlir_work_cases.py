@@ -6,8 +6,9 @@ that are of whole runs with all listeners, of the same rules. Run it at the top 
 The whole runs are written out here or in tests/generate/worked_rows.txt, and compared with what the rules of oracle
 give for them, or are of analyses_cases.py, verifier_cases.py, conversion_cases.py, heard_cases.py,
 own_pattern_cases.py, trace_cases.py, fired_cases.py, convert_trace_cases.py and why_cases.py, many of them random from
-the seeds there, with the answers of the rules. `decided.py` writes to `oracle/decided.txt` which patterns claims about bits decide. The
-program that MLIR_WORK_CLAIMS names answers, or the one of these sources. Without a program the file isn't changed."""
+the seeds there, with the answers of the rules. `decided.py` writes to `oracle/decided.txt` which patterns claims about
+bits decide. The program that MLIR_WORK_CLAIMS names answers, or the one of these sources. Without a program the file
+isn't changed."""
 import itertools
 import pathlib
 import re

@@ -22,6 +22,6 @@ from .way import Way
 
 __all__ = ["Argument", "BlockHandle", "Canonicalized", "Cell", "Checked", "Constant", "Dead", "Diagnostic", "Effect",
            "Error", "Fired", "Firing", "FormBroken", "KINDS", "Library", "ModuleRefused", "Numbers", "Operation",
-           "OperationHandle", "Pattern", "Process", "ProcessLost", "Reason", "Refused", "RegionHandle", "Reply", "Result", "Rewrite",
-           "Row", "Session", "SessionClosed", "Stays", "Symbol", "Traced", "Unproved", "Unreached", "Use", "UseHandle",
-           "Value", "ValueHandle", "Way", "after", "before", "end", "quoted", "start"]
+           "OperationHandle", "Pattern", "Process", "ProcessLost", "Reason", "Refused", "RegionHandle", "Reply",
+           "Result", "Rewrite", "Row", "Session", "SessionClosed", "Stays", "Symbol", "Traced", "Unproved", "Unreached",
+           "Use", "UseHandle", "Value", "ValueHandle", "Way", "after", "before", "end", "quoted", "start"]
