@@ -546,7 +546,7 @@ NEAR_MISSES = ("report uses", "report kind10", "print", "// x", "set-operand #3 
                "report kind10 of %v2.0", "canon trace limit 10", "rewrite 2,x trace limit 3",
                "convert trace full depth 2", "why #3", "why #3 10", "why #3 drop-one", "canon at #3 limit 10",
                "pattern p x", "patterns", "check p width 10", "check p width 10 sampled", "pattern! p x", "check all",
-               "rewrite 2,x proved trace limit 3", "canon fired limit 10", "rewrite 2,x proved fired limit 3")
+               "rewrite 2,x proved trace limit 3")
 NOT_UTF8 = ((b"// \xff", "bad"), (b"\xc3", "bad"), (b"print\xff", "bad"), (b"// \xc3\xa9", "nothing"),
             (b"print \xc3\xa9", "bad"), (b"// \xed\xa0\x80", "bad"), (b"// \xf4\x90\x80\x80", "bad"),
             (b"// \xf4\x8f\xbf\xbf", "nothing"), (b"// \xc0\x80", "bad"))
