@@ -1,5 +1,5 @@
 //! The lines that count which rules and patterns fired.
-ghost use Rattle.std.specs.Prelude.{◌≡◌, ◌++◌, ◌∷◌, [], OnOk, codes, map};
+ghost use Rattle.std.specs.Prelude.{◌≡◌, ◌++◌, ◌∷◌, [], OnOk, map};
 ghost use Rattle.std.specs.Fmt.{decimal};
 ghost use Rattle.greedy.specs.declared.applied_rewrite.AppliedPattern.TheVariants as by;
 ghost use Rattle.mlir_work_transforms.specs.FiredLaws.{FiredTaken, IsFresh, ended_text};
