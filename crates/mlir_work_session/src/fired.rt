@@ -61,8 +61,9 @@ fn canon<L: Analysis>(
     ensures mode { bench.new.transaction.ctx.opaque ≡ bench.old.transaction.ctx.opaque }
 {
     led_benches_are_kept::<L>();
-    let mut lines = FiredLines::of_rules(alloc);
-    let called = canon_fired(alloc, bench, limit_of(session_options, limit), &mut lines);
+    let limit = limit_of(session_options, limit);
+    let mut lines = FiredLines::of_rules(alloc, limit);
+    let called = canon_fired(alloc, bench, limit, &mut lines);
     fired_reply(alloc, lines, called)
 }
 
@@ -86,14 +87,9 @@ fn rewrite<L: Analysis>(
         Ok(None) => return reply_only(alloc, Reply::Refused(Refusal::NoSuchKey)),
         Err(refusal) => return reply_only(alloc, Reply::Refused(refusal)),
     };
-    let mut lines = FiredLines::of_rules(alloc);
-    let called = rewrite_fired(
-        alloc,
-        bench,
-        &rules,
-        limit_of(session_options, limit),
-        &mut lines,
-    );
+    let limit = limit_of(session_options, limit);
+    let mut lines = FiredLines::of_rules(alloc, limit);
+    let called = rewrite_fired(alloc, bench, &rules, limit, &mut lines);
     fired_reply(alloc, lines, called)
 }
 
@@ -136,7 +132,7 @@ pub(crate) fn rewrite_counting<L: Analysis>(
 {
     led_benches_are_kept::<L>();
     let TraceLines { text, names } = lines;
-    let mut lines = FiredLines::new(alloc, text, names);
+    let mut lines = FiredLines::new(alloc, limit, text, names);
     let called = rewrite_with_patterns_fired(alloc, bench, candidates, limit, &mut lines);
     fired_reply(alloc, lines, called)
 }

@@ -1,7 +1,7 @@
 -- Proofs about the counts of rules and patterns that fired.
 use Rattle.std.proofs.Common.{◌≡◌, ◌∙◌, refl, ap, sym, ℕ, zero, suc, ◌+◌, ◌<◌, ◌≤◌, List, [], ◌∷◌, ◌++◌, append-nil, append_assoc, arith, Result, Ok, Err}
 use Rattle.std.specs.Prelude.{OnOk, drop, length, take}
-use Rattle.std.proofs.lemmas.List.{drop_all, take_at}
+use Rattle.std.proofs.lemmas.List.{drop_all, take_all, take_at}
 use Rattle.ir_event.specs.types.declared.refusal.Refusal.{Refusal}
 use Rattle.conversion.specs.rewriter.Commands.{Replied}
 use Rattle.greedy.specs.Changes.{canonical_reply}
@@ -55,35 +55,59 @@ firings_end names bs i text whole l so_far =
 
 -- ---- the tracer
 
--- a recorded rewrite: the counts are removed from the text, and written again
-pub fired_recorded : (a b : FiredLines) (f : AppliedRewrite) (cut : List ℕ) → b.applied.items ≡ a.applied.items ++ f.by ∷ [] → names_of b ≡ names_of a → b.shown ≡ a.shown → cut ≡ take a.shown a.text.items
-    → b.text.items ≡ cut ++ fired_text (names_of b) (fired_of b.applied.items) → FiredTaken (f ∷ []) a b
-fired_recorded a b f cut applied names shown cuts text = record {
+-- a recorded rewrite before the last one that the limit allows
+pub fired_before_limit : (a b : FiredLines) (f : AppliedRewrite) → b.applied.items ≡ a.applied.items ++ f.by ∷ [] → names_of b ≡ names_of a → b.limit ≡ a.limit → b.shown ≡ a.shown → b.text.items ≡ a.text.items → (length b.applied.items ≡ b.limit → ⊥) → FiredTaken (f ∷ []) a b
+fired_before_limit a b f applied names limit shown text before = record {
   applied = applied;
   names = names;
+  limit = limit;
   current = λ lines h. record {
     shown = shown ∙ h.shown;
-    text = text ∙ ap (λ (l : List ℕ). l ++ fired_text (names_of b) (fired_of b.applied.items)) (cuts ∙ ap (λ (k : ℕ). take k a.text.items) h.shown ∙ ap (take (length lines)) h.text ∙ take_at lines (fired_text (names_of a) (fired_of a.applied.items)) (length lines) refl);
+    begins = (λ i. take (shown i) (text i)) ∙ h.begins;
+    text = λ last. absurd (before last);
   };
 }
 
--- a tracer without counts is current
-fresh_current : (t : FiredLines) → IsFresh t → IsCurrent t.text.items t
-fresh_current t fresh = record {
+-- the last rewrite that the limit allows: the counts are written after the lines of others
+pub fired_at_limit : (a b : FiredLines) (f : AppliedRewrite) (cut : List ℕ) → b.applied.items ≡ a.applied.items ++ f.by ∷ [] → names_of b ≡ names_of a → b.limit ≡ a.limit → b.shown ≡ a.shown → cut ≡ take a.shown a.text.items
+    → b.text.items ≡ cut ++ fired_text (names_of b) (fired_of b.applied.items) → FiredTaken (f ∷ []) a b
+fired_at_limit a b f cut applied names limit shown cuts text = record {
+  applied = applied;
+  names = names;
+  limit = limit;
+  current = λ lines h.
+      let counts = fired_text (names_of b) (fired_of b.applied.items) in
+      let whole : b.text.items ≡ lines ++ counts = text ∙ ap (λ (l : List ℕ). l ++ counts) (cuts ∙ h.begins) in
+      let end : b.shown ≡ length lines = shown ∙ h.shown in
+      record {
+        shown = end;
+        begins = (λ i. take (end i) (whole i)) ∙ take_at lines counts (length lines) refl;
+        text = λ last. whole;
+      };
+}
+
+-- a tracer without counts is current: a limit of no rewrites leaves no counts
+fresh_current : (limit : ℕ) (t : FiredLines) → IsFresh limit t → IsCurrent t.text.items t
+fresh_current limit t fresh = record {
   shown = fresh.shown;
-  text = sym (ap (λ (bs : List AppliedPattern). t.text.items ++ fired_text (names_of t) (fired_of bs)) fresh.applied ∙ append-nil t.text.items);
+  begins = ap (λ (n : ℕ). take n t.text.items) fresh.shown ∙ take_all (length t.text.items) t.text.items (omega arith);
+  text = λ last. sym (ap (λ (bs : List AppliedPattern). t.text.items ++ fired_text (names_of t) (fired_of bs)) fresh.applied ∙ append-nil t.text.items);
 }
 
 -- the text after a run from a tracer without counts
-pub fired_told : (called : Result Outcome Refusal) (fs : List AppliedRewrite) (a b : FiredLines) (text : List ℕ) → IsFresh a → OnOk called (FiredTaken fs a b) → text ≡ ended_text called b.shown b.text.items
+pub fired_told : (limit : ℕ) (called : Result Outcome Refusal) (fs : List AppliedRewrite) (a b : FiredLines) (text : List ℕ) → IsFresh limit a → ((k : ℕ) → called ≡ Ok (Limit k) → length fs ≡ limit) → OnOk called (FiredTaken fs a b) → text ≡ ended_text called b.shown b.text.items
     → OnOk called (text ≡ a.text.items ++ fired_below (Replied (canonical_reply called)) (names_of a) fs)
-fired_told (Ok (Limit k)) fs a b text fresh taken is =
-    let now = taken.current a.text.items (fresh_current a fresh) in
-    is ∙ now.text
+fired_told limit (Ok (Limit k)) fs a b text fresh whole taken is =
+    let now = taken.current a.text.items (fresh_current limit a fresh) in
+    let recorded : b.applied.items ≡ applied_by fs = taken.applied ∙ ap (λ (bs : List AppliedPattern). bs ++ applied_by fs) fresh.applied in
+    let last : length b.applied.items ≡ b.limit = ap length recorded ∙ applied_length fs ∙ whole k refl ∙ sym (taken.limit ∙ fresh.limit) in
+    is ∙ now.text last
     ∙ ap (λ (ns : List (List ℕ)). a.text.items ++ fired_text ns (fired_of b.applied.items)) taken.names
-    ∙ ap (λ (bs : List AppliedPattern). a.text.items ++ fired_text (names_of a) (fired_of bs)) (taken.applied ∙ ap (λ (bs : List AppliedPattern). bs ++ applied_by fs) fresh.applied)
-fired_told (Ok (Converged k)) fs a b text fresh taken is =
-    let now = taken.current a.text.items (fresh_current a fresh) in
-    is ∙ ap (λ (n : ℕ). take n b.text.items) now.shown ∙ ap (take (length a.text.items)) now.text
-    ∙ take_at a.text.items (fired_text (names_of b) (fired_of b.applied.items)) (length a.text.items) refl ∙ sym (append-nil a.text.items)
-fired_told (Err e) fs a b text fresh taken is = taken
+    ∙ ap (λ (bs : List AppliedPattern). a.text.items ++ fired_text (names_of a) (fired_of bs)) recorded
+  where
+    applied_length : (fs : List AppliedRewrite) → length (applied_by fs) ≡ length fs
+    applied_length [] = refl
+    applied_length (f ∷ fs) = ap suc (applied_length fs)
+fired_told limit (Ok (Converged k)) fs a b text fresh whole taken is =
+    is ∙ (taken.current a.text.items (fresh_current limit a fresh)).begins ∙ sym (append-nil a.text.items)
+fired_told limit (Err e) fs a b text fresh whole taken is = taken

@@ -12,24 +12,27 @@ use Rattle.mlir_work_transforms.specs.declared.fired_lines.FiredLines.{FiredLine
 abbrev pub names_of : FiredLines → List (List ℕ)
 names_of t = map (λ n. n.items) t.names.items
 
--- nothing was recorded, and all of the text is of others
-pub record IsFresh (t : FiredLines) : Type 0 where
+-- nothing was recorded, all of the text is of others, and the run has this limit
+pub record IsFresh (limit : ℕ) (t : FiredLines) : Type 0 where
   pub applied : t.applied.items ≡ []
   pub shown : t.shown ≡ length t.text.items
+  pub limit : t.limit ≡ limit
 
--- the text has lines of others, and then the counts of what was recorded
+-- the text begins with lines of others; if as many rewrites as the limit allows were recorded, then the counts follow
 pub record IsCurrent (lines : List ℕ) (t : FiredLines) : Type 0 where
   pub shown : t.shown ≡ length lines
-  pub text : t.text.items ≡ lines ++ fired_text (names_of t) (fired_of t.applied.items)
+  pub begins : take t.shown t.text.items ≡ lines
+  pub text : length t.applied.items ≡ t.limit → t.text.items ≡ lines ++ fired_text (names_of t) (fired_of t.applied.items)
 
 -- these rewrites were recorded between two states
 pub record FiredTaken (fs : List AppliedRewrite) (a b : FiredLines) : Type 0 where
   pub applied : b.applied.items ≡ a.applied.items ++ applied_by fs
   pub names : names_of b ≡ names_of a
+  pub limit : b.limit ≡ a.limit
   pub current : (lines : List ℕ) → IsCurrent lines a → IsCurrent lines b
 
 pub untouched_fired : (t : FiredLines) → FiredTaken [] t t
-untouched_fired t = record { applied = sym (append-nil t.applied.items); names = refl; current = λ lines h. h }
+untouched_fired t = record { applied = sym (append-nil t.applied.items); names = refl; limit = refl; current = λ lines h. h }
 
 pub applied_joined : (fs gs : List AppliedRewrite) → applied_by (fs ++ gs) ≡ applied_by fs ++ applied_by gs
 applied_joined [] gs = refl
@@ -40,6 +43,7 @@ joined_fired fs gs a b d f g = record {
   applied = g.applied ∙ ap (λ (bs : List AppliedPattern). bs ++ applied_by gs) f.applied ∙ append_assoc a.applied.items (applied_by fs) (applied_by gs)
       ∙ ap (λ (bs : List AppliedPattern). a.applied.items ++ bs) (sym (applied_joined fs gs));
   names = g.names ∙ f.names;
+  limit = g.limit ∙ f.limit;
   current = λ lines h. g.current lines (f.current lines h);
 }
 

@@ -17,6 +17,7 @@ ghost use Rattle.mlir_work_transforms.specs.FiredText.{fired_below};
 use crate::fired_lines::FiredLines;
 use conversion::rewriter::Bench;
 use greedy::bench::{canonicalize_traced, rewrite_traced, rewrite_with_patterns_traced};
+use greedy::laws::{each_rewrite_is_traced, rewriting_by_its_rules_is_canonicalization};
 use greedy::outcome::Outcome;
 use greedy::pattern_set::RuleOrPattern;
 use greedy::patterns::rule::Rule;
@@ -36,7 +37,7 @@ pub fn canon_fired<L: Analysis>(
     limit: u32,
     lines: &mut FiredLines,
 ) -> Result<Outcome, Refusal>
-    requires { IsFresh lines.old }
+    requires { IsFresh limit lines.old }
     ensures does { Does L.meaning (Change (canonicalizing limit)) (canonical_reply result) bench.old bench.new }
     ensures told { OnOk result (lines.new.text.items ≡ lines.old.text.items
         ++ fired_below (Replied (canonical_reply result)) (names_of lines.old)
@@ -46,6 +47,8 @@ pub fn canon_fired<L: Analysis>(
     ensures led { Led L.meaning bench.old bench.new }
     ensures grows { IsExtendedBy bench.old.transaction.ctx bench.new.transaction.ctx }
 {
+    each_rewrite_is_traced();
+    rewriting_by_its_rules_is_canonicalization();
     let called = canonicalize_traced(alloc, bench, limit, lines);
     lines.end(&called);
     called
@@ -63,7 +66,7 @@ pub fn rewrite_fired<L: Analysis>(
     lines: &mut FiredLines,
 ) -> Result<Outcome, Refusal>
     requires canonical { AreCanonical rules.now }
-    requires fresh { IsFresh lines.old }
+    requires fresh { IsFresh limit lines.old }
     ensures does { Does L.meaning (Change (rewriting (by_rules rules.now) limit)) (canonical_reply result) bench.old bench.new }
     ensures told { OnOk result (lines.new.text.items ≡ lines.old.text.items
         ++ fired_below (Replied (canonical_reply result)) (names_of lines.old)
@@ -73,6 +76,7 @@ pub fn rewrite_fired<L: Analysis>(
     ensures led { Led L.meaning bench.old bench.new }
     ensures grows { IsExtendedBy bench.old.transaction.ctx bench.new.transaction.ctx }
 {
+    each_rewrite_is_traced();
     let called = rewrite_traced(alloc, bench, rules, limit, lines);
     lines.end(&called);
     called
@@ -91,7 +95,7 @@ pub fn rewrite_with_patterns_fired<L: Analysis>(
     lines: &mut FiredLines,
 ) -> Result<Outcome, Refusal>
     requires may { AreAttempts (patterns_of candidates.now) }
-    requires fresh { IsFresh lines.old }
+    requires fresh { IsFresh limit lines.old }
     ensures does { Does L.meaning (Change (rewriting (by_attempts (patterns_of candidates.now)) limit))
         (canonical_reply result) bench.old bench.new }
     ensures told { OnOk result (lines.new.text.items ≡ lines.old.text.items
@@ -102,6 +106,7 @@ pub fn rewrite_with_patterns_fired<L: Analysis>(
     ensures led { Led L.meaning bench.old bench.new }
     ensures grows { IsExtendedBy bench.old.transaction.ctx bench.new.transaction.ctx }
 {
+    each_rewrite_is_traced();
     let called = rewrite_with_patterns_traced(alloc, bench, candidates, limit, lines);
     lines.end(&called);
     called

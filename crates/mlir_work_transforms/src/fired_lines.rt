@@ -20,8 +20,8 @@ const MOST_COUNTED: usize = 100;
 /// The tracer that counts the rules and patterns of the last hundred rewrites: `fired 4 drop-zero 37`. A line shows a
 /// user pattern by its name: `names` has the name of each rule and pattern of the list, at the same index.
 ///
-/// Each rewrite adds 16 bytes to `applied` and writes the lines again: at most 100 entries are compared with each other.
-/// So the end of a run needs no memory, and a run without memory for the lines is refused as a whole.
+/// Each rewrite adds 16 bytes to `applied`. The lines are written with the last rewrite that the limit allows. So the
+/// end of a run needs no memory, and a run without memory for the lines is refused as a whole.
 #[derive(Drop)]
 pub struct FiredLines {
     /// The lines of others, and then the lines of this tracer.
@@ -31,6 +31,8 @@ pub struct FiredLines {
     pub names: Vec<Vec<u8>>,
     /// What each rewrite applied, in order.
     pub applied: Vec<AppliedPattern>,
+    /// The limit of the run.
+    pub limit: u32,
 }
 
 /// Returns whether `applied` is this rule.
@@ -173,39 +175,45 @@ fn write_last(
 }
 
 impl FiredLines {
-    /// Returns a tracer without counts, with the lines above them and the names of the rules and patterns of the list.
-    pub fn new(alloc: Global, text: Vec<u8>, names: Vec<Vec<u8>>) -> FiredLines
+    /// Returns a tracer without counts for a run with this limit, with the lines above the counts and the names of the
+    /// rules and patterns of the list.
+    pub fn new(alloc: Global, limit: u32, text: Vec<u8>, names: Vec<Vec<u8>>) -> FiredLines
         ensures text { result.text ≡ text }
         ensures names { result.names ≡ names }
-        ensures fresh { IsFresh result }
+        ensures fresh { IsFresh limit result }
     {
         FiredLines {
             shown: text.len(),
             text,
             names,
             applied: Vec::new(alloc),
+            limit,
         }
     }
 
-    /// Returns a tracer without counts and lines above them, for rules only.
-    pub fn of_rules(alloc: Global) -> FiredLines
+    /// Returns a tracer without counts and lines above them for a run with this limit, for rules only.
+    pub fn of_rules(alloc: Global, limit: u32) -> FiredLines
         ensures text { result.text.items ≡ [] }
         ensures names { result.names.items ≡ [] }
-        ensures fresh { IsFresh result }
+        ensures fresh { IsFresh limit result }
     {
         FiredLines {
             text: Vec::new(alloc),
             shown: 0,
             names: Vec::new(alloc),
             applied: Vec::new(alloc),
+            limit,
         }
     }
 
-    /// Records a rewrite, and writes the lines again.
+    /// Records a rewrite, and writes the lines if it is the last one that the limit allows.
     fn record(&mut self, applied: &AppliedRewrite) -> Result<(), AllocError>
         ensures { OnOk result (FiredTaken (applied.now ∷ []) self.old self.new) }
     {
         self.applied.push(applied.by)?;
+        if self.applied.len() != self.limit as usize {
+            return Ok(());
+        }
         self.text.truncate(self.shown);
         write_last(&mut self.text, &self.names, &self.applied)?;
         Ok(())

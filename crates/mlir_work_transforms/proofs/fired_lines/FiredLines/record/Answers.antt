@@ -1,7 +1,10 @@
 use Rattle.std.proofs.Common.{refl}
-use Rattle.mlir_work_transforms.proofs.Firings.{fired_recorded}
+use Rattle.mlir_work_transforms.proofs.Firings.{fired_at_limit, fired_before_limit}
 use Rattle.mlir_work_transforms.proofs.fired_lines.FiredLines.record.Goals as goal
+
+pub returns-then-ne : goal.returns-then-ne
+returns-then-ne c = fired_before_limit _ _ c.args.applied.now c.in_ok-push.ensures.items refl refl refl refl (λ e. cc)
 
 pub returns : goal.returns
 returns c =
-    fired_recorded _ _ c.args.applied.now c.truncate.new.self.items c.in_ok-push.ensures.items refl refl c.truncate.ensures.items (rw (c.deref.ensures.value, c.deref-2.ensures.value) at c.in_ok-write_last.ensures)
+    fired_at_limit _ _ c.args.applied.now c.truncate.new.self.items c.in_ok-push.ensures.items refl refl refl c.truncate.ensures.items (rw (c.deref.ensures.value, c.deref-2.ensures.value) at c.in_ok-write_last.ensures)
