@@ -6,9 +6,9 @@ and all seven listeners. A case depends only on the seed and its number, so `--f
 usage: tests/compare/by_chance.py PROGRAM [CASES [SEED]] [--first N] [--processes N] [--only KIND,..] [--opaque N]
                                   [--without COMMAND,..] [--json] [--files FILE..]
 
-CASES is 20000, SEED 1 and the processes are one if they aren't given. The kinds are text, file, script, long and
-conversions; the last, scripts of conversions that fit their module, is there with `--only` alone. Without files the
-cases of files are texts too. A program that hasn't a command is compared without it. N of a hundred cases have opaque
+CASES is 20000, SEED 1 and the processes are one if they aren't given. The kinds are text, file, script, long,
+conversions and reasons. The last two are there with `--only` alone: scripts of conversions that fit their module, and
+scripts that ask why patterns and rules don't apply. Without files the cases of files are texts too. A program that hasn't a command is compared without it. N of a hundred cases have opaque
 terms, and go with `--opaque`: 25 by default; their files are those of tests/golden/opaque. Each case is a process.
 With `--json` it is asked for JSON, and each line of that has to be JSON to Python too. The seed is
 printed, what a case costs, how conversions were replied to, and each difference, whole; the status is 1 if there is
@@ -30,13 +30,13 @@ import checkout  # noqa: F401
 
 from oracle import aliases, chance, claims, culprits, json_lines, script, texts
 from oracle.module import rules, text_of
-from tests.compare import script_lines
+from tests.compare import pattern_lines, script_lines
 from tests.generate import opaque_cases
 
 DIVIDER = b"// -----\n"
 # Of a hundred cases.
 MIX = {"text": 45, "file": 25, "script": 26, "long": 4}
-ALL_KINDS = (*MIX, "conversions")
+ALL_KINDS = (*MIX, "conversions", "reasons")
 BATCH, MOST_SHOWN = 500, 3
 # Words that are put in the place of others, or between them.
 WORDS = """i32 i64 index i1 i129 si8 ui128 memref<?x4xi32> () ({ }) ({}) ({^bb0: }) ^bb1: ^bb0(%a: <{ }> { } ( ) [ ] = :
@@ -221,6 +221,22 @@ def conversions(maker, known, is_opaque):
     return runs.case("conversions", text, script.LIMIT)
 
 
+def reasons(maker, known, is_opaque):
+    """A script that asks why patterns and rules don't apply, and defines and applies patterns between."""
+    text = made(maker, 24, is_opaque)
+    runs = Runs(text, known, script.LIMIT, True, is_opaque)
+    scripter = chance.Scripter(maker, runs.run)
+    for _ in range(maker.randrange(6, 24)):
+        pick, run = maker.random(), runs.run
+        if pick < 0.2 or not run.book and pick < 0.8:
+            runs.obey(pattern_lines.defined(maker, run.module))
+        elif pick < 0.9:
+            runs.obey(pattern_lines.asked(maker, run))
+        else:
+            runs.obey(pattern_lines.applied(maker, run) if pick < 0.95 else scripter.edit())
+    return runs.case("reasons", text, script.LIMIT)
+
+
 def case_of(number, seed, known, files, only=(), share=0):
     """The case with a number, or none if the rules leave it open. A share of the cases, of a hundred, has opaque
     terms."""
@@ -230,6 +246,8 @@ def case_of(number, seed, known, files, only=(), share=0):
     try:
         if kind == "conversions":
             return conversions(maker, known, is_opaque)
+        if kind == "reasons":
+            return reasons(maker, known, is_opaque)
         if kind == "file" and is_opaque:
             return a_text(maker, known, maker.choice(opaque_files()), "file", True)
         if kind == "file" and files:

@@ -168,6 +168,19 @@ def applied(maker, run):
     return f"apply {name} #{op}"
 
 
+def asked(maker, run):
+    """A line that asks why a pattern, or now and then a rule, doesn't apply, mostly at an operation that the pattern may
+    match by its name."""
+    name = maker.choice([*run.book] or ["nope"])
+    if maker.random() < 0.15:
+        name = maker.choice(["p0", "nope", str(maker.randrange(1, 31)), maker.choice(rewrites.WORDS)])
+    those = [it.id for it in roots(run.module)]
+    if name in run.book and maker.random() < 0.8:
+        those = [it.id for it in roots(run.module) if it.name == run.book[name].old.name]
+    op = maker.choice(those) if those and maker.random() < 0.9 else maker.randrange(20)
+    return f"why #{op} {name}"
+
+
 def listed(maker, run):
     """A line that rewrites by a list of patterns and rules."""
     names = [maker.choice([*run.book, "p0", str(maker.randrange(1, 25)), maker.choice(rewrites.WORDS)])

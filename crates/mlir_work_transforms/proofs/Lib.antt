@@ -18,3 +18,4 @@ pub mod Joined
 pub mod Narrowed
 pub mod NamedPatterns
 pub mod Viewed
+pub mod PatternPaths

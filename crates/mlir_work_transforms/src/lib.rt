@@ -31,7 +31,9 @@ pub mod trace;
 pub mod trace_lines;
 pub mod unproved;
 pub mod why;
+mod why_numbers;
 pub mod why_pattern;
+mod why_types;
 mod why_values;
 
 pub use conversion::{fault, rewriter};

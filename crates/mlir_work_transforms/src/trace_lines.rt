@@ -21,10 +21,10 @@ pub struct TraceLines {
 }
 
 /// Appends a number.
-fn write_number(text: &mut Vec<u8>, number: u8) -> Result<(), AllocError>
+pub(crate) fn write_number(text: &mut Vec<u8>, number: u64) -> Result<(), AllocError>
     ensures { OnOk result (text.new.items ≡ text.old.items ++ decimal number) }
 {
-    cells::write_number(text, u64::from(number)).map_err(|_| AllocError)
+    cells::write_number(text, number).map_err(|_| AllocError)
 }
 
 /// Appends an operation id.
@@ -38,7 +38,7 @@ pub(crate) fn write_op(text: &mut Vec<u8>, op: OpId) -> Result<(), AllocError>
 pub(crate) fn write_rule(text: &mut Vec<u8>, rule: Rule) -> Result<(), AllocError>
     ensures { OnOk result (text.new.items ≡ text.old.items ++ rule_text rule) }
 {
-    write_number(text, rule.number())?;
+    write_number(text, u64::from(rule.number()))?;
     text.extend_from_slice(b" ")?;
     text.extend_from_slice(rule.word().as_bytes())
 }
