@@ -13,10 +13,10 @@ abbrev pub names_of : FiredLines → List (List ℕ)
 names_of t = map (λ n. n.items) t.names.items
 
 -- nothing was recorded, all of the text is of others, and the run has this limit
-pub record IsFresh (limit : ℕ) (t : FiredLines) : Type 0 where
+pub record IsFresh (allowed : ℕ) (t : FiredLines) : Type 0 where
   pub applied : t.applied.items ≡ []
   pub shown : t.shown ≡ length t.text.items
-  pub limit : t.limit ≡ limit
+  pub limit : t.limit ≡ allowed
 
 -- the text begins with lines of others; if as many rewrites as the limit allows were recorded, then the counts follow
 pub record IsCurrent (lines : List ℕ) (t : FiredLines) : Type 0 where

@@ -7,6 +7,6 @@ use Rattle.mlir_work_transforms.proofs.fired.canon_fired.Goals as goal
 
 pub returns-clause-told : goal.returns-clause-told
 returns-clause-told g c =
-    fired_told c.args.limit _ _ c.args.lines.now c.canonicalize_traced.new.trace _ c.requires
+    fired_told c.args.limit _ _ c.args.lines.now _ _ c.requires
     (canonicalization_length (rules_fire greedy_rules) c.each_rewrite_is_traced.ensures c.rewriting_by_its_rules_is_canonicalization.ensures c.args.limit (state_of g.L.Analysis.meaning c.args.bench.now) _ _ c.canonicalize_traced-called.ensures.does)
     c.canonicalize_traced-called.ensures.trace c.end.ensures

@@ -7,6 +7,6 @@ use Rattle.mlir_work_transforms.proofs.fired.rewrite_fired.Goals as goal
 
 pub returns-clause-told : goal.returns-clause-told
 returns-clause-told g c =
-    fired_told c.args.limit _ _ c.args.lines.now c.rewrite_traced.new.trace _ c.requires.fresh
+    fired_told c.args.limit _ _ c.args.lines.now _ _ c.requires.fresh
     (rewriting_length (by_rules c.args.rules.now) (rules_fire c.args.rules.now) c.each_rewrite_is_traced.ensures c.args.limit (state_of g.L.Analysis.meaning c.args.bench.now) _ _ c.rewrite_traced-called.ensures.does)
     c.rewrite_traced-called.ensures.trace c.end.ensures

@@ -8,6 +8,6 @@ use Rattle.mlir_work_transforms.proofs.fired.rewrite_with_patterns_fired.Goals a
 pub returns-clause-told : goal.returns-clause-told
 returns-clause-told g c =
     let candidates = patterns_of c.args.candidates.now in
-    fired_told c.args.limit _ _ c.args.lines.now c.rewrite_with_patterns_traced.new.trace _ c.requires.fresh
+    fired_told c.args.limit _ _ c.args.lines.now _ _ c.requires.fresh
     (rewriting_length (by_attempts candidates) (attempts_lawful candidates c.requires.may).applied c.each_rewrite_is_traced.ensures c.args.limit (state_of g.L.Analysis.meaning c.args.bench.now) _ _ c.rewrite_with_patterns_traced-called.ensures.does)
     c.rewrite_with_patterns_traced-called.ensures.trace c.end.ensures

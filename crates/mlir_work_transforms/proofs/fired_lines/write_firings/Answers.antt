@@ -4,10 +4,9 @@ use Rattle.mlir_work_transforms.proofs.fired_lines.write_firings.Goals as goal
 
 pub places-preserved : goal.places-preserved
 places-preserved c =
-    let below = c.places-test.true in
-    firings_step (map (λ n. n.items) c.args.names.now) c.args.list.now c.places.place _ _ _ (omega (arith, below, c.len.ensures)) (rw (c.split_at.ensures.front, c.split_at.ensures.back) at c.in_ok-write_first.ensures) c.places.invariant
+    firings_step (map (λ n. n.items) c.args.names.now) c.args.list.now c.places.place _ _ _ c.places-test.true (rw (c.split_at.ensures.front, c.split_at.ensures.back) at c.in_ok-write_first.ensures) c.places.invariant
 
 pub returns : goal.returns
 returns c =
     let past = c.places-test.false in
-    firings_end (map (λ n. n.items) c.args.names.now) c.args.list.now c.places.place _ _ (omega (arith, past, c.len.ensures)) c.places.invariant
+    firings_end (map (λ n. n.items) c.args.names.now) c.args.list.now c.places.place _ _ (omega (arith, past)) c.places.invariant

@@ -1,9 +1,10 @@
-use Rattle.std.proofs.Common.{refl}
+use Rattle.std.proofs.Common.{◌∙◌, refl}
 use Rattle.mlir_work_transforms.proofs.Firings.{fired_at_limit, fired_before_limit}
 use Rattle.mlir_work_transforms.proofs.fired_lines.FiredLines.record.Goals as goal
 
-pub returns-then-ne : goal.returns-then-ne
-returns-then-ne c = fired_before_limit _ _ c.args.applied.now c.in_ok-push.ensures.items refl refl refl refl (λ e. cc)
+pub returns-then-len-self : goal.returns-then-len-self
+returns-then-len-self c =
+    fired_before_limit _ _ c.args.applied.now c.in_ok-push.ensures.items refl refl refl refl (λ e. c.if-len-self.true (c.len.ensures ∙ e))
 
 pub returns : goal.returns
 returns c =
