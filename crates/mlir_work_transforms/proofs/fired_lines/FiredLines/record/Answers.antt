@@ -4,7 +4,7 @@ use Rattle.mlir_work_transforms.proofs.fired_lines.FiredLines.record.Goals as go
 
 pub returns-then-len-self : goal.returns-then-len-self
 returns-then-len-self c =
-    fired_before_limit _ _ c.args.applied.now c.in_ok-push.ensures.items refl refl refl refl (λ e. c.if-len-self.true (c.len.ensures ∙ e))
+    fired_before_limit _ _ c.args.applied.now c.in_ok-push.ensures.items refl refl refl refl (λ e. c.if-len-self.true (c.len.ensures ∙ c.push.new.self.ok.0 ∙ e))
 
 pub returns : goal.returns
 returns c =
