@@ -25,7 +25,7 @@ READERS = ("command", "session_command", "registry_command", "expected_refusal")
 # Refusals that no command answers.
 UNANSWERED = {"NotEmpty"}
 # Words after the first one of a line, which these files compare in the same way.
-BEHIND = {"all", "at", "limit", "only", "proved", "trace", "width"}
+BEHIND = {"all", "at", "fired", "limit", "only", "proved", "trace", "width"}
 
 
 def source(path):

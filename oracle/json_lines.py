@@ -164,6 +164,29 @@ def is_applied(line):
     return word == b"rewrote" and cut(rest)[1].startswith(b"#")
 
 
+def is_count(line):
+    """Whether a line says how many times a rule fired: a number follows the number and the word of the rule."""
+    word, rest = cut(line)
+    return word == b"fired" and isinstance(number(cut(cut(rest)[1])[1]), int)
+
+
+def is_pattern_count(line):
+    """Whether a line says how many times a user pattern fired: a number follows its name."""
+    word, rest = cut(line)
+    return word == b"fired" and isinstance(number(cut(rest)[1]), int)
+
+
+def row_of_count(line):
+    rule, rest = cut(cut(line)[1])
+    word, count = cut(rest)
+    return {"kind": "fired", "rule": number(rule), "word": shown(word), "count": number(count)}
+
+
+def row_of_pattern_count(line):
+    name, count = cut(cut(line)[1])
+    return {"kind": "fired", "name": shown(name), "count": number(count)}
+
+
 def row_of_applied(line):
     name, rest = cut(cut(line)[1])
     return changed({"kind": "trace", "name": shown(name)}, rest)
@@ -221,6 +244,10 @@ def worded(line):
         return row_of_stay(line)
     if rest.startswith(b"#"):
         return row_of_symbols(line) if word in SYMBOLS else {"text": shown(line)}
+    if is_count(line):
+        return row_of_count(line)
+    if is_pattern_count(line):
+        return row_of_pattern_count(line)
     if is_unproved(line) or is_checked(line):
         return row_of_named(line)
     if OUTCOME.fullmatch(cut(rest)[0]):

@@ -1,4 +1,6 @@
 """The rewrite rules 1 to 30, and the repeated first rule."""
+import re
+
 from .analyses import effects_of
 from .folds import attribute_of, fold, known, signed, width
 from .module import I1, I64, INDEX, Block, Op, walk
@@ -8,6 +10,8 @@ from .verifier import Here, broken
 
 CAST, CONSTANT = b"builtin.unrealized_conversion_cast", b"arith.constant"
 FLAGGED = {b"arith.addi", b"arith.subi", b"arith.muli"}
+# How many of the last rewrites are counted by rule.
+MOST_COUNTED = 100
 MIRRORED = {2: 4, 4: 2, 3: 5, 5: 3, 6: 8, 8: 6, 7: 9, 9: 7}
 
 
@@ -514,6 +518,15 @@ def traced(module, rules, limit):
         lines.append(told(module, *found))
         module = found[0]
     return module, lines, first(module, rules) is None
+
+
+def fired_lines(lines):
+    """How many of the last hundred trace lines each rule or pattern has, in the order of their first lines there."""
+    counts = {}
+    for line in lines[-MOST_COUNTED:]:
+        by = re.match("rewrote (.*?) #", line)[1]
+        counts[by] = counts.get(by, 0) + 1
+    return [f"fired {by} {count}" for by, count in counts.items()]
 
 
 def rewritten(module, rules, limit):

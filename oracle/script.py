@@ -199,13 +199,19 @@ class Run:
         need(not words or len(words) == 2 and words[0] == "limit")
         return number(words[1]) if words else self.limit
 
-    def rewritten(self, asked, limit, is_traced=False):
-        """Rewrites by some rules and patterns, and reports each rewrite, or only their number."""
+    def form_of(self, words):
+        """The word that says what is reported of each rewrite, if the first word is one."""
+        return words[0] if words[:1] in (["trace"], ["fired"]) else ""
+
+    def rewritten(self, asked, limit, form=""):
+        """Rewrites by some rules and patterns, and reports each rewrite (`trace`), what fired before the limit
+        (`fired`), or only their number."""
         edits.refuse(50, not 1 <= limit <= MOST_LIMIT)
         by = rewrites if all(isinstance(it, int) for it in asked) else mixed
         named = self.unproved(asked)
         self.module, lines, is_done = by.traced(self.module, asked, limit)
-        told = "".join(line + "\n" for line in lines) if is_traced else ""
+        shown = {"": [], "trace": lines, "fired": [] if is_done else rewrites.fired_lines(lines)}[form]
+        told = "".join(line + "\n" for line in shown)
         return ("converged" if is_done else "limit") + f" {len(lines)}", named + told
 
     def unproved(self, asked):
@@ -218,8 +224,8 @@ class Run:
             return self.rewrite(cut(text)[1])
         if words[:1] == ["at"]:
             return self.canon_at(words[1:])
-        is_traced = words[:1] == ["trace"]
-        return self.rewritten(rewrites.CANONICAL, self.limited(words[is_traced:]), is_traced)
+        form = self.form_of(words)
+        return self.rewritten(rewrites.CANONICAL, self.limited(words[bool(form):]), form)
 
     def canon_at(self, words):
         """Rewrites one operation by the rules of canonicalization, while it exists and a rule applies."""
@@ -269,12 +275,12 @@ class Run:
         asked = [it for item in items for it in self.meant(item)]
         is_proved = words[1:2] == ["proved"]
         words = words[1 + is_proved:]
-        is_traced = words[:1] == ["trace"]
-        limit = self.limited(words[is_traced:])
+        form = self.form_of(words)
+        limit = self.limited(words[bool(form):])
         edits.refuse(26, None in asked)
         named = self.unproved(asked)
         edits.refuse(61, is_proved and named != "", named)
-        return self.rewritten(asked, limit, is_traced)
+        return self.rewritten(asked, limit, form)
 
     def convert(self, text):
         """Converts. With a leading `trace`, reports each applied rule, or why an operation stays."""

@@ -1,5 +1,7 @@
 """Random lines of scripts: edits, rewrites, conversions that fit a module, marks, and lines that are no commands.
 by_chance.py makes its scripts of them."""
+import re
+
 from tests.compare import pattern_lines
 from oracle import rewrites, script
 from oracle.module import value_text, walk
@@ -16,7 +18,8 @@ ODD = [
     'insert end #0 0 "test.a"() : () -> () "test.b"() : () -> ()', 'insert end #0 0 "test.a"()', "report uses",
     "report kind9", "report use", "report uses of", "report kind9 of #1", "report dead of %v1", "print",
     "print ids", "print id", "resync kind7", "detach kind7", "attach kind9", "attach kind7", "attach uses dead",
-    "canon trace only 1", "canon limit 1 trace", "rewrite trace", "expect 22", "canon at", "canon at 3",
+    "canon trace only 1", "canon limit 1 trace", "rewrite trace", "canon fired 1", "canon fired trace", "rewrite fired",
+    "rewrite 1 trace fired", "fired", "expect 22", "canon at", "canon at 3",
     "canon at #3 trace", "canon at #3 limit",
     "convert trace", "convert trace trace full", "convert full trace", "convert Trace full", "convert trace full legal",
     "convert trace partial legal a legal b", "trace convert full", "why", "why 3", "why #3 31",
@@ -55,11 +58,21 @@ def rewriting(maker):
         rules = ",".join(str(maker.choice([1, 2, 3, maker.randrange(1, 25), maker.choice(rewrites.WORDS)]))
                          for _ in range(maker.randrange(1, 9)))
         word, behind = maker.choice(["rewrite", "canon only"]), maker.choice(["", "", " limit 2", " limit 0", " limit"])
-        return f"{word} {rules}{maker.choice(['', ' trace'])}{behind}"
+        return counted(maker, f"{word} {rules}{maker.choice(['', ' trace'])}{behind}")
     if maker.random() < 0.5:
         word = maker.choice(["canon", "canon", "canon trace"])
-        return word + maker.choice(["", "", " limit 1", " limit 3", " limit 0", " limit"])
+        return counted(maker, word + maker.choice(["", "", " limit 1", " limit 3", " limit 0", " limit"]))
     return conversion(maker)
+
+
+def counted(maker, line):
+    """A line as it is, or one that counts what fired in place of a trace, now and then in more than a hundred
+    rewrites."""
+    if " trace" not in line or maker.random() < 0.4:
+        return line
+    most = maker.choice([None, None, None, 7, 12, 130])
+    line = line.replace(" trace", " fired", 1)
+    return line if most is None else re.sub(r"( limit \d+)?$", f" limit {most}", line, count=1)
 
 
 def asking(maker, op):
@@ -143,11 +156,11 @@ def plain_line(maker, scripter):
     if maker.random() < 0.25:
         return rewriting(maker)
     if maker.random() < 0.05:
-        return pattern_lines.renewed(maker, scripter.run, pattern_lines.registered(maker, scripter.run))
+        return counted(maker, pattern_lines.renewed(maker, scripter.run, pattern_lines.registered(maker, scripter.run)))
     if maker.random() < 0.15:
         if scripter.run.book and maker.random() < 0.3:
             return pattern_lines.widely_checked(maker, scripter.run)
-        return pattern_lines.renewed(maker, scripter.run, pattern_lines.line_of(maker, scripter.run))
+        return counted(maker, pattern_lines.renewed(maker, scripter.run, pattern_lines.line_of(maker, scripter.run)))
     if part < 0.62:
         return scripter.edit()
     if part < 0.8:

@@ -5,9 +5,10 @@ that are of whole runs with all listeners, of the same rules. Run it at the top 
 
 The whole runs are written out here or in tests/generate/worked_rows.txt, and compared with what the rules of oracle
 give for them, or are of analyses_cases.py, verifier_cases.py, conversion_cases.py, heard_cases.py,
-own_pattern_cases.py, trace_cases.py, convert_trace_cases.py and why_cases.py, many of them random from the seeds there,
-with the answers of the rules. `decided.py` writes to `oracle/decided.txt` which patterns claims about bits decide. The
-program that MLIR_WORK_CLAIMS names answers, or the one of these sources. Without a program the file isn't changed."""
+own_pattern_cases.py, trace_cases.py, fired_cases.py, convert_trace_cases.py and why_cases.py, many of them random from
+the seeds there, with the answers of the rules. `decided.py` writes to `oracle/decided.txt` which patterns claims about
+bits decide. The program that MLIR_WORK_CLAIMS names answers, or the one of these sources. Without a program the file
+isn't changed."""
 import itertools
 import pathlib
 import re
@@ -18,7 +19,7 @@ from oracle import live, script
 from oracle.lines import Table, given, told
 from tests.compare import refusals
 from tests.generate import about_cases, analyses_cases, conversion_cases, convert_trace_cases, decided, explained_cases
-from tests.generate import heard_cases, named_pattern_cases, own_pattern_cases, rule_cases, trace_cases
+from tests.generate import fired_cases, heard_cases, named_pattern_cases, own_pattern_cases, rule_cases, trace_cases
 from tests.generate import verifier_cases, why_cases, worked_rows
 from tests.golden import golden
 
@@ -233,18 +234,20 @@ def limit_says(words):
 
 
 def rewrite_says(words):
-    """What the words of a line say of rewriting by some rules, or of traced rewriting, if they do."""
-    if words[:2] == [b"canon", b"trace"]:
+    """What the words of a line say of rewriting by some rules, or of rewriting that is traced or counted, if they
+    do."""
+    forms = ([b"trace"], [b"fired"])
+    if words[:1] == [b"canon"] and words[1:2] in forms:
         says = limit_says(words[2:])
-        return says and f"trace all {says}"
+        return says and f"{words[1].decode()} all {says}"
     found = words[1:] if words[0] == b"rewrite" else words[2:] if words[:2] == [b"canon", b"only"] else []
     if not found or not tried_says(found[0]):
         return None
     is_proved = found[1:2] == [b"proved"]
     left = found[1 + is_proved:]
-    is_traced = left[:1] == [b"trace"]
-    says = limit_says(left[is_traced:])
-    return says and f"{'trace' if is_traced else 'rewrite'} {told(found[0])}{' proved' * is_proved} {says}"
+    form = left[0].decode() if left[:1] in forms else ""
+    says = limit_says(left[bool(form):])
+    return says and f"{form or 'rewrite'} {told(found[0])}{' proved' * is_proved} {says}"
 
 
 def about_says(words):
@@ -351,6 +354,16 @@ ORDERS = {"report uses of #3": "report 1 of op 3", "\treport  unreached\tof  #00
           "rewrite canon,p proved trace": "trace [canon,p] proved limit none",
           "rewrite trace proved trace limit 0": "trace [trace] proved limit 0",
           "canon only 4,p proved trace limit 2": "trace [4,p] proved limit 2",
+          "canon fired": "fired all limit none", "\tcanon \t fired\tlimit  0007 \r": "fired all limit 7",
+          "canon fired limit 4294967295": "fired all limit 4294967295", "rewrite 1 fired": "fired [1] limit none",
+          "rewrite 4,drop-one\tfired  limit 10": "fired [4,drop-one] limit 10",
+          "canon only 024,nope fired": "fired [024,nope] limit none",
+          "canon only fired limit 2": "rewrite [fired] limit 2", "rewrite fired": "rewrite [fired] limit none",
+          "rewrite fired fired limit 3": "fired [fired] limit 3", "rewrite trace fired": "fired [trace] limit none",
+          "rewrite fired trace": "trace [fired] limit none",
+          "rewrite canon,p proved fired": "fired [canon,p] proved limit none",
+          "canon only 4,p proved fired limit 2": "fired [4,p] proved limit 2",
+          "expect 50 canon fired limit 0": "expects 50 BadLimit fired all limit 0",
           "expect 61 rewrite p proved": "expects 61 NotProved rewrite [p] proved limit none",
           "expect 50 canon trace limit 0": "expects 50 BadLimit trace all limit 0",
           "expect 26 rewrite x trace": "expects 26 NoSuchKey trace [x] limit none",
@@ -516,6 +529,10 @@ pattern!|pattern!p q|pattern!! p|Pattern! p|pattern!s p|!pattern p|check all all
 check! p|patterns!|check all sampled|rewrite 1 trace proved|rewrite 1 limit 1 proved|rewrite 1 proved proved
 rewrite 1 proved x|rewrite 1 Proved|rewrite 1proved|rewrite 1 proven|rewrite 1, proved|rewrite 25 proved
 rewrite 1 proved limit|rewrite 1 proved limit x|rewrite 1 proved trace limit|rewrite 1 proved trace trace|canon proved
+canon fired x|canon fired limit|canon fired limit x|canon fired fired|canon fired trace|canon trace fired|canonfired
+canon Fired|canon fire|canon fired only 1|canon limit 1 fired|rewrite 1 fired trace|rewrite 1 trace fired|rewrite 1fired
+rewrite 1 fired fired|rewrite 25 fired|rewrite 1 fired x|rewrite 1 fired limit|rewrite 1 fired proved|canon fired at #3
+canon at #3 fired|fired|fired limit 1|convert fired partial|canon fired limit 4294967296|rewrite 1 proved fired trace
 canon trace proved|canon proved trace|canon at #3 proved|apply 1 #3 proved|rewrite 1 proved 3|canon only proved limit
 check p width 8 sampled sampled|check p width x sampled|check p width 4294967296 sampled|check p width 8 sampled //
 set-operand #42949672950 0 %v2.0|set-operand #99999999999999999999999 0 %v2.0""".replace("\n", "|").split("|")
@@ -1549,7 +1566,7 @@ GOLDEN_PARTS = {
 def main():
     decided.name_program()
     print("seeds", analyses_cases.SEED, verifier_cases.SEED, heard_cases.SEED, conversion_cases.SEED,
-          own_pattern_cases.SEED, trace_cases.SEED, convert_trace_cases.SEED, why_cases.SEED)
+          own_pattern_cases.SEED, trace_cases.SEED, fired_cases.SEED, convert_trace_cases.SEED, why_cases.SEED)
     for part in (lines, words, cuts, writes):
         part()
     for area, parts in GOLDEN_PARTS.items():
@@ -1562,7 +1579,7 @@ def main():
     own_pattern_cases.all_cases(whole, GOLDEN.begin, GOLDEN.case, title)
     GOLDEN.begin("patterns/named")
     named_pattern_cases.all_cases(GOLDEN.case)
-    for part in (trace_cases, convert_trace_cases, why_cases, explained_cases):
+    for part in (trace_cases, fired_cases, convert_trace_cases, why_cases, explained_cases):
         part.all_cases(GOLDEN.case, GOLDEN.begin, title)
     heard_cases.all_cases(case, GOLDEN.case, GOLDEN.begin, title)
     GOLDEN.begin("rules/applied")

@@ -31,7 +31,7 @@ MISSPELT = {
     "delete #8": (0, "write `erase #N`"),
     "inesrt": (0, "write `insert PLACE OPERATION`"),
     "xyzzy": (0, "the commands are print, report, "),
-    "canon 5": (6, "found `5`, expected `limit` or `at` or `only` or `trace`: write `canon` or "
+    "canon 5": (6, "found `5`, expected `limit` or `at` or `only` or `trace` or `fired`: write `canon` or "
                 "`canon limit N` or "),
     "canon limit": (11, "N is missing: write `canon limit N`"),
     "canon limit #5": (12, "found `#5`, expected N: write `canon limit N`"),
@@ -39,11 +39,15 @@ MISSPELT = {
     "canon limit 5 6": (14, "found `6` after the end of the command: write `canon limit N`"),
     "canon trace 5": (12, "found `5`, expected `limit`: write `canon trace` or `canon trace limit N`"),
     "canon trace limit": (17, "N is missing: write `canon trace limit N`"),
-    "rewrite 4,1 traced": (12, "found `traced`, expected `limit` or `proved` or `trace`: write `rewrite RULES` or "),
+    "rewrite 4,1 traced": (12, "found `traced`, expected `limit` or `proved` or `trace` or `fired`: write "
+                           "`rewrite RULES` or "),
+    "canon fired 5": (12, "found `5`, expected `limit`: write `canon fired` or `canon fired limit N`"),
+    "rewrite 4,1 fired trace": (18, "found `trace`, expected `limit`: write `rewrite RULES fired` or "),
     "rewrite 25 trace": (8, "found `25`, expected RULES: write `rewrite RULES` or "),
     "canon only 4 trace limit #5": (25, "found `#5`, expected N: write `canon only RULES trace limit N`"),
     "canon limit 5 trace": (14, "found `trace` after the end of the command: write `canon limit N`"),
     "trace": (0, "unknown command `trace`: write `canon` or "),
+    "fired": (0, "unknown command `fired`: write `canon` or "),
     "sweep #3": (6, "found `#3` after the end of the command: write `sweep`"),
     "canonicalize": (0, "write `canon` or `canon limit N`"),
     "symbol-dce": (0, "write `sweep`"),

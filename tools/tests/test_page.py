@@ -122,7 +122,8 @@ class Steps(unittest.TestCase):
     def test_rewrites_by_some_rules(self):
         module, _ = example("canon")
         for line in (b"canon trace", b"rewrite 1,10", b"rewrite 10,1 trace", b"canon only 1,10", b"canon limit 3",
-                     b"canon only 10,1 trace limit 2", b"\tcanon  trace\tlimit 4"):
+                     b"canon only 10,1 trace limit 2", b"\tcanon  trace\tlimit 4", b"canon fired limit 3",
+                     b"rewrite 1,10 fired"):
             with self.subTest(line):
                 steps = filled(module, line)
                 reply = support.replies(program.asked(module, [line.decode()]))[0][0]
@@ -136,7 +137,7 @@ class Steps(unittest.TestCase):
         """The rewrites of the steps are those of the trace, and the page has their rules and the operations' texts."""
         module, _ = example("canon")
         told = support.replies(program.asked(module, ["canon trace"]))[0][1]
-        for line in (b"canon", b"canon trace", b"canon limit 1"):
+        for line in (b"canon", b"canon trace", b"canon limit 1", b"canon fired limit 1"):
             steps = filled(module, line)[1:]
             found = [it for step in steps for it in step.rewrites]
             self.assertEqual(found, [rewrite_of(it) for it in told[:len(steps)]])

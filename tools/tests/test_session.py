@@ -168,6 +168,9 @@ class Typed(unittest.TestCase):
                          ["limit 2", "rewrote 10 regroup-constants #6 made #16,#17 erased #6",
                           "rewrote 1 erase-dead #3 erased #3"])
         self.assertEqual(here.answer("undo"), ["undone: canon trace limit 2"])
+        self.assertEqual(here.answer("canon fired limit 2"),
+                         ["limit 2", "fired 10 regroup-constants 1", "fired 1 erase-dead 1"])
+        self.assertEqual(here.answer("undo"), ["undone: canon fired limit 2"])
         reply, around, *lines = here.answer("rewrite 1,10 limit 2")
         self.assertEqual((reply, around[:2], {line[0] for line in lines}), ("limit 2", "@@", {"+", "-"}))
         self.assertEqual(here.answer("rewrite 1,10 trace")[-1].split()[0], "rewrote")

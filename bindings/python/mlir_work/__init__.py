@@ -14,14 +14,14 @@ from .operations import Operation
 from .patterns import Checked, Pattern
 from .process import Process
 from .reply import Reply
-from .rewrites import Canonicalized, Reason, Rewrite, Traced
+from .rewrites import Canonicalized, Fired, Firing, Reason, Rewrite, Traced
 from .rows import KINDS, Constant, Dead, Diagnostic, Effect, Row, Symbol, Unreached, Use
 from .session import Session
 from .values import Argument, Result, Value, after, before, end, quoted, start
 from .way import Way
 
 __all__ = ["Argument", "BlockHandle", "Canonicalized", "Cell", "Checked", "Constant", "Dead", "Diagnostic", "Effect",
-           "Error", "FormBroken", "KINDS", "Library", "ModuleRefused", "Numbers", "Operation", "OperationHandle",
-           "Pattern", "Process", "ProcessLost", "Reason", "Refused", "RegionHandle", "Reply", "Result", "Rewrite",
-           "Row", "Session", "SessionClosed", "Stays", "Symbol", "Traced", "Unproved", "Unreached", "Use", "UseHandle",
-           "Value", "ValueHandle", "Way", "after", "before", "end", "quoted", "start"]
+           "Error", "Fired", "Firing", "FormBroken", "KINDS", "Library", "ModuleRefused", "Numbers", "Operation",
+           "OperationHandle", "Pattern", "Process", "ProcessLost", "Reason", "Refused", "RegionHandle", "Reply",
+           "Result", "Rewrite", "Row", "Session", "SessionClosed", "Stays", "Symbol", "Traced", "Unproved", "Unreached",
+           "Use", "UseHandle", "Value", "ValueHandle", "Way", "after", "before", "end", "quoted", "start"]

@@ -1,10 +1,12 @@
-"""Parses the replies to rewriting commands: counts and traces."""
+"""Parses the replies to rewriting commands: counts, traces, and what fired."""
 import re
 from typing import List, NamedTuple, Optional, Tuple
 
 from .reply import Reply
 
 _TOLD = re.compile(r"rewrote (?:(\d+) )?(\S+) #(\d+)(?: made (#\d+(?:,#\d+)*))?( erased #\d+)?")
+
+_FIRED = re.compile(r"fired (?:(\d+) )?(\S+) (\d+)")
 
 
 class Canonicalized(NamedTuple):
@@ -30,6 +32,24 @@ class Traced(NamedTuple):
 
     rewrites: List[Rewrite]
     is_done: bool
+
+
+class Firing(NamedTuple):
+    """How many of the last hundred rewrites a rule or a user pattern made: the number and the word of the rule, or None
+    and the name of the pattern."""
+
+    rule: Optional[int]
+    word: str
+    count: int
+
+
+class Fired(NamedTuple):
+    """The number of rewrites, whether no rule applies any more, and, if the run stopped by its limit, which rules and
+    user patterns fired in its last hundred rewrites, in the order of their first rewrites among these."""
+
+    rewrites: int
+    is_done: bool
+    firings: List[Firing]
 
 
 class Reason(NamedTuple):
@@ -60,6 +80,20 @@ def traced_of(reply: Reply) -> Traced:
     """Returns the result of a rewriting command from its reply, with each rewrite."""
     told = reply.lines[len(reply.unproved):]
     return Traced([rewrite_of(line) for line in told], reply.outcome == "converged")
+
+
+def firing_of(line: str) -> Firing:
+    """Returns the count in a line. Raises ValueError if the line has no count."""
+    found = _FIRED.fullmatch(line)
+    if not found:
+        raise ValueError(f"found {line!r}, expected a line `fired ..`")
+    return Firing(int(found[1]) if found[1] else None, found[2], int(found[3]))
+
+
+def fired_of(reply: Reply) -> Fired:
+    """Returns the result of a rewriting command from its reply, with the counts of what fired."""
+    told = reply.lines[len(reply.unproved):]
+    return Fired(reply.number or 0, reply.outcome == "converged", [firing_of(line) for line in told])
 
 
 def stood_of(reply: Reply) -> List[Rewrite]:

@@ -18,7 +18,8 @@ from .patterns import Checked, Pattern, all_checked_of, checked_of, patterns_of
 from .process import Process
 from .reader import Reader
 from .reply import Reply
-from .rewrites import Canonicalized, Reason, Rewrite, Traced, canonicalized_of, reasons_of, stood_of, traced_of
+from .rewrites import (Canonicalized, Fired, Reason, Rewrite, Traced, canonicalized_of, fired_of, reasons_of, stood_of,
+                       traced_of)
 from .rows import KINDS, Constant, Dead, Diagnostic, Effect, Row, Symbol, Unreached, Use, rows_of
 from .script import BLANKS, File, has_divider, is_text, patterns_in
 from .values import Value, key_text, op_text
@@ -129,7 +130,8 @@ class Session:
         self.unattached: List[str] = []
         """A line for each analysis for which there was no memory, as `attach uses refused 36 Memory`."""
         self.unproved: Tuple[Unproved, ...] = ()
-        """The patterns of the last `rewrite`, `trace` or `apply` that no check proves for the module before it."""
+        """The patterns of the last `rewrite`, `trace`, `fired` or `apply` that no check proves for the module before
+        it."""
         try:
             self.unattached = self._opened(_bytes(text), limit, opaque, blocks)
             there = set(KINDS) - {it.split()[1] for it in self.unattached}
@@ -395,6 +397,13 @@ class Session:
         """Rewrites as `canon` does, or as `rewrite` does if rules are given, and returns each rewrite."""
         line = "canon" if rules is None else f"rewrite {_ruled(rules)}{_proved(proved)}"
         return traced_of(self._rewritten(f"{line} trace{_limited(limit)}"))
+
+    def fired(self, rules: Optional[Iterable[Union[int, str]]] = None, limit: Optional[int] = None,
+              proved: bool = False) -> Fired:
+        """Rewrites as `canon` does, or as `rewrite` does if rules are given. If the run stops by its limit, the result
+        has how many of the last hundred rewrites each rule and pattern made."""
+        line = "canon" if rules is None else f"rewrite {_ruled(rules)}{_proved(proved)}"
+        return fired_of(self._rewritten(f"{line} fired{_limited(limit)}"))
 
     def convert(self, mode: str = "partial", *, legal: Iterable[str] = (), illegal: Iterable[str] = (),
                 dynamic: Iterable[str] = (), rules: Iterable[int] = (), depth: Optional[int] = None) -> int:

@@ -276,6 +276,25 @@ class Calls(Case):
             self.assertEqual([(it.rule, it.operation, it.is_erased) for it in told.rewrites[1:]], [(5, 3, True)])
             self.assertEqual(s.rewrite("erase-dead"), (1, True))
 
+    def test_what_fired(self):
+        with session(example("canon")) as s:
+            regroup, dead = (10, "regroup-constants", 1), (1, "erase-dead", 1)
+            self.assertEqual(s.fired(limit=2), (2, False, [regroup, dead]))
+            self.assertEqual(s.fired([10], 1), (0, True, []))
+            self.assertEqual(s.fired(), (13, True, []))
+            for limit, rules, number in ((0, None, 50), (1, ["nope"], 26)):
+                with self.assertRaises(mlir_work.Refused) as caught:
+                    s.fired(rules, limit)
+                self.assertEqual(caught.exception.number, number)
+        with session(PAIR) as s:
+            s.insert(after(2), '"arith.addi"(%v1.0, %v2.0) : (i32, i32) -> i32')
+            s.pattern("swap arith.addi(%a, %b) => arith.addi(%b, %a)")
+            self.assertEqual(s.fired(["swap"], 300), (300, False, [mlir_work.Firing(None, "swap", 100)]))
+            self.assertEqual(s.unproved, (("swap", "unchecked"),))
+            with self.assertRaises(mlir_work.Refused) as caught:
+                s.fired(["swap"], 300, proved=True)
+            self.assertEqual(caught.exception.number, 61)
+
     def test_conversions_that_are_told(self):
         with session(REMAINDER) as s:
             target = {"illegal": ["arith.remsi", "arith.subi"], "rules": [27, 26]}

@@ -204,9 +204,11 @@ fn told_rewrite(
     format!(in alloc; "rewrite {rules}{proved} limit {limit}")
 }
 
-/// A line that rewrites by some rules, or by those of canonicalization, and lists each rewrite.
+/// A line that rewrites by some rules, or by those of canonicalization, and lists each rewrite (`trace`) or counts what
+/// fired (`fired`).
 fn told_trace(
     alloc: Global,
+    form: &str,
     rules: Option<&[u8]>,
     proved: bool,
     limit: Option<u32>,
@@ -217,7 +219,7 @@ fn told_trace(
     };
     let proved = told_proved(proved);
     let limit = told_number(alloc, limit)?;
-    format!(in alloc; "trace {rules}{proved} limit {limit}")
+    format!(in alloc; "{form} {rules}{proved} limit {limit}")
 }
 
 /// A line that canonicalizes one operation.
@@ -264,7 +266,12 @@ fn told_order(alloc: Global, order: &SessionCommand<'_>) -> Result<String, Alloc
             rules,
             proved,
             limit,
-        } => told_trace(alloc, *rules, *proved, *limit),
+        } => told_trace(alloc, "trace", *rules, *proved, *limit),
+        SessionCommand::Fired {
+            rules,
+            proved,
+            limit,
+        } => told_trace(alloc, "fired", *rules, *proved, *limit),
         SessionCommand::TraceConvert { full, clauses } => told_convert_trace(alloc, *full, clauses),
         SessionCommand::CanonAt { op, limit } => told_canon_at(alloc, *op, *limit),
         SessionCommand::Why { op, rule } => told_why(alloc, *op, rule),

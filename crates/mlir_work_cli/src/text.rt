@@ -107,8 +107,8 @@ To rewrite:
                              this order
   rewrite RULES limit N      the same, at most N times
   rewrite RULES proved       the same, but refused if no check proves one of the
-                             patterns for the module; `trace` and `limit` may
-                             follow
+                             patterns for the module; `trace` or `fired`, and
+                             `limit` may follow
   canon only RULES           the same as `rewrite RULES`
   canon only RULES limit N   the same as `rewrite RULES limit N`
   canon trace                the same as `canon`, and print each rewrite, as
@@ -120,6 +120,17 @@ To rewrite:
   canon only RULES trace     the same as `rewrite RULES trace`
   canon only RULES trace limit N
                              the same as `rewrite RULES trace limit N`
+  canon fired                the same as `canon`, and if it stops by its limit,
+                             print how many of its last 100 rewrites each rule
+                             made, as `fired 4 drop-zero 37`
+  canon fired limit N        the same, at most N times
+  rewrite RULES fired        the same as `rewrite RULES`, with such counts of
+                             rules and user patterns
+  rewrite RULES fired limit N
+                             the same, at most N times
+  canon only RULES fired     the same as `rewrite RULES fired`
+  canon only RULES fired limit N
+                             the same as `rewrite RULES fired limit N`
   convert MODE CLAUSES       replace operations that aren't legal for a target
                              by rules, one after another, and reconcile casts
                              between types, or change nothing (docs/CONVERT.md).
@@ -198,19 +209,22 @@ symbols, as `1 swept 2`. A `canon` or a `rewrite` has the number of rewrites, as
 `1 converged 3`, or `1 limit 3` if a rule still applies. With `trace` a line for
 each rewrite names the rule, the operation, what was made, if anything, and
 whether the operation was erased, as `rewrote 11 add-negative #5 made #7,#8
-erased #5`. A `convert` has the number of applied rules, as `1 converted 2`, and
-with `trace` such a line for each. An `apply` has `1 applied 1`, or `1 applied
-0` if the rule doesn't apply. A `check` has the width up to which the pattern is
-right, as `1 holds 8`, or `1 holds` if it is right at every width; `1 empty 8`
-if it applies nowhere up to that width; `1 fails 2` if it is wrong there, and
-then the values, one a line; and `1 unrefuted 32` if no value that was tried
-refutes it. A `check all` has the answer for the first pattern that is wrong, or
-`1 ok`, and a line for each pattern, as `checked half holds 8`. A refused
-command, as `1 refused 23 NotVisible`, changes nothing, and the next command
-runs. `1 refused 2 Unexpected at 4` has the byte at which the ATTRIBUTE, the
-OPERATION or the PATTERN is wrong, and `1 refused 51 NotLegalised #3` the
-operation that a `convert` can't make legal. If a line expects a refusal and has
-another reply, `1 expected 22 HasUses` follows the reply.
+erased #5`. With `fired`, a reply `1 limit 300` has a line below it for each
+rule and pattern of the last 100 rewrites, in the order of their first rewrites
+among these, as `fired 4 drop-zero 37`. A `convert` has the number of applied
+rules, as `1 converted 2`, and with `trace` such a line for each. An `apply` has
+`1 applied 1`, or `1 applied 0` if the rule doesn't apply. A `check` has the
+width up to which the pattern is right, as `1 holds 8`, or `1 holds` if it is
+right at every width; `1 empty 8` if it applies nowhere up to that width; `1
+fails 2` if it is wrong there, and then the values, one a line; and `1 unrefuted
+32` if no value that was tried refutes it. A `check all` has the answer for the
+first pattern that is wrong, or `1 ok`, and a line for each pattern, as `checked
+half holds 8`. A refused command, as `1 refused 23 NotVisible`, changes nothing,
+and the next command runs. `1 refused 2 Unexpected at 4` has the byte at which
+the ATTRIBUTE, the OPERATION or the PATTERN is wrong, and `1 refused 51
+NotLegalised #3` the operation that a `convert` can't make legal. If a line
+expects a refusal and has another reply, `1 expected 22 HasUses` follows the
+reply.
 
 An `apply` or a `rewrite` by patterns names below its reply, and above a trace,
 each pattern that no check proves for the module. A check has to answer `holds`,

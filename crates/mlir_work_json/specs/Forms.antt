@@ -6,7 +6,7 @@ use Rattle.mlir_work_json.specs.Cuts.{trailing, after_second, cell, second}
 use Rattle.mlir_work_json.specs.Numbers.{number_of}
 use Rattle.mlir_work_json.specs.Replies.{says_width}
 use Rattle.mlir_work_json.specs.declared.form.LineKind.{LineKind}
-use Rattle.mlir_work_json.specs.declared.form.LineKind.TheVariants.{Reply, Heading, ModuleRefused, AttachRefused, Module, Use, Constant, Dead, Unreached, Diagnostic, Effect, Definition, Reference, Unresolved, Mismatch, Reason, NotLegalised, AppliedRule, AppliedPattern, Unproved, Checked, Pattern, Outcome, Other}
+use Rattle.mlir_work_json.specs.declared.form.LineKind.TheVariants.{Reply, Heading, ModuleRefused, AttachRefused, Module, Use, Constant, Dead, Unreached, Diagnostic, Effect, Definition, Reference, Unresolved, Mismatch, Reason, NotLegalised, AppliedRule, AppliedPattern, FiredRule, FiredPattern, Unproved, Checked, Pattern, Outcome, Other}
 use Rattle.mlir_work_script_base.specs.Cuts.{before, after}
 use Rattle.mlir_work_script_base.specs.Values.{is_dot}
 
@@ -71,6 +71,15 @@ tells_rewrite line = bytes_eq (cell line) (codes "rewrote") && begins_op (traili
 abbrev pub tells_pattern : List ℕ → Bool
 tells_pattern line = bytes_eq (cell line) (codes "rewrote") && begins_op (after_second line)
 
+-- the count of a rule has a number after the number and the word of the rule; a constant of a pattern named `fired` has
+-- its type there
+abbrev pub counts_rule : List ℕ → Bool
+counts_rule line = bytes_eq (cell line) (codes "fired") && is_number (trailing (after_second line))
+
+-- the count of a user pattern has a number after the name
+abbrev pub counts_pattern : List ℕ → Bool
+counts_pattern line = bytes_eq (cell line) (codes "fired") && is_number (after_second line)
+
 -- a pattern contains `=>`
 abbrev pub has_arrow : List ℕ → Bool
 has_arrow line = is_some (position (λ b. b == 61) line)
@@ -120,6 +129,8 @@ word_form line =
     else if begins_op (trailing line) then symbol_form (cell line)
     else if tells_rewrite line then AppliedRule
     else if tells_pattern line then AppliedPattern
+    else if counts_rule line then FiredRule
+    else if counts_pattern line then FiredPattern
     else if tells_unproved line then Unproved
     else if tells_checked line then Checked
     else if is_outcome (second line) then Outcome

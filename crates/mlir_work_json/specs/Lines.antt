@@ -6,9 +6,9 @@ use Rattle.mlir_work_json.specs.Cuts.{parts}
 use Rattle.mlir_work_json.specs.Forms.{form_of}
 use Rattle.mlir_work_json.specs.Items.{Member, text, put_all}
 use Rattle.mlir_work_json.specs.Replies.{reply_members, heading_members, unparsed_members, unattached_members}
-use Rattle.mlir_work_json.specs.Rows.{use_members, constant_members, dead_members, unreached_members, diagnostic_members, effect_members, definition_members, reference_members, unresolved_members, mismatch_members, reason_members, stayed_members, rewritten_members, applied_members, unproved_members, checked_members, pattern_members, outcome_members}
+use Rattle.mlir_work_json.specs.Rows.{use_members, constant_members, dead_members, unreached_members, diagnostic_members, effect_members, definition_members, reference_members, unresolved_members, mismatch_members, reason_members, stayed_members, rewritten_members, applied_members, fired_rule_members, fired_pattern_members, unproved_members, checked_members, pattern_members, outcome_members}
 use Rattle.mlir_work_json.specs.declared.form.LineKind.{LineKind}
-use Rattle.mlir_work_json.specs.declared.form.LineKind.TheVariants.{Reply, Heading, ModuleRefused, AttachRefused, Module, Use, Constant, Dead, Unreached, Diagnostic, Effect, Definition, Reference, Unresolved, Mismatch, Reason, NotLegalised, AppliedRule, AppliedPattern, Unproved, Checked, Pattern, Outcome, Other}
+use Rattle.mlir_work_json.specs.declared.form.LineKind.TheVariants.{Reply, Heading, ModuleRefused, AttachRefused, Module, Use, Constant, Dead, Unreached, Diagnostic, Effect, Definition, Reference, Unresolved, Mismatch, Reason, NotLegalised, AppliedRule, AppliedPattern, FiredRule, FiredPattern, Unproved, Checked, Pattern, Outcome, Other}
 use Rattle.mlir_work_script_base.specs.Lines.{is_newline}
 
 -- the members of a line of this kind
@@ -32,6 +32,8 @@ form_members Reason line = reason_members line
 form_members NotLegalised line = stayed_members line
 form_members AppliedRule line = rewritten_members line
 form_members AppliedPattern line = applied_members line
+form_members FiredRule line = fired_rule_members line
+form_members FiredPattern line = fired_pattern_members line
 form_members Unproved line = unproved_members line
 form_members Checked line = checked_members line
 form_members Pattern line = pattern_members line

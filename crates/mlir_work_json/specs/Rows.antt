@@ -93,6 +93,17 @@ applied_members line =
     kind (codes "trace") ∷ text (codes "name") (second line) ∷ text (codes "op") (cell (after_second line))
     ∷ change_members (trailing (after_second line))
 
+-- `fired 4 drop-zero 37`
+abbrev pub fired_rule_members : List ℕ → List Member
+fired_rule_members line =
+    kind (codes "fired") ∷ numeral (codes "rule") (second line) ∷ text (codes "word") (cell (after_second line))
+    ∷ numeral (codes "count") (trailing (after_second line)) ∷ []
+
+-- `fired times_power 63`
+abbrev pub fired_pattern_members : List ℕ → List Member
+fired_pattern_members line =
+    kind (codes "fired") ∷ text (codes "name") (second line) ∷ numeral (codes "count") (after_second line) ∷ []
+
 -- ---- reasons
 
 -- a rule with its verdict, `4 drop-zero second-not-zero`, or a pattern with its verdict, `mine applies`

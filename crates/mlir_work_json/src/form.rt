@@ -2,7 +2,7 @@
 ghost use Rattle.std.specs.Prelude.{◌≡◌};
 ghost use Rattle.mlir_work_json.specs.Forms.{are_three, are_two, begins_module, begins_number, begins_op, form_of};
 ghost use Rattle.mlir_work_json.specs.Forms.{has_arrow, is_number, is_outcome, is_verdict, named_form, names_value, op_form};
-ghost use Rattle.mlir_work_json.specs.Forms.{is_answer, refusal_form, symbol_form, tells_checked, tells_pattern, tells_rewrite, tells_unproved, value_form};
+ghost use Rattle.mlir_work_json.specs.Forms.{counts_pattern, counts_rule, is_answer, refusal_form, symbol_form, tells_checked, tells_pattern, tells_rewrite, tells_unproved, value_form};
 ghost use Rattle.mlir_work_json.specs.Forms.{word_form};
 
 use crate::cuts::{after_cell, cut_cell, has_byte};
@@ -51,6 +51,10 @@ pub enum LineKind {
     AppliedRule,
     /// A traced rewrite by a user pattern.
     AppliedPattern,
+    /// How many times a rule fired.
+    FiredRule,
+    /// How many times a user pattern fired.
+    FiredPattern,
     /// A pattern by which a command rewrites and which no check proves for the module.
     Unproved,
     /// A pattern that a command checked.
@@ -185,6 +189,23 @@ fn tells_pattern(line: &[u8]) -> bool
     word == b"rewrote".as_slice() && begins_op(after_cell(trailing))
 }
 
+/// Returns whether a line says how many times a rule fired.
+fn counts_rule(line: &[u8]) -> bool
+    ensures { result ≡ counts_rule line.now }
+{
+    let (word, trailing) = cut_cell(line);
+    let name = after_cell(trailing);
+    word == b"fired".as_slice() && is_number(after_cell(name))
+}
+
+/// Returns whether a line says how many times a user pattern fired.
+fn counts_pattern(line: &[u8]) -> bool
+    ensures { result ≡ counts_pattern line.now }
+{
+    let (word, trailing) = cut_cell(line);
+    word == b"fired".as_slice() && is_number(after_cell(trailing))
+}
+
 /// Returns whether a line has the arrow of a pattern.
 fn has_arrow(line: &[u8]) -> bool
     ensures { result ≡ has_arrow line.now }
@@ -278,6 +299,12 @@ fn word_form(line: &[u8]) -> LineKind
     }
     if tells_pattern(line) {
         return LineKind::AppliedPattern;
+    }
+    if counts_rule(line) {
+        return LineKind::FiredRule;
+    }
+    if counts_pattern(line) {
+        return LineKind::FiredPattern;
     }
     if tells_unproved(line) {
         return LineKind::Unproved;

@@ -4,7 +4,7 @@ ghost use Rattle.mlir_work_json.specs.Rows.{use_members, constant_members, dead_
 ghost use Rattle.mlir_work_json.specs.Rows.{diagnostic_members, effect_members, definition_members, reference_members};
 ghost use Rattle.mlir_work_json.specs.Rows.{unresolved_members, mismatch_members, said_members, pattern_members};
 ghost use Rattle.mlir_work_json.specs.Rows.{applied_members, change_members, erased_members, outcome_members, reason_members, rewritten_members};
-ghost use Rattle.mlir_work_json.specs.Rows.{checked_members, stay_members, stayed_members, unproved_members, verdict_members};
+ghost use Rattle.mlir_work_json.specs.Rows.{checked_members, fired_pattern_members, fired_rule_members, stay_members, stayed_members, unproved_members, verdict_members};
 
 use crate::cuts::{BLANK, after_cell, cut_cell, without_last};
 use crate::members::{Object, set_number, set_parts, set_text};
@@ -205,6 +205,38 @@ pub(crate) fn set_applied(object: &mut Object, alloc: Global, line: &[u8]) -> Re
     set_text(object, alloc, "name", name)?;
     set_text(object, alloc, "op", op)?;
     set_change(object, alloc, rest)
+}
+
+/// Sets the members of the count of a rule: `fired 4 drop-zero 37`.
+pub(crate) fn set_fired_rule(
+    object: &mut Object,
+    alloc: Global,
+    line: &[u8],
+) -> Result<(), AllocError>
+    ensures { Puts result object.old object.new (fired_rule_members line.now) }
+{
+    let (_, rest) = cut_cell(line);
+    let (rule, rest) = cut_cell(rest);
+    let (word, count) = cut_cell(rest);
+    set_text(object, alloc, "kind", b"fired")?;
+    set_number(object, alloc, "rule", rule)?;
+    set_text(object, alloc, "word", word)?;
+    set_number(object, alloc, "count", count)
+}
+
+/// Sets the members of the count of a user pattern: `fired times_power 63`.
+pub(crate) fn set_fired_pattern(
+    object: &mut Object,
+    alloc: Global,
+    line: &[u8],
+) -> Result<(), AllocError>
+    ensures { Puts result object.old object.new (fired_pattern_members line.now) }
+{
+    let (_, rest) = cut_cell(line);
+    let (name, count) = cut_cell(rest);
+    set_text(object, alloc, "kind", b"fired")?;
+    set_text(object, alloc, "name", name)?;
+    set_number(object, alloc, "count", count)
 }
 
 /// Sets the members of a rule with its verdict, `4 drop-zero second-not-zero`, or of a pattern with its verdict, `mine

@@ -12,8 +12,9 @@ use crate::members::{Object, set_text};
 use crate::replies::{add_attach_refused, add_module_refused, set_heading, set_reply};
 use crate::rows::{
     add_not_legalised, set_applied, set_checked, set_constant, set_dead, set_definition,
-    set_diagnostic, set_effect, set_mismatch, set_outcome, set_pattern, set_reason, set_reference,
-    set_rewritten, set_unproved, set_unreached, set_unresolved, set_use,
+    set_diagnostic, set_effect, set_fired_pattern, set_fired_rule, set_mismatch, set_outcome,
+    set_pattern, set_reason, set_reference, set_rewritten, set_unproved, set_unreached,
+    set_unresolved, set_use,
 };
 use mlir_work_script_base::cuts::cut_at;
 use serde_json::{Map, Value};
@@ -48,6 +49,8 @@ fn set_form(
         LineKind::NotLegalised => add_not_legalised(object, alloc, line),
         LineKind::AppliedRule => set_rewritten(object, alloc, line),
         LineKind::AppliedPattern => set_applied(object, alloc, line),
+        LineKind::FiredRule => set_fired_rule(object, alloc, line),
+        LineKind::FiredPattern => set_fired_pattern(object, alloc, line),
         LineKind::Unproved => set_unproved(object, alloc, line),
         LineKind::Checked => set_checked(object, alloc, line),
         LineKind::Pattern => set_pattern(object, alloc, line),

@@ -28,6 +28,8 @@ pub data SessionCommand : Type 0 where
   Rewrite : List RuleName → Bool → Option ℕ → SessionCommand
   -- the same with a trace; without names, the canonicalization rules are applied
   Trace : Option (List RuleName) → Bool → Option ℕ → SessionCommand
+  -- the same with a count of the rules and patterns that fired in the last hundred rewrites, if the limit is reached
+  Fired : Option (List RuleName) → Bool → Option ℕ → SessionCommand
   -- converts to a target with a trace of each applied rule, or the reason why an operation stays illegal
   TraceConvert : Target → SessionCommand
   -- applies the canonicalization rules at one operation until none applies there
@@ -42,6 +44,7 @@ order_of code.PrintIds = PrintIds
 order_of (code.ReportAbout kind subject) = ReportOf kind subject
 order_of (code.Rewrite rules proved limit) = Rewrite (names_of rules.now) proved limit
 order_of (code.Trace rules proved limit) = Trace (option_map names_of (option_copied rules)) proved limit
+order_of (code.Fired rules proved limit) = Fired (option_map names_of (option_copied rules)) proved limit
 order_of (code.TraceConvert full clauses) = TraceConvert (target_of full (clauses_of clauses))
 order_of (code.CanonAt op limit) = CanonAt op limit
 order_of (code.Why op rule) = Why op (option_map name_of rule)
@@ -89,19 +92,24 @@ limit_in text = if length text == 0 then Some None else limited_in text
 abbrev pub trace_in : Option (List RuleName) → Bool → List ℕ → Option SessionCommand
 trace_in rules proved rest = option_map (λ limit. Trace rules proved limit) (limit_in rest)
 
--- [trace] [limit N] after a rule list and `proved`
+-- [limit N] after fired
+abbrev pub fired_in : Option (List RuleName) → Bool → List ℕ → Option SessionCommand
+fired_in rules proved rest = option_map (λ limit. Fired rules proved limit) (limit_in rest)
+
+-- [trace] [limit N], or fired [limit N], after a rule list and `proved`
 abbrev pub maybe_traced_in : List RuleName → Bool → List ℕ → Option SessionCommand
 maybe_traced_in rules proved rest =
     if bytes_eq (word_of rest) (codes "trace") then trace_in (Some rules) proved (after_word rest)
+    else if bytes_eq (word_of rest) (codes "fired") then fired_in (Some rules) proved (after_word rest)
     else option_map (λ limit. Rewrite rules proved limit) (limit_in rest)
 
--- [proved] [trace] [limit N] after a rule list
+-- [proved] [trace] [limit N], or [proved] fired [limit N], after a rule list
 abbrev pub ruled_in : List RuleName → List ℕ → Option SessionCommand
 ruled_in rules rest =
     if bytes_eq (word_of rest) (codes "proved") then maybe_traced_in rules true (after_word rest)
     else maybe_traced_in rules false rest
 
--- rewrite RULES [proved] [trace] [limit N]
+-- rewrite RULES [proved] [trace] [limit N], or rewrite RULES [proved] fired [limit N]
 abbrev pub rewrite_in : List ℕ → Option SessionCommand
 rewrite_in rest = if are_items (word_of rest) then ruled_in (names_of (word_of rest)) (after_word rest) else None
 
@@ -121,11 +129,12 @@ abbrev pub why_in : List ℕ → Option SessionCommand
 why_in rest = option_and_then
     (λ op. option_map (λ rule. Why op rule) (rule_or_none (after_word rest))) (op_of (word_of rest))
 
--- canon only RULES [proved] [trace] [limit N], canon trace [limit N], and canon at #N [limit N]
+-- canon only, with the arguments of rewrite, canon trace [limit N], canon fired [limit N], and canon at #N [limit N]
 abbrev pub canon_order_in : List ℕ → Option SessionCommand
 canon_order_in rest =
     if bytes_eq (word_of rest) (codes "only") then rewrite_in (after_word rest)
     else if bytes_eq (word_of rest) (codes "trace") then trace_in None false (after_word rest)
+    else if bytes_eq (word_of rest) (codes "fired") then fired_in None false (after_word rest)
     else if bytes_eq (word_of rest) (codes "at") then at_in (after_word rest)
     else None
 

@@ -2,7 +2,7 @@
 ghost use Rattle.std.specs.Prelude.{◌≡◌, None, Some, false, option_map};
 ghost use Rattle.mlir_work_script.specs.SessionCommands.{attach_in, canon_order_in, ids_in, limit_in, maybe_traced_in, order_in, order_named};
 ghost use Rattle.mlir_work_script.specs.SessionCommands.{convert_order_in, convert_trace_in};
-ghost use Rattle.mlir_work_script.specs.SessionCommands.{at_in, order_of, Rewrite, rewrite_in, rule_or_none, ruled_in, trace_in, why_in, report_in};
+ghost use Rattle.mlir_work_script.specs.SessionCommands.{at_in, fired_in, order_of, Rewrite, rewrite_in, rule_or_none, ruled_in, trace_in, why_in, report_in};
 ghost use Rattle.mlir_work_script.specs.RuleLists.{names_of};
 ghost use Rattle.mlir_work_script_base.specs.RuleNames.{name_of};
 
@@ -42,6 +42,16 @@ pub enum SessionCommand<'a> {
     },
     /// `canon trace [limit N]` and `rewrite RULES [proved] trace [limit N]` also trace each rewrite.
     Trace {
+        /// The rules, if the line names rules.
+        rules: Option<&'a [u8]>,
+        /// Whether the command is refused if no check proves one of the patterns for the module.
+        proved: bool,
+        /// The rewrite limit, if the line gives one.
+        limit: Option<u32>,
+    },
+    /// `canon fired [limit N]` and `rewrite RULES [proved] fired [limit N]` also count which rules and patterns fired in
+    /// the last hundred rewrites, if the limit is reached.
+    Fired {
         /// The rules, if the line names rules.
         rules: Option<&'a [u8]>,
         /// Whether the command is refused if no check proves one of the patterns for the module.
@@ -155,6 +165,30 @@ fn traced<'a>(rules: &'a [u8], proved: bool, rest: &[u8]) -> Option<SessionComma
     })
 }
 
+/// Parses `[limit N]` after `fired`.
+fn fired<'a>(rest: &[u8]) -> Option<SessionCommand<'a>>
+    ensures { option_map order_of result ≡ fired_in None false rest.now }
+{
+    let limit = limit(rest)?;
+    Some(SessionCommand::Fired {
+        rules: None,
+        proved: false,
+        limit,
+    })
+}
+
+/// Parses `[limit N]` after a rule list and `fired`.
+fn counted<'a>(rules: &'a [u8], proved: bool, rest: &[u8]) -> Option<SessionCommand<'a>>
+    ensures { option_map order_of result ≡ fired_in (Some (names_of rules.now)) proved rest.now }
+{
+    let limit = limit(rest)?;
+    Some(SessionCommand::Fired {
+        rules: Some(rules),
+        proved,
+        limit,
+    })
+}
+
 /// Parses `[limit N]` after a rule list.
 fn untraced<'a>(rules: &'a [u8], proved: bool, rest: &[u8]) -> Option<SessionCommand<'a>>
     ensures { option_map order_of result ≡ option_map (λ limit. Rewrite (names_of rules.now) proved limit) (limit_in rest.now) }
@@ -167,7 +201,7 @@ fn untraced<'a>(rules: &'a [u8], proved: bool, rest: &[u8]) -> Option<SessionCom
     })
 }
 
-/// Parses `[trace] [limit N]` after a rule list and `[proved]`.
+/// Parses `[trace] [limit N]` or `fired [limit N]` after a rule list and `[proved]`.
 fn maybe_traced<'a>(rules: &'a [u8], proved: bool, rest: &[u8]) -> Option<SessionCommand<'a>>
     ensures { option_map order_of result ≡ maybe_traced_in (names_of rules.now) proved rest.now }
 {
@@ -175,10 +209,13 @@ fn maybe_traced<'a>(rules: &'a [u8], proved: bool, rest: &[u8]) -> Option<Sessio
     if name == b"trace".as_slice() {
         return traced(rules, proved, trailing);
     }
+    if name == b"fired".as_slice() {
+        return counted(rules, proved, trailing);
+    }
     untraced(rules, proved, rest)
 }
 
-/// Parses `[proved] [trace] [limit N]` after a rule list.
+/// Parses `[proved] [trace] [limit N]` or `[proved] fired [limit N]` after a rule list.
 fn ruled<'a>(rules: &'a [u8], rest: &[u8]) -> Option<SessionCommand<'a>>
     ensures { option_map order_of result ≡ ruled_in (names_of rules.now) rest.now }
 {
@@ -189,7 +226,7 @@ fn ruled<'a>(rules: &'a [u8], rest: &[u8]) -> Option<SessionCommand<'a>>
     maybe_traced(rules, false, rest)
 }
 
-/// Parses the arguments of `rewrite RULES [proved] [trace] [limit N]`.
+/// Parses the arguments of `rewrite RULES [proved] [trace] [limit N]` and `rewrite RULES [proved] fired [limit N]`.
 fn rewrite(rest: &[u8]) -> Option<SessionCommand<'_>>
     ensures { option_map order_of result ≡ rewrite_in rest.now }
 {
@@ -235,8 +272,8 @@ fn why(rest: &[u8]) -> Option<SessionCommand<'_>>
     Some(SessionCommand::Why { op, rule })
 }
 
-/// Parses the arguments of `canon only RULES [proved] [trace] [limit N]`, `canon trace [limit N]` and
-/// `canon at #N [limit N]`.
+/// Parses the arguments of `canon only`, which are those of `rewrite`, and of `canon trace [limit N]`,
+/// `canon fired [limit N]` and `canon at #N [limit N]`.
 fn canon(rest: &[u8]) -> Option<SessionCommand<'_>>
     ensures { option_map order_of result ≡ canon_order_in rest.now }
 {
@@ -246,6 +283,9 @@ fn canon(rest: &[u8]) -> Option<SessionCommand<'_>>
     }
     if name == b"trace".as_slice() {
         return trace(rest);
+    }
+    if name == b"fired".as_slice() {
+        return fired(rest);
     }
     if name == b"at".as_slice() {
         return canon_at(rest);

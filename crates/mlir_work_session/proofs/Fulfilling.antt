@@ -8,7 +8,7 @@ use Rattle.mlir_work_transforms.specs.rewriter.Commands.{AppliesRule, RuleName, 
 use Rattle.mlir_work_transforms.specs.rewriter.Machine as call
 use Rattle.mlir_work_transforms.specs.rewriter.Machine.{State, Call, Reply, Done, Refused, Shows, Nothing, Transformation, Tree, Goes}
 use Rattle.mlir_work_transforms.specs.rewriter.Panels.{Shown}
-use Rattle.mlir_work_script.specs.SessionCommands.{Attach, CanonAt, SessionCommand, PrintIds, Rewrite, Trace, TraceConvert, Why, ReportOf}
+use Rattle.mlir_work_script.specs.SessionCommands.{Attach, CanonAt, Fired, SessionCommand, PrintIds, Rewrite, Trace, TraceConvert, Why, ReportOf}
 use Rattle.mlir_work_session_base.specs.IdsText.{ids_text}
 use Rattle.mlir_work_session.specs.Machine.{AsksWhy, AttachesKind, RunsSessionCommand, OrdersIn, SessionSetting, limit_or, order_bytes, told_if, AsksAbout, order_shows, shows_about}
 use Rattle.mlir_work_script_base.specs.declared.subject.Subject.{Subject}
@@ -20,6 +20,7 @@ use Rattle.mlir_work_transforms.specs.greedy.PatternSet.{by_rules}
 use Rattle.mlir_work_transforms.specs.greedy.declared.outcome.Outcome.{Outcome as Ended}
 use Rattle.mlir_work_transforms.specs.ConvertText.{conversion_text}
 use Rattle.mlir_work_transforms.specs.Converting.{command_aim, conversion}
+use Rattle.mlir_work_transforms.specs.FiredText.{fired_below, fired_by}
 use Rattle.mlir_work_transforms.specs.Rewriting.{rewriting_named, rules_named}
 use Rattle.mlir_work_transforms.specs.TraceText.{trace_by, trace_text, traced_rules, tracing}
 use Rattle.mlir_work_transforms.specs.Rule.{Rule}
@@ -28,6 +29,11 @@ use Rattle.mlir_work_transforms.specs.WhyText.{requested_rules, why_lines, why_t
 use Rattle.ir_event.specs.trees.Ids.{has_id}
 use Rattle.mlir_work_session.proofs.Obeying.{some_goes}
 use Rattle.mlir_work_session.proofs.Panels.{all_stay}
+
+-- a refusal has no counts below it
+refused_fired : (o : Option (List Rule)) (limit : ℕ) (m : Module) (refusal : Refusal) → fired_by o limit m (Replied (Refused refusal)) ≡ []
+refused_fired None limit m refusal = refl
+refused_fired (Some rs) limit m refusal = refl
 
 module _ (setting : SessionSetting) where
   -- a session command that calls the machine
@@ -118,6 +124,30 @@ module _ (setting : SessionSetting) where
       go (Some rs) e =
           rw is (fulfils_told (Some names) proved limit (rewriting (by_rules rs) (limit_or setting.session_options.limit limit)) s s (Refused Memory) (Replied (Refused Memory)) [] (ap (option_map (λ rs. rewriting (by_rules rs) (limit_or setting.session_options.limit limit))) e) refl (record { answer = inr (refl, inl refl); panel = all_stay s.panel }) refl)
 
+  -- ---- counting what fired
+
+  -- `fired` with a name that isn't a rule's is refused
+  pub fulfils_unfired : (names : Option (List RuleName)) (proved : Bool) (limit : Option ℕ) (s : State) → tracing names (limit_or setting.session_options.limit limit) ≡ None → RunsSessionCommand setting s (Fired names proved limit) (Replied (Refused NoSuchKey)) [] s
+  fulfils_unfired names proved limit s e =
+      record { requested = Misplaced NoSuchKey; shows = Nothing; asks = subst (λ (o : Option Transformation). AppliesRule o (Misplaced NoSuchKey)) (sym e) refl; follows = (refl, refl, refl); text = sym (refused_fired (traced_rules names) (limit_or setting.session_options.limit limit) s.held NoSuchKey) }
+
+  asks_fired : (names : Option (List RuleName)) (proved : Bool) (limit : Option ℕ) (f : Transformation) (m : Module) → tracing names (limit_or setting.session_options.limit limit) ≡ Some f → OrdersIn setting (Fired names proved limit) m (Ask (call.Change f))
+  asks_fired names proved limit f m e = subst (λ (o : Option Transformation). AppliesRule o (Ask (call.Change f))) (sym e) refl
+
+  -- a rewrite that counts
+  pub fulfils_fired : (names : Option (List RuleName)) (proved : Bool) (limit : Option ℕ) (f : Transformation) (s t : State) (reply : Reply) (response : Response) (bytes : List ℕ) → tracing names (limit_or setting.session_options.limit limit) ≡ Some f → response ≡ Replied reply → Goes s (call.Change f) reply Nothing t
+      → bytes ≡ fired_by (traced_rules names) (limit_or setting.session_options.limit limit) s.held (Replied reply) → RunsSessionCommand setting s (Fired names proved limit) response bytes t
+  fulfils_fired names proved limit f s t reply response bytes e is goes told = rw is (rw told (fulfils_call s t (Fired names proved limit) (call.Change f) reply Nothing (asks_fired names proved limit f s.held e) goes))
+
+  -- a rewrite that counts, refused since memory ran out
+  pub fulfils_unkept : (names : List RuleName) (proved : Bool) (limit : Option ℕ) (s : State) (refusal : Refusal) → refusal ≡ Memory → is_some (rules_named names) ≡ true → RunsSessionCommand setting s (Fired (Some names) proved limit) (Replied (Refused refusal)) [] s
+  fulfils_unkept names proved limit s refusal is there = go (rules_named names) refl
+    where
+      go : (o : Option (List Rule)) → rules_named names ≡ o → RunsSessionCommand setting s (Fired (Some names) proved limit) (Replied (Refused refusal)) [] s
+      go None e = absurd (let f : false ≡ true = sym (ap is_some e) ∙ there in cc)
+      go (Some rs) e =
+          rw is (fulfils_fired (Some names) proved limit (rewriting (by_rules rs) (limit_or setting.session_options.limit limit)) s s (Refused Memory) (Replied (Refused Memory)) [] (ap (option_map (λ rs. rewriting (by_rules rs) (limit_or setting.session_options.limit limit))) e) refl (record { answer = inr (refl, inl refl); panel = all_stay s.panel }) (sym (refused_fired (rules_named names) (limit_or setting.session_options.limit limit) s.held Memory)))
+
   -- ---- converting
 
   -- a traced conversion; a refused conversion has a trace too
@@ -174,6 +204,10 @@ module _ (setting : SessionSetting) where
   by_trace s names proved limit None e = (Replied (Refused NoSuchKey), [], s, fulfils_untold names proved limit s e)
   by_trace s names proved limit (Some f) e = by_call s (Trace names proved limit) (call.Change f) (asks_told names proved limit f s.held e)
 
+  by_fired : (s : State) (names : Option (List RuleName)) (proved : Bool) (limit : Option ℕ) (f : Option Transformation) → tracing names (limit_or setting.session_options.limit limit) ≡ f → SomeFulfilled s (Fired names proved limit)
+  by_fired s names proved limit None e = (Replied (Refused NoSuchKey), [], s, fulfils_unfired names proved limit s e)
+  by_fired s names proved limit (Some f) e = by_call s (Fired names proved limit) (call.Change f) (asks_fired names proved limit f s.held e)
+
   by_why : (s : State) (x : ℕ) (name : Option RuleName) (o : Option (List Rule)) (b : Bool) → requested_rules name x s.held ≡ o → has_id x s.held.tree ≡ b → SomeFulfilled s (Why x name)
   by_why s x name None b e there = (Replied (Refused NoSuchKey), [], s, fulfils_unasked x name s e)
   by_why s x name (Some rs) false e there = (Replied (Refused NoSuchOp), [], s, fulfils_absent x name rs s e there)
@@ -189,6 +223,7 @@ module _ (setting : SessionSetting) where
   some_fulfilled s (ReportOf kind subject) = by_subject s kind subject (is_there subject s.held.tree) refl
   some_fulfilled s (Rewrite names proved limit) = by_ruled s names proved limit (rewriting_named names (limit_or setting.session_options.limit limit)) refl
   some_fulfilled s (Trace names proved limit) = by_trace s names proved limit (tracing names (limit_or setting.session_options.limit limit)) refl
+  some_fulfilled s (Fired names proved limit) = by_fired s names proved limit (tracing names (limit_or setting.session_options.limit limit)) refl
   some_fulfilled s (TraceConvert target) = by_call s (TraceConvert target) (call.Change (conversion target)) refl
   some_fulfilled s (CanonAt x limit) = by_call s (CanonAt x limit) (call.Change (canonicalizing_at (limit_or setting.session_options.limit limit) x)) refl
   some_fulfilled s (Why x name) = by_why s x name (requested_rules name x s.held) (has_id x s.held.tree) refl refl
@@ -206,6 +241,19 @@ pub told_named : (names : List RuleName) (rs : List Rule) (n limit : ℕ) (m : M
 told_named names rs n limit m called before after bytes labels rules same none unnamed told is =
     told_trace rs n limit m called before after bytes labels same none unnamed told is ∙ ap (λ o. told_if (is_accepted (Replied (canonical_reply called))) (trace_by o limit m)) rules
 
+-- the counts of a rewrite by rules, if the list of lines was empty at first
+pub told_fired : (rs : List Rule) (n limit : ℕ) (m : Module) (called : Result Ended Refusal) (before after bytes : List ℕ) (names : List (List ℕ)) → n ≡ limit → before ≡ [] → names ≡ [] → OnOk called (after ≡ before ++ fired_below (Replied (canonical_reply called)) names (trace_of (by_rules rs) n m))
+    → bytes ≡ told_if (is_accepted (Replied (canonical_reply called))) after → bytes ≡ fired_by (Some rs) limit m (Replied (canonical_reply called))
+told_fired rs n limit m (Ok o) before after bytes names same none unnamed told is =
+    is ∙ told ∙ ap (λ (l : List ℕ). l ++ fired_below (Replied (canonical_reply (Ok o))) names (trace_of (by_rules rs) n m)) none ∙ ap (λ (ns : List (List ℕ)). fired_below (Replied (canonical_reply (Ok o))) ns (trace_of (by_rules rs) n m)) unnamed ∙ ap (λ (k : ℕ). fired_below (Replied (canonical_reply (Ok o))) [] (trace_of (by_rules rs) k m)) same
+told_fired rs n limit m (Err e) before after bytes names same none unnamed told is = is
+
+-- the same for rules given by name
+pub fired_named : (names : List RuleName) (rs : List Rule) (n limit : ℕ) (m : Module) (called : Result Ended Refusal) (before after bytes : List ℕ) (labels : List (List ℕ)) → Some rs ≡ rules_named names → n ≡ limit → before ≡ [] → labels ≡ [] → OnOk called (after ≡ before ++ fired_below (Replied (canonical_reply called)) labels (trace_of (by_rules rs) n m))
+    → bytes ≡ told_if (is_accepted (Replied (canonical_reply called))) after → bytes ≡ fired_by (traced_rules (Some names)) limit m (Replied (canonical_reply called))
+fired_named names rs n limit m called before after bytes labels rules same none unnamed told is =
+    told_fired rs n limit m called before after bytes labels same none unnamed told is ∙ ap (λ (o : Option (List Rule)). fired_by o limit m (Replied (canonical_reply called))) rules
+
 -- a session command is never refused at a byte of a text
 never_unparsed : (setting : SessionSetting) (o : SessionCommand) (m : Module) (refusal : Refusal) (offset : Option ℕ) → OrdersIn setting o m (Unparsed refusal offset) → ⊥
 never_unparsed setting (Attach kind) m refusal offset asks = go (setting.supply kind) asks
@@ -219,6 +267,11 @@ never_unparsed setting (Rewrite names proved limit) m refusal offset asks = go (
     go None e = absurd cc
     go (Some f) e = absurd cc
 never_unparsed setting (Trace names proved limit) m refusal offset asks = go (tracing names (limit_or setting.session_options.limit limit)) asks
+  where
+    go : (o : Option Transformation) → AppliesRule o (Unparsed refusal offset) → ⊥
+    go None e = absurd cc
+    go (Some f) e = absurd cc
+never_unparsed setting (Fired names proved limit) m refusal offset asks = go (tracing names (limit_or setting.session_options.limit limit)) asks
   where
     go : (o : Option Transformation) → AppliesRule o (Unparsed refusal offset) → ⊥
     go None e = absurd cc

@@ -10,7 +10,9 @@ use Rattle.mlir_work_transforms.specs.rewriter.Machine.{State, Call, Reply, Refu
 use Rattle.mlir_work_transforms.specs.greedy.Changes.{canonical_reply, rewriting}
 use Rattle.mlir_work_transforms.specs.greedy.Tracing.{trace_of}
 use Rattle.mlir_work_transforms.specs.greedy.PatternSet.{RuleOrPatternModel, by_attempts}
+use Rattle.mlir_work_transforms.specs.greedy.declared.applied_rewrite.AppliedRewrite.{AppliedRewrite}
 use Rattle.mlir_work_transforms.specs.greedy.declared.outcome.Outcome.{Outcome as Ended}
+use Rattle.mlir_work_transforms.specs.FiredText.{fired_below, rule_list_fired}
 use Rattle.mlir_work_transforms.specs.TraceText.{trace_text}
 use Rattle.mlir_work_script.specs.SessionCommands.{SessionCommand}
 use Rattle.mlir_work_transforms.specs.registry.Replies.{IsBounded, is_accepted}
@@ -18,6 +20,8 @@ use Rattle.mlir_work_transforms.specs.registry.Registry.{RegistryModel}
 use Rattle.mlir_work_transforms.specs.RuleLists.{Listed, all_listed, attempts_in, rule_list_trace, mixing, names_in}
 use Rattle.mlir_work_transforms.specs.Unproved.{unproved_of}
 use Rattle.mlir_work_session.specs.declared.options.SessionOptions.{SessionOptions}
+use Rattle.mlir_work_session.specs.declared.trace_form.TraceForm.{TraceForm}
+use Rattle.mlir_work_session.specs.declared.trace_form.TraceForm.TheVariants.{Counts, EachRewrite, Off}
 use Rattle.mlir_work_session.specs.Machine.{IsContextFull, RunsSessionCommand, SessionSetting, limit_or, told_if}
 use Rattle.mlir_work_session.specs.RuleLists.{RunsListCommand, ListCommand, ListCommandHeadroom, Mixes, MixesUnless, is_unproved, list_command_bytes, list_command_change, list_command_trace}
 use Rattle.mlir_work_session.proofs.Fulfilling.{SomeFulfilled, fulfils_bounded, some_fulfilled}
@@ -33,6 +37,12 @@ pub shows_told : (called : Result Ended Refusal) (response : Response) (before a
     → bytes ≡ told_if (is_accepted (Replied (canonical_reply called))) after → bytes ≡ told_if (is_accepted response) (before ++ trace)
 shows_told (Ok o) response before after trace bytes is told shows = rw is (shows ∙ told)
 shows_told (Err e) response before after trace bytes is told shows = rw is shows
+
+-- the bytes below the reply: the given lines, and then the counts
+pub shows_fired : (called : Result Ended Refusal) (response : Response) (before after bytes : List ℕ) (names : List (List ℕ)) (fs : List AppliedRewrite) → response ≡ Replied (canonical_reply called) → OnOk called (after ≡ before ++ fired_below (Replied (canonical_reply called)) names fs)
+    → bytes ≡ told_if (is_accepted (Replied (canonical_reply called))) after → bytes ≡ told_if (is_accepted response) (before ++ fired_below response names fs)
+shows_fired (Ok o) response before after bytes names fs is told shows = rw is (shows ∙ told)
+shows_fired (Err e) response before after bytes names fs is told shows = rw is shows
 
 -- the bytes below the reply without a trace: the given lines alone
 pub shows_same : (response : Response) (reply : Reply) (lines bytes : List ℕ) → response ≡ Replied reply → bytes ≡ told_if (is_accepted (Replied reply)) lines → bytes ≡ told_if (is_accepted response) lines
@@ -82,26 +92,42 @@ module _ (session_options : SessionOptions) (registry : RegistryModel) (x : List
       }
 
   -- the trace of a list command is the trace of its rewrites
-  trace_told : (m : Module) (ls : List Listed) (candidates : List RuleOrPatternModel) (names : List (List ℕ)) (n : ℕ) → x.tells ≡ true → all_listed registry x.names ≡ Some ls → candidates ≡ attempts_in ls → names ≡ names_in ls → n ≡ limit_or session_options.limit x.limit
-      → trace_text names (trace_of (by_attempts candidates) n m) ≡ list_command_trace x.tells session_options registry x m
-  trace_told m ls candidates names n tells e is named same =
+  trace_told : (m : Module) (response : Response) (ls : List Listed) (candidates : List RuleOrPatternModel) (names : List (List ℕ)) (n : ℕ) → x.trace ≡ EachRewrite → all_listed registry x.names ≡ Some ls → candidates ≡ attempts_in ls → names ≡ names_in ls → n ≡ limit_or session_options.limit x.limit
+      → trace_text names (trace_of (by_attempts candidates) n m) ≡ list_command_trace x.trace session_options registry x m response
+  trace_told m response ls candidates names n tells e is named same =
       ap (λ ns. trace_text ns (trace_of (by_attempts candidates) n m)) named
       ∙ ap (λ bs. trace_text (names_in ls) (trace_of (by_attempts bs) n m)) is
       ∙ ap (λ k. trace_text (names_in ls) (trace_of (by_attempts (attempts_in ls)) k m)) same
       ∙ sym (ap (λ o. rule_list_trace o (limit_or session_options.limit x.limit) m) e)
-      ∙ sym (ap (λ b. list_command_trace b session_options registry x m) tells)
+      ∙ sym (ap (λ b. list_command_trace b session_options registry x m response) tells)
 
   -- the bytes below the reply: the lines of unproved patterns, and then the trace
-  pub bytes_told : (m : Module) (response : Response) (bytes unproved : List ℕ) (ls : List Listed) (candidates : List RuleOrPatternModel) (names : List (List ℕ)) (n : ℕ) → unproved ≡ unproved_of registry x.names m.tree → x.tells ≡ true → all_listed registry x.names ≡ Some ls → candidates ≡ attempts_in ls → names ≡ names_in ls
+  pub bytes_told : (m : Module) (response : Response) (bytes unproved : List ℕ) (ls : List Listed) (candidates : List RuleOrPatternModel) (names : List (List ℕ)) (n : ℕ) → unproved ≡ unproved_of registry x.names m.tree → x.trace ≡ EachRewrite → all_listed registry x.names ≡ Some ls → candidates ≡ attempts_in ls → names ≡ names_in ls
       → n ≡ limit_or session_options.limit x.limit → bytes ≡ told_if (is_accepted response) (unproved ++ trace_text names (trace_of (by_attempts candidates) n m)) → bytes ≡ list_command_bytes session_options registry x m response
   bytes_told m response bytes unproved ls candidates names n these tells e is named same told =
-      told ∙ (λ i. told_if (is_accepted response) (these i ++ trace_told m ls candidates names n tells e is named same i))
+      told ∙ (λ i. told_if (is_accepted response) (these i ++ trace_told m response ls candidates names n tells e is named same i))
 
-  pub bytes_untold : (m : Module) (response : Response) (bytes unproved : List ℕ) → unproved ≡ unproved_of registry x.names m.tree → x.tells ≡ false → bytes ≡ told_if (is_accepted response) unproved → bytes ≡ list_command_bytes session_options registry x m response
+  -- the counts of a list command are those of its rewrites
+  fired_told : (m : Module) (response : Response) (ls : List Listed) (candidates : List RuleOrPatternModel) (names : List (List ℕ)) (n : ℕ) → x.trace ≡ Counts → all_listed registry x.names ≡ Some ls → candidates ≡ attempts_in ls → names ≡ names_in ls → n ≡ limit_or session_options.limit x.limit
+      → fired_below response names (trace_of (by_attempts candidates) n m) ≡ list_command_trace x.trace session_options registry x m response
+  fired_told m response ls candidates names n counts e is named same =
+      ap (λ ns. fired_below response ns (trace_of (by_attempts candidates) n m)) named
+      ∙ ap (λ bs. fired_below response (names_in ls) (trace_of (by_attempts bs) n m)) is
+      ∙ ap (λ k. fired_below response (names_in ls) (trace_of (by_attempts (attempts_in ls)) k m)) same
+      ∙ sym (ap (λ o. rule_list_fired o (limit_or session_options.limit x.limit) m response) e)
+      ∙ sym (ap (λ b. list_command_trace b session_options registry x m response) counts)
+
+  -- the bytes below the reply: the lines of unproved patterns, and then the counts
+  pub bytes_fired : (m : Module) (response : Response) (bytes unproved : List ℕ) (ls : List Listed) (candidates : List RuleOrPatternModel) (names : List (List ℕ)) (n : ℕ) → unproved ≡ unproved_of registry x.names m.tree → x.trace ≡ Counts → all_listed registry x.names ≡ Some ls → candidates ≡ attempts_in ls → names ≡ names_in ls
+      → n ≡ limit_or session_options.limit x.limit → bytes ≡ told_if (is_accepted response) (unproved ++ fired_below response names (trace_of (by_attempts candidates) n m)) → bytes ≡ list_command_bytes session_options registry x m response
+  bytes_fired m response bytes unproved ls candidates names n these counts e is named same told =
+      told ∙ (λ i. told_if (is_accepted response) (these i ++ fired_told m response ls candidates names n counts e is named same i))
+
+  pub bytes_untold : (m : Module) (response : Response) (bytes unproved : List ℕ) → unproved ≡ unproved_of registry x.names m.tree → x.trace ≡ Off → bytes ≡ told_if (is_accepted response) unproved → bytes ≡ list_command_bytes session_options registry x m response
   bytes_untold m response bytes unproved these tells told =
       told
       ∙ ap (told_if (is_accepted response)) (these ∙ sym (append-nil (unproved_of registry x.names m.tree)))
-      ∙ sym (ap (λ b. told_if (is_accepted response) (unproved_of registry x.names m.tree ++ list_command_trace b session_options registry x m)) tells)
+      ∙ sym (ap (λ b. told_if (is_accepted response) (unproved_of registry x.names m.tree ++ list_command_trace b session_options registry x m response)) tells)
 
   -- ---- refusals because the context is full
   pub list_command_unroomed : (full : Type 0) (s : State) (refusal : Refusal) → (refusal ≡ Full → ⊥) → ListCommandHeadroom full session_options registry x s (Replied (Refused refusal))

@@ -8,13 +8,15 @@ use Rattle.mlir_work_transforms.specs.rewriter.Commands.{Requested, Ask, CanFill
 use Rattle.mlir_work_transforms.specs.rewriter.Machine.{Shows, State}
 use Rattle.mlir_work_transforms.specs.rewriter.Texts.{SpellsNextTo}
 use Rattle.mlir_work_script.specs.Commands.{Spoken, Nothing, Bad, Obey, Ordered, Registered}
-use Rattle.mlir_work_script.specs.SessionCommands.{Attach, CanonAt, SessionCommand, PrintIds, Rewrite, Trace, TraceConvert, Why, ReportOf}
+use Rattle.mlir_work_script.specs.SessionCommands.{Attach, CanonAt, Fired, SessionCommand, PrintIds, Rewrite, Trace, TraceConvert, Why, ReportOf}
 use Rattle.mlir_work_transforms.specs.registry.Notices.{Notice}
 use Rattle.mlir_work_transforms.specs.registry.Registry.{RegistryModel, Kept}
 use Rattle.mlir_work_transforms.specs.registry.Replies.{is_accepted}
 use Rattle.mlir_work_transforms.specs.Unproved.{unproved_of}
 use Rattle.mlir_work_session.specs.Machine.{AsksIn, RunsSessionCommand, OrdersIn, order_bytes, told_if}
 use Rattle.mlir_work_session.specs.RuleLists.{RunsListCommand, ListCommand, MixesUnless, is_unproved, list_command_bytes, list_command_of, list_command_trace}
+use Rattle.mlir_work_session.specs.declared.trace_form.TraceForm.{TraceForm}
+use Rattle.mlir_work_session.specs.declared.trace_form.TraceForm.TheVariants.{Counts, EachRewrite, Off}
 use Rattle.mlir_work_session.specs.WhyPatterns.{RunsNamedCommand, asked_pattern}
 use Rattle.mlir_work_session.specs.Output.{Line, SessionSetting, session_setting, Replied, Replies}
 use Rattle.mlir_work_session.specs.Sittings.{RunsPatternCommand, Sitting, own_of}
@@ -60,6 +62,7 @@ module _ (setting : SessionSetting) (bytes : ℕ) (longer : setting.session_opti
   orders_wider PrintIds m requested h = h
   orders_wider (Rewrite names proved limit) m requested h = h
   orders_wider (Trace names proved limit) m requested h = h
+  orders_wider (Fired names proved limit) m requested h = h
   orders_wider (TraceConvert target) m requested h = h
   orders_wider (CanonAt x limit) m requested h = h
   orders_wider (Why x name) m requested h = h
@@ -71,6 +74,7 @@ module _ (setting : SessionSetting) (bytes : ℕ) (longer : setting.session_opti
   bytes_wider (ReportOf kind subject) m response shows = refl
   bytes_wider (Rewrite names proved limit) m response shows = refl
   bytes_wider (Trace names proved limit) m response shows = refl
+  bytes_wider (Fired names proved limit) m response shows = refl
   bytes_wider (TraceConvert target) m response shows = refl
   bytes_wider (CanonAt x limit) m response shows = refl
   bytes_wider (Why x name) m response shows = refl
@@ -82,12 +86,13 @@ module _ (setting : SessionSetting) (bytes : ℕ) (longer : setting.session_opti
   fulfils_wider : (s : State) (session_command : SessionCommand) (response : Response) (shows : List ℕ) (t : State) → RunsSessionCommand setting s session_command response shows t → RunsSessionCommand wider s session_command response shows t
   fulfils_wider s session_command response shows t h = record { requested = h.requested; shows = h.shows; asks = orders_wider session_command s.held h.requested h.asks; follows = h.follows; text = h.text ∙ bytes_wider session_command s.held response h.shows }
 
-  list_command_trace_wider : (tells : Bool) (registry : RegistryModel) (x : ListCommand) (m : Module) → list_command_trace tells setting.session_options registry x m ≡ list_command_trace tells wider.session_options registry x m
-  list_command_trace_wider true registry x m = refl
-  list_command_trace_wider false registry x m = refl
+  list_command_trace_wider : (form : TraceForm) (registry : RegistryModel) (x : ListCommand) (m : Module) (response : Response) → list_command_trace form setting.session_options registry x m response ≡ list_command_trace form wider.session_options registry x m response
+  list_command_trace_wider Off registry x m response = refl
+  list_command_trace_wider EachRewrite registry x m response = refl
+  list_command_trace_wider Counts registry x m response = refl
 
   list_command_bytes_wider : (registry : RegistryModel) (x : ListCommand) (m : Module) (response : Response) → list_command_bytes setting.session_options registry x m response ≡ list_command_bytes wider.session_options registry x m response
-  list_command_bytes_wider registry x m response = ap (λ (trace : List ℕ). told_if (is_accepted response) (unproved_of registry x.names m.tree ++ trace)) (list_command_trace_wider x.tells registry x m)
+  list_command_bytes_wider registry x m response = ap (λ (trace : List ℕ). told_if (is_accepted response) (unproved_of registry x.names m.tree ++ trace)) (list_command_trace_wider x.trace registry x m response)
 
   rule_list_wider : (registry : RegistryModel) (own : Option ListCommand) (s : State) (session_command : SessionCommand) (response : Response) (shows : List ℕ) (t : State) → RunsListCommand setting registry own s session_command response shows t → RunsListCommand wider registry own s session_command response shows t
   rule_list_wider registry None s session_command response shows t h = fulfils_wider s session_command response shows t h

@@ -4,4 +4,4 @@ use Rattle.mlir_work_session.specs.RuleLists.{ListCommand}
 use Rattle.mlir_work_session.specs.declared.rule_lists.ListRewrite.{ListRewrite as Coded}
 
 abbrev pub list_command_view : Coded → ListCommand
-list_command_view x = record { names = names_of x.rules.now; proved = x.proved; limit = x.limit; tells = x.tells }
+list_command_view x = record { names = names_of x.rules.now; proved = x.proved; limit = x.limit; trace = x.trace }

@@ -14,7 +14,7 @@ use Rattle.mlir_work_transforms.specs.rewriter.Panels.{Shown}
 pub use Rattle.mlir_work_transforms.specs.rewriter.Machine.{State}
 pub use Rattle.mlir_work_transforms.specs.registry.Replies.{response_of}
 use Rattle.mlir_work_transforms.specs.registry.Replies.{is_accepted}
-use Rattle.mlir_work_script.specs.SessionCommands.{Attach, CanonAt, SessionCommand, PrintIds, Rewrite, Trace, TraceConvert, Why, ReportOf}
+use Rattle.mlir_work_script.specs.SessionCommands.{Attach, CanonAt, Fired, SessionCommand, PrintIds, Rewrite, Trace, TraceConvert, Why, ReportOf}
 use Rattle.mlir_work_script_base.specs.declared.subject.Subject.{Subject}
 use Rattle.mlir_work_transforms.specs.greedy.Changes.{canonicalizing}
 use Rattle.mlir_work_transforms.specs.ConvertText.{conversion_text}
@@ -23,6 +23,7 @@ use Rattle.mlir_work_transforms.specs.Applying.{application}
 use Rattle.mlir_work_transforms.specs.Rewriting.{rewriting_named}
 use Rattle.mlir_work_transforms.specs.Sweep.{sweeping}
 use Rattle.mlir_work_transforms.specs.TraceText.{trace_by, traced_rules, tracing}
+use Rattle.mlir_work_transforms.specs.FiredText.{fired_by}
 use Rattle.mlir_work_transforms.specs.At.{canonicalizing_at}
 use Rattle.mlir_work_transforms.specs.WhyText.{requested_rules, why_text}
 use Rattle.mlir_work_transforms.specs.Rule.{Rule}
@@ -90,6 +91,7 @@ OrdersIn setting (Attach kind) m requested = AttachesKind (setting.supply kind) 
 OrdersIn setting PrintIds m requested = requested ≡ Ask call.Print
 OrdersIn setting (Rewrite names proved limit) m requested = AppliesRule (rewriting_named names (limit_or setting.session_options.limit limit)) requested
 OrdersIn setting (Trace names proved limit) m requested = AppliesRule (tracing names (limit_or setting.session_options.limit limit)) requested
+OrdersIn setting (Fired names proved limit) m requested = AppliesRule (tracing names (limit_or setting.session_options.limit limit)) requested
 OrdersIn setting (TraceConvert target) m requested = requested ≡ Ask (call.Change (conversion target))
 OrdersIn setting (CanonAt x limit) m requested =
     requested ≡ Ask (call.Change (canonicalizing_at (limit_or setting.session_options.limit limit) x))
@@ -118,8 +120,8 @@ abbrev pub converted_bytes : Target → Module → Response → List ℕ
 converted_bytes target m (Replied reply) = conversion_text (command_aim target) m reply
 converted_bytes target m _ = []
 
--- the bytes below the reply to a session command: what the machine shows, the trace of an accepted rewrite, or the
--- reasons why rules don't match
+-- the bytes below the reply to a session command: what the machine shows, the trace of an accepted rewrite, the counts
+-- of a rewrite that stopped by its limit, or the reasons why rules don't match
 abbrev pub order_bytes : SessionSetting → SessionCommand → Module → Response → Shows → List ℕ
 order_bytes setting (Attach kind) m response shows = order_shows shows
 order_bytes setting PrintIds m response shows = order_shows shows
@@ -127,6 +129,8 @@ order_bytes setting (ReportOf kind subject) m response shows = order_shows (show
 order_bytes setting (Rewrite names proved limit) m response shows = order_shows shows
 order_bytes setting (Trace names proved limit) m response shows =
     told_if (is_accepted response) (trace_by (traced_rules names) (limit_or setting.session_options.limit limit) m)
+order_bytes setting (Fired names proved limit) m response shows =
+    fired_by (traced_rules names) (limit_or setting.session_options.limit limit) m response
 order_bytes setting (TraceConvert target) m response shows = converted_bytes target m response
 order_bytes setting (CanonAt x limit) m response shows = order_shows shows
 order_bytes setting (Why x name) m response shows = told_if (is_accepted response) (why_text (requested_rules name x m) x m)
@@ -158,6 +162,8 @@ abbrev pub OrdersHeadroom : Type 0 → SessionSetting → State → SessionComma
 OrdersHeadroom full setting s (Rewrite names proved limit) response =
     (f : Transformation) → rewriting_named names (limit_or setting.session_options.limit limit) ≡ Some f → IsContextFull full s f response
 OrdersHeadroom full setting s (Trace names proved limit) response =
+    (f : Transformation) → tracing names (limit_or setting.session_options.limit limit) ≡ Some f → IsContextFull full s f response
+OrdersHeadroom full setting s (Fired names proved limit) response =
     (f : Transformation) → tracing names (limit_or setting.session_options.limit limit) ≡ Some f → IsContextFull full s f response
 OrdersHeadroom full setting s (TraceConvert target) response = IsContextFull full s (conversion target) response
 OrdersHeadroom full setting s (CanonAt x limit) response =

@@ -6,21 +6,24 @@ use Rattle.ir_event.specs.types.declared.refusal.Refusal.TheVariants.{Memory, No
 use Rattle.ir_event.specs.Modules.{Module}
 use Rattle.mlir_work_transforms.specs.rewriter.Commands.{AppliesRule, Requested, Follows, Replied, Response, RuleName}
 use Rattle.mlir_work_transforms.specs.rewriter.Machine.{Nothing, Refused, State, Transformation}
-use Rattle.mlir_work_script.specs.SessionCommands.{SessionCommand, Rewrite, Trace}
+use Rattle.mlir_work_script.specs.SessionCommands.{Fired, SessionCommand, Rewrite, Trace}
 use Rattle.mlir_work_transforms.specs.registry.Replies.{is_accepted}
 use Rattle.mlir_work_transforms.specs.registry.Registry.{RegistryModel}
+use Rattle.mlir_work_transforms.specs.FiredText.{rule_list_fired}
 use Rattle.mlir_work_transforms.specs.RuleLists.{all_listed, rule_list_trace, mixing, names_own}
 use Rattle.mlir_work_transforms.specs.Unproved.{unproved_of}
 use Rattle.mlir_work_session.specs.declared.options.SessionOptions.{SessionOptions}
+use Rattle.mlir_work_session.specs.declared.trace_form.TraceForm.{TraceForm}
+use Rattle.mlir_work_session.specs.declared.trace_form.TraceForm.TheVariants.{Counts, EachRewrite, Off}
 use Rattle.mlir_work_session.specs.Machine.{IsContextFull, RunsSessionCommand, SessionSetting, limit_or, told_if}
 
 -- a rule list that names a registered pattern, whether the command is refused if no check proves one of the patterns,
--- its limit, and whether each rewrite is traced
+-- its limit, and the form of its trace
 pub record ListCommand : Type 0 where
   pub names : List RuleName
   pub proved : Bool
   pub limit : Option ℕ
-  pub tells : Bool
+  pub trace : TraceForm
 
 abbrev pub list_command_if : Bool → ListCommand → Option ListCommand
 list_command_if own x = if own then Some x else None
@@ -28,25 +31,28 @@ list_command_if own x = if own then Some x else None
 -- the rule list of a session command, if the list names a registered pattern
 abbrev pub list_command_of : SessionCommand → RegistryModel → Option ListCommand
 list_command_of (Rewrite names proved limit) registry =
-    list_command_if (names_own registry names) (record { names = names; proved = proved; limit = limit; tells = false })
+    list_command_if (names_own registry names) (record { names = names; proved = proved; limit = limit; trace = Off })
 list_command_of (Trace (Some names) proved limit) registry =
-    list_command_if (names_own registry names) (record { names = names; proved = proved; limit = limit; tells = true })
+    list_command_if (names_own registry names) (record { names = names; proved = proved; limit = limit; trace = EachRewrite })
+list_command_of (Fired (Some names) proved limit) registry =
+    list_command_if (names_own registry names) (record { names = names; proved = proved; limit = limit; trace = Counts })
 list_command_of _ registry = None
 
 -- the transformation of a rule list
 abbrev pub list_command_change : SessionOptions → RegistryModel → ListCommand → Option Transformation
 list_command_change session_options registry x = mixing registry x.names (limit_or session_options.limit x.limit)
 
--- the trace of the rewrites, if each is traced
-abbrev pub list_command_trace : Bool → SessionOptions → RegistryModel → ListCommand → Module → List ℕ
-list_command_trace false session_options registry x m = []
-list_command_trace true session_options registry x m = rule_list_trace (all_listed registry x.names) (limit_or session_options.limit x.limit) m
+-- the trace of the rewrites: none, a line for each, or the counts of a run that stopped by its limit
+abbrev pub list_command_trace : TraceForm → SessionOptions → RegistryModel → ListCommand → Module → Response → List ℕ
+list_command_trace Off session_options registry x m response = []
+list_command_trace EachRewrite session_options registry x m response = rule_list_trace (all_listed registry x.names) (limit_or session_options.limit x.limit) m
+list_command_trace Counts session_options registry x m response = rule_list_fired (all_listed registry x.names) (limit_or session_options.limit x.limit) m response
 
 -- the bytes below an accepted reply: a line for each pattern of the list that no check proves for the module before
 -- the rewrite, and then the trace
 abbrev pub list_command_bytes : SessionOptions → RegistryModel → ListCommand → Module → Response → List ℕ
 list_command_bytes session_options registry x m response =
-    told_if (is_accepted response) (unproved_of registry x.names m.tree ++ list_command_trace x.tells session_options registry x m)
+    told_if (is_accepted response) (unproved_of registry x.names m.tree ++ list_command_trace x.trace session_options registry x m response)
 
 -- from state `s` a rule list may get this response, with these bytes below the reply, and lead to state `t`
 pub record Mixes (session_options : SessionOptions) (registry : RegistryModel) (x : ListCommand) (s : State) (response : Response) (bytes : List ℕ) (t : State) : Type 0 where

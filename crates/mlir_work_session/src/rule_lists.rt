@@ -1,5 +1,5 @@
-//! Runs session commands on a rewriter with a pattern registry. A `rewrite` or `trace` whose rule list names a
-//! registered pattern rewrites by rules and patterns.
+//! Runs session commands on a rewriter with a pattern registry. A `rewrite`, with `trace`, `fired` or neither, whose
+//! rule list names a registered pattern rewrites by rules and patterns.
 ghost use Rattle.std.specs.Prelude.{◌≡◌, ◌==◌, ◌&&◌, ◌++◌, length, map, not, option_map};
 ghost use Rattle.ir_text.specs.Public.{IsFull};
 ghost use Rattle.mlir_work_script.specs.SessionCommands.{order_of};
@@ -16,10 +16,12 @@ ghost use Rattle.mlir_work_session.specs.Machine.{IsContextFull, response_of, to
 ghost use Rattle.mlir_work_session.specs.RuleLists.{RunsListCommand, ListCommandHeadroom, MixesUnless, is_unproved, list_command_of};
 ghost use Rattle.mlir_work_session.specs.ListCommandViews.{list_command_view};
 
+use crate::fired::rewrite_counting;
 use crate::options::SessionOptions;
 use crate::reply::Reply;
 use crate::session_commands::run_session_command;
 use crate::shows::{ShownReply, reply_only};
+use crate::trace_form::TraceForm;
 use crate::tracing::trace_reply;
 use crate::transforming::limit_of;
 use ir_event::analysis::Analysis;
@@ -38,14 +40,14 @@ use mlir_work_transforms::trace_lines::TraceLines;
 use mlir_work_transforms::unproved::unproved_of;
 use std::alloc::Global;
 
-/// A rule list that names a registered pattern, with its limit and whether each rewrite is traced. If `proved`, the
-/// command is refused unless checks prove all patterns of the list for the module.
+/// A rule list that names a registered pattern, with its limit and the form of its trace. If `proved`, the command is
+/// refused unless checks prove all patterns of the list for the module.
 #[derive(Clone, Copy)]
 pub(crate) struct ListRewrite<'a> {
     pub(crate) rules: &'a [u8],
     pub(crate) proved: bool,
     pub(crate) limit: Option<u32>,
-    pub(crate) tells: bool,
+    pub(crate) trace: TraceForm,
 }
 
 /// Returns the rule list of a session command, if the list names a registered pattern.
@@ -64,7 +66,7 @@ fn list_rewrite<'a>(
             rules,
             proved: *proved,
             limit: *limit,
-            tells: false,
+            trace: TraceForm::Off,
         },
         SessionCommand::Trace {
             rules: Some(rules),
@@ -74,7 +76,17 @@ fn list_rewrite<'a>(
             rules,
             proved: *proved,
             limit: *limit,
-            tells: true,
+            trace: TraceForm::EachRewrite,
+        },
+        SessionCommand::Fired {
+            rules: Some(rules),
+            proved,
+            limit,
+        } => ListRewrite {
+            rules,
+            proved: *proved,
+            limit: *limit,
+            trace: TraceForm::Counts,
         },
         _ => return None,
     };
@@ -169,10 +181,10 @@ fn rewrite_list_command<L: Analysis>(
     let RuleList { candidates, names } = rule_list;
     let lines = TraceLines { text, names };
     let limit = limit_of(session_options, list_command.limit);
-    if list_command.tells {
-        rewrite_telling(alloc, bench, &candidates, lines, limit)
-    } else {
-        rewrite_plainly(alloc, bench, &candidates, lines, limit)
+    match list_command.trace {
+        TraceForm::Off => rewrite_plainly(alloc, bench, &candidates, lines, limit),
+        TraceForm::EachRewrite => rewrite_telling(alloc, bench, &candidates, lines, limit),
+        TraceForm::Counts => rewrite_counting(alloc, bench, &candidates, lines, limit),
     }
 }
 

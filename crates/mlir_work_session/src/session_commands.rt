@@ -12,7 +12,7 @@ use crate::options::SessionOptions;
 use crate::reply::Reply;
 use crate::shows::{ShownReply, reply_only};
 use crate::subjects::show_about;
-use crate::{tracing, transforming, why};
+use crate::{fired, tracing, transforming, why};
 use ir_event::analysis::Analysis;
 use ir_event::types::refusal::Refusal;
 use ir_event::world::World;
@@ -99,6 +99,13 @@ pub fn run_session_command<L: AnalysisSource>(
             )
         }
         SessionCommand::Trace { rules, limit, .. } => tracing::trace(
+            alloc,
+            session_options,
+            bench,
+            *rules,
+            *limit,
+        ),
+        SessionCommand::Fired { rules, limit, .. } => fired::fired(
             alloc,
             session_options,
             bench,

@@ -9,6 +9,8 @@ pub mod Named
 pub mod Ruled
 pub mod Chosen
 pub mod Made
+pub mod Firings
+pub mod Limited
 pub use Rattle.conversion.proofs.of_rewriter
 pub use Rattle.greedy.proofs.Changing
 pub use Rattle.mlir_work_registry.proofs as of_registry

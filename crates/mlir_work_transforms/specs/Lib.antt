@@ -5,6 +5,8 @@ pub mod Rewriting
 pub mod TraceText
 pub mod ConvertText
 pub mod TraceLaws
+pub mod FiredText
+pub mod FiredLaws
 pub mod Sweep
 pub mod WhyText
 pub mod WhyPattern

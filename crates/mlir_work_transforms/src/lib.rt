@@ -4,7 +4,7 @@
 //! - `convert` converts to the target of the clauses, and can trace each applied rule.
 //! - `apply` and `apply_pattern` apply one rule or user pattern at an operation; `at` canonicalizes one operation.
 //! - `rewrite` and `rule_list` parse lists of rules and user patterns; `trace` rewrites by them and traces each
-//!   rewrite.
+//!   rewrite, and `fired` counts which rules and patterns fired.
 //! - `why` says why rules don't match at an operation; `unproved` lists the patterns that no check proves for a
 //!   module.
 #![tactic(auto)]
@@ -14,6 +14,8 @@ pub mod apply_pattern;
 pub mod at;
 pub mod convert;
 mod convert_lines;
+pub mod fired;
+pub mod fired_lines;
 pub mod laws;
 pub mod named_patterns;
 mod names;

@@ -44,7 +44,7 @@ pub(crate) fn write_rule(text: &mut Vec<u8>, rule: Rule) -> Result<(), AllocErro
 }
 
 /// Appends the applied rule, or the name of the applied user pattern.
-fn write_pattern(
+pub(crate) fn write_pattern(
     text: &mut Vec<u8>,
     names: &[Vec<u8>],
     by: AppliedPattern,

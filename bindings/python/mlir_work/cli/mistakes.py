@@ -9,8 +9,8 @@ from .forms import PARTS, Fault, first_word, forms, kinds, misfit, shown, text_b
 
 # Words that users may type, and the commands with another name that they mean.
 MEANT = {"abort": "rollback", "add": "insert", "canonicalize": "canon", "define": "pattern", "delete": "erase",
-         "legalize": "convert", "mark": "begin", "remove": "erase", "show": "print", "symbol-dce": "sweep",
-         "trace": "canon", "undo": "rollback"}
+         "fired": "canon", "legalize": "convert", "mark": "begin", "remove": "erase", "show": "print",
+         "symbol-dce": "sweep", "trace": "canon", "undo": "rollback"}
 # The same for words of the prompt.
 MEANT_THERE = {"?": "help", "exit": "quit", "info": "help", "list": "ids", "load": "source", "ls": "ids", "man": "help",
                "output": "write", "q": "quit", "read": "source", "search": "find", "u": "undo", "verify": "diagnostics"}

@@ -18,11 +18,11 @@ from .ways import REFUSED
 # Commands that change neither the module nor a report, but must be run again.
 KEEPS = {"begin", "commit", "pattern", "pattern!", "check"}
 REWRITES = {"converged", "limit", "converted"}
-# A command that rewrites, without its limit and `trace`. One that names an operation can't be traced.
+# A command that rewrites, without its limit, `trace` and `fired`. One that names an operation can't be traced.
 REWRITING = re.compile(r"rewrite[ \t]+[^ \t]+|canon(?:[ \t]+only[ \t]+[^ \t]+|[ \t]+(at)[ \t]+#\d+)?")
 # The word that asks for proved patterns. The parts of an accepted rewrite leave it out.
 PROVED = re.compile(r"((?:rewrite|canon[ \t]+only)[ \t]+[^ \t]+)[ \t]+proved(?![^ \t])")
-TRACE = re.compile(r"[ \t]+trace(?![^ \t])")
+TRACE = re.compile(r"[ \t]+(?:trace|fired)(?![^ \t])")
 APPLY = re.compile(r"apply[ \t]+(\S+)[ \t]+#(\d+)")
 # A traced conversion. After all its rules, RECONCILE reconciles the casts.
 TOLD_CONVERSION = re.compile(r"convert[ \t]+trace[ \t]")

@@ -18,6 +18,12 @@ returns-in-Trace-clause-fulfils g c = fulfils_alike (session_setting g.L.Analysi
 pub returns-in-Trace-clause-headroom : goal.returns-in-Trace-clause-headroom
 returns-in-Trace-clause-headroom g c = orders_headroom_plainly _ (session_setting g.L.AnalysisSource.supply c.args.session_options.now) _ _ _ _ _ (ap order_of c.in-Trace.is) refl c.trace.ensures.headroom
 
+pub returns-in-Fired-clause-fulfils : goal.returns-in-Fired-clause-fulfils
+returns-in-Fired-clause-fulfils g c = fulfils_alike (session_setting g.L.AnalysisSource.supply c.args.session_options.now) _ _ _ _ _ _ (ap order_of c.in-Fired.is) (c.fired.ensures.fulfils g.L.AnalysisSource.supply _)
+
+pub returns-in-Fired-clause-headroom : goal.returns-in-Fired-clause-headroom
+returns-in-Fired-clause-headroom g c = orders_headroom_plainly _ (session_setting g.L.AnalysisSource.supply c.args.session_options.now) _ _ _ _ _ (ap order_of c.in-Fired.is) refl c.fired.ensures.headroom
+
 pub returns-in-TraceConvert-clause-fulfils : goal.returns-in-TraceConvert-clause-fulfils
 returns-in-TraceConvert-clause-fulfils g c = fulfils_alike (session_setting g.L.AnalysisSource.supply c.args.session_options.now) _ _ _ _ _ _ (ap order_of c.in-TraceConvert.is) (c.convert.ensures.fulfils (session_setting g.L.AnalysisSource.supply c.args.session_options.now))
 
