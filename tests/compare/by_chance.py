@@ -231,7 +231,7 @@ def reasons(maker, known, is_opaque):
         if pick < 0.2 or not run.book and pick < 0.8:
             runs.obey(pattern_lines.defined(maker, run.module))
         elif pick < 0.9:
-            runs.obey(pattern_lines.asked(maker, run))
+            runs.obey(pattern_lines.why_line(maker, run))
         else:
             runs.obey(pattern_lines.applied(maker, run) if pick < 0.95 else scripter.edit())
     return runs.case("reasons", text, script.LIMIT)

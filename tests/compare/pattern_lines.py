@@ -168,7 +168,7 @@ def applied(maker, run):
     return f"apply {name} #{op}"
 
 
-def asked(maker, run):
+def why_line(maker, run):
     """A line that asks why a pattern, or now and then a rule, doesn't apply, mostly at an operation that the pattern may
     match by its name."""
     name = maker.choice([*run.book] or ["nope"])

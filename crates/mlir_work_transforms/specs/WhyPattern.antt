@@ -323,9 +323,9 @@ module _ (p : PatternModel) (m : Module) (x : ℕ) where
 -- ---- the answer
 
 -- `why #5 mine`
-abbrev pub asked_text : ℕ → List ℕ → List ℕ
-asked_text x name = codes "why " ++ (op_text x ++ (codes " " ++ name))
+abbrev pub subject_text : ℕ → List ℕ → List ℕ
+subject_text x name = codes "why " ++ (op_text x ++ (codes " " ++ name))
 
 -- `why #5 mine operand 1 expected arith.constant found arith.addi #3`
 unfoldable pub why_pattern : Kept → Module → ℕ → List ℕ
-why_pattern k m x = asked_text x k.name ++ (codes " " ++ (mismatch_text k.shape m x (own_mismatch k.shape m x) ++ codes "\n"))
+why_pattern k m x = subject_text x k.name ++ (codes " " ++ (mismatch_text k.shape m x (own_mismatch k.shape m x) ++ codes "\n"))

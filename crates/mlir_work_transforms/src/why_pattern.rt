@@ -8,7 +8,7 @@ ghost use Rattle.user_patterns_data.specs.Shapes.{pattern_model};
 ghost use Rattle.greedy.specs.own.Numbers.{numbers_in};
 ghost use Rattle.mlir_work_registry.specs.Registry.{kept_view};
 ghost use Rattle.mlir_work_script_base.specs.Values.{value_text};
-ghost use Rattle.mlir_work_transforms.specs.WhyPattern.{asked_text, computed_at, condition_text, counts_text, definition_text, expected_predicate, expected_text, matched_value, mismatch_text, numbers_text, numbers_view, op_name, op_operands_text, operand_pair_text, operands_at, operands_text, path, pattern_op_at, predicates_text, types_text, unexpected_text, value_or_nothing, why_pattern};
+ghost use Rattle.mlir_work_transforms.specs.WhyPattern.{subject_text, computed_at, condition_text, counts_text, definition_text, expected_predicate, expected_text, matched_value, mismatch_text, numbers_text, numbers_view, op_name, op_operands_text, operand_pair_text, operands_at, operands_text, path, pattern_op_at, predicates_text, types_text, unexpected_text, value_or_nothing, why_pattern};
 
 use crate::pattern_sites::{
     Match, computed_at, matched_value, op_at, operand_count, operand_of, operand_place,
@@ -339,8 +339,8 @@ fn write_mismatch(
 }
 
 /// Appends the beginning of the line: the operation and the pattern.
-fn write_asked(text: &mut Vec<u8>, op: OpId, name: &[u8]) -> Result<(), AllocError>
-    ensures { OnOk result (text.new.items ≡ text.old.items ++ asked_text op name.now) }
+fn write_subject(text: &mut Vec<u8>, op: OpId, name: &[u8]) -> Result<(), AllocError>
+    ensures { OnOk result (text.new.items ≡ text.old.items ++ subject_text op name.now) }
 {
     text.extend_from_slice(b"why ")?;
     write_op(text, op)?;
@@ -367,7 +367,7 @@ pub fn pattern_failure(
         op,
     };
     let mut text = Vec::new(alloc);
-    write_asked(&mut text, op, &held.name)?;
+    write_subject(&mut text, op, &held.name)?;
     text.extend_from_slice(b" ")?;
     write_mismatch(&mut text, alloc, &at, mismatch)?;
     text.extend_from_slice(b"\n")?;
