@@ -1,5 +1,6 @@
 -- Tests of a context that equals the context of a rewriter.
-use Rattle.std.proofs.Common.{◌≡◌, ◌∙◌, subst, sym, Bool, true, false, false≢true}
+use Rattle.std.proofs.Common.{◌≡◌, ◌∙◌, subst, sym, Bool, true, false}
+use Rattle.std.proofs.lemmas.Bool.{false≢true}
 use Rattle.std.specs.Prelude.{◌↔◌, IsTrue}
 use Rattle.ir_event.specs.types.Things.{ContextModel}
 
