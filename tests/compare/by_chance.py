@@ -8,11 +8,11 @@ usage: tests/compare/by_chance.py PROGRAM [CASES [SEED]] [--first N] [--processe
 
 CASES is 20000, SEED 1 and the processes are one if they aren't given. The kinds are text, file, script, long,
 conversions and reasons. The last two are there with `--only` alone: scripts of conversions that fit their module, and
-scripts that ask why patterns and rules don't apply. Without files the cases of files are texts too. A program that hasn't a command is compared without it. N of a hundred cases have opaque
-terms, and go with `--opaque`: 25 by default; their files are those of tests/golden/opaque. Each case is a process.
-With `--json` it is asked for JSON, and each line of that has to be JSON to Python too. The seed is
-printed, what a case costs, how conversions were replied to, and each difference, whole; the status is 1 if there is
-one."""
+scripts that ask why patterns and rules don't apply. Without files the cases of files are texts too. A program that
+hasn't a command is compared without it. N of a hundred cases have opaque terms, and go with `--opaque`: 25 by
+default; their files are those of tests/golden/opaque. Each case is a process. With `--json` it is asked for JSON, and
+each line of that has to be JSON to Python too. The seed is printed, what a case costs, how conversions were replied
+to, and each difference, whole; the status is 1 if there is one."""
 import argparse
 import collections
 import concurrent.futures

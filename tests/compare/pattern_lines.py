@@ -169,8 +169,8 @@ def applied(maker, run):
 
 
 def why_line(maker, run):
-    """A line that asks why a pattern, or now and then a rule, doesn't apply, mostly at an operation that the pattern may
-    match by its name."""
+    """A line that asks why a pattern, or at times a rule, doesn't apply. The operation mostly has the name that the
+    pattern expects."""
     name = maker.choice([*run.book] or ["nope"])
     if maker.random() < 0.15:
         name = maker.choice(["p0", "nope", str(maker.randrange(1, 31)), maker.choice(rewrites.WORDS)])
