@@ -7,7 +7,8 @@
   - the picture of docs/ARCHITECTURE.md has each crate of crates/, and crates.txt no other, each above those it names;
   - tests/mutants/README.md lists each edit that the prover must refuse, and docs/PROMISES.md says how many there
     are, and names in its last column no other;
-  - the text that an edit or a control replaces is exactly once in its file.
+  - the text that an edit or a control replaces is exactly once in its file;
+  - a link to a heading (`PAGE.md#heading`) names one that is there.
 
 It lists the lines with "yet", "at present" and "so far", which may be out of date after a change.
 
@@ -26,6 +27,9 @@ LINES = ("benchmarks", "bindings", "examples", "gate", "oracle", "tests", "tools
 PLACEHOLDER = re.compile(r"\b(NAME|CRATE|MODULE|FUNCTION|FILE|FOLDER|OLD|NEW|WORD)\b")
 NO_EDITS = {"with_capacity"}  # a function that the table of planted bodies names
 PART_OF_EDIT = re.compile(r"^(file|old|new): ?", re.MULTILINE)
+LINK = re.compile(r"\]\(([\w./-]*\.md)?#([^)\s]+)\)")
+HEADING = re.compile(r"^#+ (.*)", re.MULTILINE)
+FENCED = re.compile(r"^```.*?^```", re.MULTILINE | re.DOTALL)
 ROW_OF_EDIT = re.compile(r"^\| `(\w+)` \| `(\w+)` \|", re.MULTILINE)
 root = pathlib.Path()
 WRONG_BODIES = root / "tests/mutants"
@@ -138,10 +142,26 @@ def edits_astray():
                 yield f"{edit}: what it is to replace doesn't stand in {file} once"
 
 
+def headings(page):
+    """The headings of a page, as links name them."""
+    titles = HEADING.findall(FENCED.sub("", page.read_text()))
+    plain = (re.sub(r"\[([^]]*)\]\([^)]*\)", r"\1", title).strip().lower() for title in titles)
+    return {re.sub(r"[^\w -]", "", title).replace(" ", "-") for title in plain}
+
+
+def links_astray():
+    """Links to headings that aren't there."""
+    for page in pages():
+        for path, heading in LINK.findall(page.read_text()):
+            target = page.parent / path if path else page
+            if not target.is_file() or heading not in headings(target):
+                yield f"{page}: {path}#{heading} isn't there"
+
+
 def main():
     found = [it for page in pages() for it in wrong_in(page)]
     wrong = [text for is_wrong, text in found if is_wrong]
-    wrong += [*long_lines(), *crates_apart(), *edits_apart(), *edits_astray()]
+    wrong += [*long_lines(), *crates_apart(), *edits_apart(), *edits_astray(), *links_astray()]
     for text in wrong:
         print(text)
     for text in (text for is_wrong, text in found if not is_wrong):

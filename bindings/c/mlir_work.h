@@ -447,13 +447,14 @@ typedef struct mlir_work_new {
 typedef struct mlir_work_new_entry {
   uint32_t key;         /* the number of a name */
   uint32_t attribute;   /* the number of an attribute */
-  uint32_t is_property; /* 0: a discardable attribute */
+  uint32_t is_property; /* 0: a discardable attribute, or a property if its key is inherent to the operation */
 } mlir_work_new_entry;
 
-/* Inserts an operation without regions: its operands, the numbers of the types of its results, and its entries. The
-   properties, and also the discardable attributes, are in the order of the texts of their keys, as the reads return
-   them; otherwise the operation is refused (60 BadCommand). The answer is that of `insert`: MLIR_WORK_MADE with the
-   number of the new operation, or MLIR_WORK_REFUSED. */
+/* Inserts an operation without regions: its operands, the numbers of the types of its results, and its entries, in any
+   order. The operation is that of `insert` with the text: an inherent key is put among the properties, and each
+   dictionary is sorted by the texts of its keys. A key that is given twice is refused (12 DuplicateKey), and a 257th
+   entry of a dictionary (11 TooMany). The answer is that of `insert`: MLIR_WORK_MADE with the number of the new
+   operation, or MLIR_WORK_REFUSED. */
 void mlir_work_insert(mlir_work_session *session, const mlir_work_new *operation, const mlir_work_value *operands,
                       size_t operand_count, const uint32_t *results, size_t result_count,
                       const mlir_work_new_entry *entries, size_t entry_count, mlir_work_answer *answer);

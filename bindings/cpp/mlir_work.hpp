@@ -671,16 +671,19 @@ public:
     accepted(answer);
   }
 
-  // Inserts an operation without regions and returns it. The entries may be in any order.
+  // Inserts an operation without regions and returns it. The entries may be in any order. An inherent attribute is put
+  // among the properties. A key that is given twice is refused.
   Operation insert(const Spot &spot, const Name &name, const std::vector<mlir_work_value> &operands,
                    const std::vector<Type> &results, const std::vector<Entry> &properties = {},
                    const std::vector<Entry> &attributes = {}) {
     std::vector<std::uint32_t> types;
     for (const Type &type : results)
       types.push_back(type.number());
-    std::vector<mlir_work_new_entry> entries = sorted(properties, true);
-    const std::vector<mlir_work_new_entry> others = sorted(attributes, false);
-    entries.insert(entries.end(), others.begin(), others.end());
+    std::vector<mlir_work_new_entry> entries;
+    for (const Entry &entry : properties)
+      entries.push_back({entry.key.number(), entry.attribute.number(), true});
+    for (const Entry &entry : attributes)
+      entries.push_back({entry.key.number(), entry.attribute.number(), false});
     const mlir_work_new made{spot, name.number()};
     const mlir_work_value no_value{};
     const std::uint32_t no_type = 0;
@@ -756,18 +759,6 @@ private:
     mlir_work_answer answer;
     call(&held_, bytes(text), text.size(), &answer);
     return static_cast<std::uint32_t>(accepted(answer).number);
-  }
-  // Returns entries in the order of the texts of their keys.
-  static std::vector<mlir_work_new_entry> sorted(const std::vector<Entry> &entries, bool are_properties) {
-    std::vector<std::pair<std::string, mlir_work_new_entry>> keyed;
-    for (const Entry &entry : entries)
-      keyed.push_back({entry.key.text(), {entry.key.number(), entry.attribute.number(), are_properties}});
-    std::stable_sort(keyed.begin(), keyed.end(),
-                     [](const auto &one, const auto &other) { return one.first < other.first; });
-    std::vector<mlir_work_new_entry> found;
-    for (const auto &[text, entry] : keyed)
-      found.push_back(entry);
-    return found;
   }
   std::optional<Operation> found(std::uint64_t number) {
     return number == MLIR_WORK_NONE ? std::nullopt : std::optional(operation(static_cast<std::uint32_t>(number)));

@@ -229,6 +229,21 @@ def pages(cases):
             cases.run(over(part[0], told, "print ids"))
 
 
+def other_refusals(cases):
+    """A cast that no rule made, impossible targets, and lines of another form."""
+    cases.title("trace-cast-and-targets",
+                "A cast of i32 to index is refused by 53, impossible targets by 54, and lines of another form by 60.")
+    module = '''%0 = "test.d"() : () -> i32
+%1 = "builtin.unrealized_conversion_cast"(%0) : (i32) -> index
+"test.use"(%1) : (index) -> ()
+'''
+    for line in ("partial", "partial legal a.b illegal a.b", "partial illegal builtin.unrealized_conversion_cast",
+                 "partial rules 1", "partial depth 17", "illegal arith.subi rules 26",
+                 "partial illegal arith.subi, arith.addi", "partial illegal arith.subi illegal arith.addi",
+                 "partial trace"):
+        cases.run(over(module, f"convert trace {line}", "print ids"))
+
+
 def opaque(cases):
     """Modules with unknown types and attributes."""
     cases.title("trace-opaque",
@@ -309,7 +324,8 @@ def as_json(cases):
                        f"expect 22 {line} rules 26", f"expect 22 {line} rules 26,27"), brief, form="json")
 
 
-FILES = {"conversion/traced": (by_hand, marks, refused, nested, pages, opaque, lived),
+FILES = {"conversion/traced": (by_hand, marks, refused, nested, pages, other_refusals, opaque,
+                               lived),
          "conversion/traced_by_chance": (by_chance,), "json/converting": (as_json,)}
 
 

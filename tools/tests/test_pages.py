@@ -97,7 +97,7 @@ def conversions():
 class Convert(unittest.TestCase):
     def test_examples(self):
         found = list(conversions())
-        self.assertEqual(len(found), 15)
+        self.assertEqual(len(found), 14)
         self.assertEqual(sum(after is not None for _, _, after in found), 9)
         for module, runs, after in found:
             with self.subTest(runs[0][0]):

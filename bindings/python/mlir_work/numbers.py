@@ -99,13 +99,12 @@ class Numbers:
                results: Sequence[str] = (), properties: Mapping[str, str] = {},
                attributes: Mapping[str, str] = {}) -> int:
         """Inserts an operation without regions, and returns its number. Types and attributes are texts, which are
-        interned once."""
+        interned once. An inherent attribute is put among the properties. A key that is given twice is refused."""
         new = _New(_spot(place), self.name(name))
         values = (CValue * max(len(operands), 1))(*(numbers_of(_value(it)) for it in operands))
         types = (ctypes.c_uint32 * max(len(results), 1))(*map(self.type, results))
         entries = [_NewEntry(self.name(key), self.attribute(them[key]), is_property)
-                   for is_property, them in ((1, properties), (0, attributes))
-                   for key in sorted(them, key=lambda it: it.encode("utf-8", "surrogateescape"))]
+                   for is_property, them in ((1, properties), (0, attributes)) for key in them]
         items = (_NewEntry * max(len(entries), 1))(*entries)
         return self._call("insert", new, values, len(operands), types, len(results), items, len(entries))
 

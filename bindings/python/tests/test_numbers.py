@@ -36,6 +36,33 @@ class Numbers(Case):
         self.assertEqual([it.type for it in s.operation(3).results], ["i1", "i32"])
         self.assertEqual([it.number for it in s.operations()], [0, 1, 3, 2])
 
+    def test_entries(self):
+        """An operation that is inserted by numbers has the dictionaries, or the refusal, of the same text."""
+        for name, properties, attributes in (
+                ("test.new", {"b": "unit", "a": "1 : i8"}, {"d": "unit", "c": "2 : i8"}),
+                ("test.new", {}, {"value": "5 : i32"}), ("arith.constant", {}, {"value": "5 : i32", "tag": "unit"}),
+                ("arith.addi", {"a": "unit"}, {"overflowFlags": "#arith.overflow<none>"}),
+                ("test.new", {"a": "unit"}, {"b": "unit", "a": "unit"}),
+                ("arith.constant", {"value": "5 : i32"}, {"value": "6 : i32"}),
+                ("test.new", {}, {f"k{it}": "unit" for it in range(257)})):
+            with self.subTest(name=name, properties=properties, attributes=attributes):
+                by_text, by_numbers = self.session(), self.session()
+                given, others = (", ".join(f"{key} = {it}" for key, it in them.items()) for them in
+                                 (properties, attributes))
+                text = f'"{name}"() <{{{given}}}> {{{others}}} : () -> ()'
+                self.assertEqual(
+                    self.refusal(lambda: by_text.insert(after(1), text)),
+                    self.refusal(lambda: by_numbers.numbers.insert(after(1), name, (), (), properties, attributes)))
+                self.assertEqual(by_text.print(), by_numbers.print())
+
+    def refusal(self, edit):
+        """The number of the refusal of an edit, or 0."""
+        try:
+            edit()
+        except mlir_work.Refused as refused:
+            return refused.number
+        return 0
+
     def test_numbers_are_kept(self):
         """A text is interned once, and equal texts have equal numbers."""
         s = self.session()

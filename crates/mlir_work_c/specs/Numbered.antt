@@ -1,5 +1,5 @@
 -- The effects of edits by interned numbers, and of interning.
-use Rattle.std.specs.Prelude.{◌≡◌, ℕ, ◌⊎◌, List, Option, Some, None}
+use Rattle.std.specs.Prelude.{◌≡◌, ℕ, ◌⊎◌, List, Option, Some, None, Result}
 use Rattle.ir_event.specs.types.Interning.{with_name}
 use Rattle.ir_event.specs.types.Terms.{TypeOf, attr_term, type_term}
 use Rattle.ir_event.specs.types.Things.{ContextModel, IsAttr, IsType}
@@ -13,8 +13,11 @@ use Rattle.rewriter.specs.Machine.{Reply}
 use Rattle.rewriter.specs.Points.{Point}
 use Rattle.rewriter.specs.Public.{IsNoAttr, IsTextRefusal, SpellsAttr}
 use Rattle.mlir_work_analyses.specs.Listeners.{any_analysis}
-use Rattle.mlir_work_c_edit.specs.Edits.{DropsNumbered, InsertsNumbered, SetsNumbered}
-use Rattle.mlir_work_c_edit.specs.Interned.{Grown}
+use Rattle.mlir_work_c_read.specs.declared.header.NewEntry.{NewEntry}
+use Rattle.mlir_work_c_read.specs.declared.numbers.ValueNumbers.{ValueNumbers}
+use Rattle.mlir_work_c_read.specs.Edits.{DropsNumbered, InsertsNumbered, SetsNumbered}
+use Rattle.mlir_work_c_read.specs.Headers.{header}
+use Rattle.mlir_work_c_read.specs.Interned.{Grown}
 use Rattle.mlir_work_c.specs.Answers.{counted, refused, replied_of, unread}
 use Rattle.mlir_work_c.specs.Calls.{Goes}
 use Rattle.mlir_work_c.specs.Queries.{context_of}
@@ -30,20 +33,22 @@ pub record KeepsRest (s t : Session) : Type 0 where
   pub shows : t.shows ≡ s.shows
   pub mode : is_opaque t ≡ is_opaque s
 
--- an operation is inserted, or memory for its numbers ran out and nothing changes
-abbrev pub Inserts : Point → Op → Session → Answer → Session → Type 0
+-- an operation is inserted or refused, or memory for its numbers ran out and nothing changes
+abbrev pub Inserts : Point → Result Op Refusal → Session → Answer → Session → Type 0
 Inserts point header s a t =
     ((a ≡ refused Memory) × (t ≡ s))
     ⊎ ((reply : Reply) × InsertsNumbered any_analysis point header reply s.bench t.bench
     × (a ≡ replied_of (Replied reply) 0) × KeepsRest s t)
 
 -- an unknown insertion point changes nothing
-abbrev pub InsertsOr : Option Point → Op → Session → Answer → Session → Type 0
+abbrev pub InsertsOr : Option Point → Result Op Refusal → Session → Answer → Session → Type 0
 InsertsOr None header s a t = (a ≡ refused BadCommand) × (t ≡ s)
 InsertsOr (Some point) header s a t = Inserts point header s a t
 
-abbrev pub InsertGoes : Option Point → Op → Option Session → Answer → Option Session → Type 0
-InsertGoes point header old a new = Goes (λ s b t. InsertsOr point header s b t) old a new
+-- the entries of the operation are put into its dictionaries by the words of the session's context
+abbrev pub InsertGoes : Option Point → ℕ → List ValueNumbers → List ℕ → List NewEntry → Option Session → Answer → Option Session → Type 0
+InsertGoes point name operands results entries old a new =
+    Goes (λ s b t. InsertsOr point (header (context_of s) name operands results entries) s b t) old a new
 
 -- an entry is set
 abbrev pub Sets : ℕ → ℕ → ℕ → Session → Answer → Session → Type 0

@@ -114,9 +114,7 @@ pub fn unread(error: ReadError) -> Answer
 {
     match error {
         ReadError::Memory => refused(Refusal::Memory),
-        ReadError::Full { offset } => {
-            of_numbers(9, Refusal::TooMany.number(), offset as u64, 0)
-        }
+        ReadError::Full { offset } => { of_numbers(9, Refusal::TooMany.number(), offset as u64, 0) }
         ReadError::Refused { refusal, offset } => {
             of_numbers(9, refusal.number(), offset as u64, 0)
         }

@@ -2,11 +2,11 @@
 ghost use Rattle.std.specs.Prelude.{◌≡◌};
 ghost use Rattle.rewriter.specs.RewriterCalls.{AgreesOrStale};
 ghost use Rattle.mlir_work_analyses.specs.Listeners.{any_analysis};
-ghost use Rattle.mlir_work_c_edit.specs.Headers.{header};
-ghost use Rattle.mlir_work_script_base.specs.InsertionPoints.{insertion_point_of};
+ghost use Rattle.mlir_work_c_read.specs.Headers.{header};
 ghost use Rattle.mlir_work_c.specs.Calls.{IsHeld};
 ghost use Rattle.mlir_work_c.specs.Numbers.{point_of_numbers};
-ghost use Rattle.mlir_work_c.specs.Numbered.{AttributeGoes, AttributeInterned, Drops, DropGoes, InsertGoes, Inserts, NameGoes, NameInterned, Sets, SetGoes, TypeGoes, TypeInterned};
+ghost use Rattle.mlir_work_c.specs.Queries.{context_of};
+ghost use Rattle.mlir_work_c.specs.Numbered.{AttributeGoes, AttributeInterned, Drops, DropGoes, InsertGoes, InsertsOr, NameGoes, NameInterned, Sets, SetGoes, TypeGoes, TypeInterned};
 
 use crate::answer::{Answer, closed, counted, edited, inserted, refused, unread};
 use crate::handle::Handle;
@@ -14,35 +14,38 @@ use crate::numbers::{NewOperation, point_of};
 use crate::session::Session;
 use ir_event::types::ids::{AttrId, NameId, OpId};
 use ir_event::types::refusal::Refusal;
-use mlir_work_c_edit::attributes::{drop_attribute, set_attribute};
-use mlir_work_c_edit::header::{NewEntry, header_of};
-use mlir_work_c_edit::insert::insert;
-use mlir_work_c_edit::intern::{intern_attribute, intern_name, intern_type};
+use mlir_work_c_read::attributes::{drop_attribute, set_attribute};
+use mlir_work_c_read::header::{NewEntry, header_of};
+use mlir_work_c_read::insert::insert;
+use mlir_work_c_read::intern::{intern_attribute, intern_name, intern_type};
 use mlir_work_c_read::numbers::ValueNumbers;
-use mlir_work_script_base::insertion_points::InsertionPoint;
 use std::alloc::Global;
 
-/// Inserts an operation at an insertion point.
-fn insert_at(
+/// Inserts an operation without regions.
+fn insert_in(
     alloc: Global,
     session: &mut Session,
-    point: InsertionPoint,
-    name: u32,
+    new: &NewOperation,
     operands: &[ValueNumbers],
     results: &[u32],
     entries: &[NewEntry],
 ) -> Answer
     requires { AgreesOrStale any_analysis session.old.bench }
-    ensures inserts { Inserts (insertion_point_of point) (header name operands.now results.now entries.now) session.old result session.new }
+    ensures inserts { InsertsOr (point_of_numbers new.now.point) (header (context_of session.old) new.now.name operands.now results.now entries.now) session.old result session.new }
     ensures kept { AgreesOrStale any_analysis session.new.bench }
 {
-    let Ok(header) = header_of(alloc, name, operands, results, entries) else {
-        return refused(Refusal::Memory);
+    let Some(point) = point_of(&new.point) else {
+        return refused(Refusal::BadCommand);
     };
-    inserted(insert(&mut session.bench, &point, &header))
+    let ctx = &session.bench.world().ctx;
+    match header_of(alloc, ctx, new.name, operands, results, entries) {
+        Err(refusal) => return refused(refusal),
+        Ok(header) => return inserted(insert(&mut session.bench, &point, &header)),
+    }
 }
 
-/// Inserts an operation without regions. An insertion point of unknown kind is refused as a bad command.
+/// Inserts an operation without regions, with its entries in the dictionaries and in the order that they have in the
+/// text of `insert`. An insertion point of unknown kind is refused as a bad command.
 #[unsafe(no_mangle)]
 pub extern "C" fn mlir_work_insert(
     alloc: Global,
@@ -54,19 +57,14 @@ pub extern "C" fn mlir_work_insert(
     answer: &mut Answer,
 )
     requires kept { IsHeld held.old.slot.value }
-    ensures goes { InsertGoes (point_of_numbers new.now.point) (header new.now.name operands.now results.now entries.now) held.old.slot.value answer.new held.new.slot.value }
+    ensures goes { InsertGoes (point_of_numbers new.now.point) new.now.name operands.now results.now entries.now held.old.slot.value answer.new held.new.slot.value }
     ensures kept { IsHeld held.new.slot.value }
 {
     let Some(mut found) = held.take(alloc) else {
         *answer = closed();
         return;
     };
-    let Some(point) = point_of(&new.point) else {
-        held.open_with(found);
-        *answer = refused(Refusal::BadCommand);
-        return;
-    };
-    *answer = insert_at(alloc, &mut found, point, new.name, operands, results, entries);
+    *answer = insert_in(alloc, &mut found, new, operands, results, entries);
     held.open_with(found);
 }
 
@@ -97,7 +95,12 @@ pub extern "C" fn mlir_work_set_attribute(
         *answer = closed();
         return;
     };
-    *answer = set_in(&mut found, OpId::new(operation), NameId::new(key), AttrId::new(attribute));
+    *answer = set_in(
+        &mut found,
+        OpId::new(operation),
+        NameId::new(key),
+        AttrId::new(attribute),
+    );
     held.open_with(found);
 }
 
@@ -145,12 +148,7 @@ fn name_in(session: &mut Session, text: &[u8]) -> Answer
 
 /// Gets the number of a name. A new name is interned.
 #[unsafe(no_mangle)]
-pub extern "C" fn mlir_work_name(
-    alloc: Global,
-    held: &mut Handle,
-    text: &[u8],
-    answer: &mut Answer,
-)
+pub extern "C" fn mlir_work_name(alloc: Global, held: &mut Handle, text: &[u8], answer: &mut Answer)
     requires kept { IsHeld held.old.slot.value }
     ensures goes { NameGoes text.now held.old.slot.value answer.new held.new.slot.value }
     ensures kept { IsHeld held.new.slot.value }
@@ -177,12 +175,7 @@ fn type_in(session: &mut Session, text: &[u8]) -> Answer
 
 /// Gets the number of a type. A new type is interned.
 #[unsafe(no_mangle)]
-pub extern "C" fn mlir_work_type(
-    alloc: Global,
-    held: &mut Handle,
-    text: &[u8],
-    answer: &mut Answer,
-)
+pub extern "C" fn mlir_work_type(alloc: Global, held: &mut Handle, text: &[u8], answer: &mut Answer)
     requires kept { IsHeld held.old.slot.value }
     ensures goes { TypeGoes text.now held.old.slot.value answer.new held.new.slot.value }
     ensures kept { IsHeld held.new.slot.value }

@@ -1,5 +1,10 @@
 mod Found
+mod Giving
+mod Growing
 mod Joining
 mod Lengths
 mod Nodes
+mod Placed
+mod Refusing
+mod Testing
 mod Using

@@ -1,6 +1,9 @@
 pub mod Bulk
+pub mod Edits
 pub mod Entries
 pub mod Filled
+pub mod Headers
+pub mod Interned
 pub mod Numbers
 pub mod Operations
 pub mod Rows

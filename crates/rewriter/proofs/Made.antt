@@ -1,5 +1,5 @@
 -- Edits that were made or refused.
-use Rattle.std.proofs.Common.{◌≡◌, ℕ, List, sym, subst, ap, Option, Some, None, true, inl, inr}
+use Rattle.std.proofs.Common.{◌≡◌, ℕ, List, sym, subst, ap, Option, Some, None, true, false, inl, inr}
 use Rattle.std.specs.Prelude.{Result, Ok, Err, IfOk, IfErr, IsOk, OnOk, OnErr, MatchResult}
 use Rattle.ir_event.specs.types.declared.refusal.Refusal.{Refusal}
 use Rattle.ir_event.specs.types.Reasons.{IsRefusedFor}
@@ -132,6 +132,6 @@ answered_exactly takes reason (Ok e) is = is
 answered_exactly takes reason (Err r) is = inl is
 
 -- a call that is never refused
-pub never_refused : {W : Refusal → Type 0} (made : Result Event Refusal) → IsOk made → IfErr made W
-never_refused (Ok e) done = tt
-never_refused (Err r) done = absurd done
+pub never_refused : (W : Refusal → Type 0) (made : Result Event Refusal) → IsOk made → IfErr made W
+never_refused W (Ok e) done = tt
+never_refused W (Err r) done = absurd (let t : false ≡ true = done in cc)

@@ -1,5 +1,5 @@
 -- An IR state in which an operation is moved without checks.
-use Rattle.std.proofs.Common.{◌≡◌, sym, subst, ℕ, Option, Some, None}
+use Rattle.std.proofs.Common.{◌≡◌, sym, subst, ℕ, Option, Some, None, true, false}
 use Rattle.std.specs.Prelude.{Result, Ok, Err, IsOk, OnOk, OnErr, MatchResult}
 use Rattle.ir_event.specs.types.declared.refusal.Refusal.{Refusal}
 use Rattle.ir_event.specs.types.Things.{ContextModel}
@@ -31,4 +31,4 @@ module _ (c : ContextModel) (x : ℕ) (place : Place) (s : Stored) where
 
   pub never_refused : (r : Result Event Refusal) → IsOk r → reason ≡ None → MatchResult r (λ _. reason ≡ None) (λ e. reason ≡ Some e)
   never_refused (Ok e) done free = free
-  never_refused (Err e) done free = absurd done
+  never_refused (Err e) done free = absurd (let t : false ≡ true = done in cc)

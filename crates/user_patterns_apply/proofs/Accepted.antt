@@ -46,7 +46,7 @@ use Rattle.user_patterns_data.specs.declared.pattern.PatternOp.{PatternOp}
 use Rattle.user_patterns_data.specs.Fitting.{content_with, fits}
 use Rattle.user_patterns_data.specs.Matching.{Header, Standing, bound, nothing, ops_match, placed, standing, types_at, written}
 use Rattle.user_patterns_data.specs.Names.{name_of, operands_of, predicate_of}
-use Rattle.user_patterns_data.specs.Planning.{Plan, all_made, constants_known, entries_by, extra_known, extra_place, kind_standing, made_as, new_place, old_place, outcomes, places, planned, typed, values_at}
+use Rattle.user_patterns_data.specs.Planning.{Plan, all_made, constants_known, entries_by, extra_known, extra_place, is_numeric, kind_standing, made_as, new_place, old_place, outcomes, places, planned, typed, values_at}
 use Rattle.user_patterns_data.specs.Shapes.{PatternModel}
 use Rattle.user_patterns_apply.specs.Built.{plan_of}
 use Rattle.user_patterns_build.specs.CanBuild.{given_type, can_build, is_named, last_type, new_type, result_type, root_type, same_number, spares}
@@ -262,7 +262,8 @@ parts t verified n p x r e =
     let c = given_is (ops_match t verified (placed (old_place p) p.old) b.0) _ r b.2 in
     let ts = given_is (typed t verified n p c.0) _ r c.2 in
     let us = given_is (types_at t verified 0 p.values c.0 (map written p.value_types)) _ ts.0 ts.1 in
-    let w = when_is (fits (map kind_standing ts.0) p && constants_known t verified n p c.0) _ r ts.2 in
+    let a = when_is (list_all is_numeric ts.0) _ r ts.2 in
+    let w = when_is (fits (map kind_standing ts.0) p && constants_known t verified n p c.0) _ r a.1 in
     let env = given_is (run (Content.given (content_with (map kind_standing ts.0) p)) (outcomes t verified n p 0 p.values c.0)) _ r w.1 in
     let u = when_is (extra_known t verified n p (extra_place p) p.extra c.0 env.0) _ r env.2 in
     let made = given_is (all_made ts.0 env.0 n (new_place p) p.new c.0) _ r u.1 in

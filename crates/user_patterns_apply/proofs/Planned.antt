@@ -48,6 +48,16 @@ module _ (c : ContextModel) (ts : List (Option BoundType)) (t : Option BoundType
       ∙ append_assoc ks (kind_standing (option_map (type_in c) t) ∷ []) (map kind_standing (types_in c rest))
       ∙ ap (λ z. ks ++ map kind_standing (types_in c z)) (sym split) ∙ same
 
+  pub numeric_more : (b : Bool) → b ≡ is_numeric (option_map (type_in c) t) → b ≡ true → (total : Bool) → list_all is_numeric (types_in c ts) ≡ total → list_all is_numeric (types_in c rest) ≡ total
+  numeric_more b is whole total same =
+      ap (λ z. z && list_all is_numeric (types_in c rest)) (sym whole ∙ is)
+      ∙ ap (λ z. list_all is_numeric (types_in c z)) (sym split) ∙ same
+
+  pub one_not_numeric : (b : Bool) → b ≡ is_numeric (option_map (type_in c) t) → b ≡ false → (total : Bool) → list_all is_numeric (types_in c ts) ≡ total → false ≡ total
+  one_not_numeric b is failed total same =
+      ap (λ z. z && list_all is_numeric (types_in c rest)) (sym failed ∙ is)
+      ∙ ap (λ z. list_all is_numeric (types_in c z)) (sym split) ∙ same
+
 -- ---- concrete types
 
 pub written_are : (c : ContextModel) (ks : List PatternType) → AreTypesOf c (map written_of ks)

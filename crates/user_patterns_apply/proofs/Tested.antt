@@ -183,35 +183,35 @@ module _ (t : Operation) (verified : Header → Bool) (n : ℕ) (p : PatternMode
     numeric_stops f is failed =
         stops (unless (list_all is_numeric ts) fails.NotNumeric) after_numeric fails.NotNumeric (breaks (list_all is_numeric ts) fails.NotNumeric (sym is ∙ failed)) ∙ at
 
-    module _ (a : Bool) (numeric : a ≡ list_all is_numeric ts) (whole : a ≡ true) where
-     numbers_first : first_failing after_numeric ≡ fitting_tests t verified n p b ts
-     numbers_first = passes (unless (list_all is_numeric ts) fails.NotNumeric) after_numeric (holds (list_all is_numeric ts) fails.NotNumeric (sym numeric ∙ whole)) ∙ at
+    module _ (a : Bool) (numeric : a ≡ list_all is_numeric ts) (passed : a ≡ true) where
+      numbers_first : first_failing after_numeric ≡ fitting_tests t verified n p b ts
+      numbers_first = passes (unless (list_all is_numeric ts) fails.NotNumeric) after_numeric (holds (list_all is_numeric ts) fails.NotNumeric (sym numeric ∙ passed)) ∙ at
 
-     pub fits_stops : (f : Bool) → f ≡ fits ks p → f ≡ false → Some fails.Types ≡ fitting_tests t verified n p b ts
-     fits_stops f fit failed =
-        stops (unless (fits ks p) fails.Types) (known_tests t verified n p b ∷ after_known) fails.Types (breaks (fits ks p) fails.Types (sym fit ∙ failed)) ∙ numbers_first
+      pub fits_stops : (f : Bool) → f ≡ fits ks p → f ≡ false → Some fails.Types ≡ fitting_tests t verified n p b ts
+      fits_stops f fit failed =
+          stops (unless (fits ks p) fails.Types) (known_tests t verified n p b ∷ after_known) fails.Types (breaks (fits ks p) fails.Types (sym fit ∙ failed)) ∙ numbers_first
 
-     module _ (f : Bool) (fit : f ≡ fits ks p) (fine : f ≡ true) where
-      first : first_failing (known_tests t verified n p b ∷ after_known) ≡ fitting_tests t verified n p b ts
-      first = passes (unless (fits ks p) fails.Types) (known_tests t verified n p b ∷ after_known) (holds (fits ks p) fails.Types (sym fit ∙ fine)) ∙ numbers_first
+      module _ (f : Bool) (fit : f ≡ fits ks p) (fine : f ≡ true) where
+        first : first_failing (known_tests t verified n p b ∷ after_known) ≡ fitting_tests t verified n p b ts
+        first = passes (unless (fits ks p) fails.Types) (known_tests t verified n p b ∷ after_known) (holds (fits ks p) fails.Types (sym fit ∙ fine)) ∙ numbers_first
 
-      pub known_stops : (m : Mismatch) → Some m ≡ known_tests t verified n p b → Some m ≡ fitting_tests t verified n p b ts
-      known_stops m e = stops (known_tests t verified n p b) after_known m e ∙ first
+        pub known_stops : (m : Mismatch) → Some m ≡ known_tests t verified n p b → Some m ≡ fitting_tests t verified n p b ts
+        known_stops m e = stops (known_tests t verified n p b) after_known m e ∙ first
 
-      module _ (known : None ≡ known_tests t verified n p b) where
-        second : first_failing after_known ≡ fitting_tests t verified n p b ts
-        second = passes (known_tests t verified n p b) after_known known ∙ first
+        module _ (known : None ≡ known_tests t verified n p b) where
+          second : first_failing after_known ≡ fitting_tests t verified n p b ts
+          second = passes (known_tests t verified n p b) after_known known ∙ first
 
-        pub steps_stop : (m : Mismatch) → Some m ≡ steps_tests 0 (Content.given (content_with ks p)) (outcomes t verified n p 0 p.values b) → Some m ≡ fitting_tests t verified n p b ts
-        steps_stop m e = stops (steps_tests 0 steps numbers) (planning ∷ []) m e ∙ second
+          pub steps_stop : (m : Mismatch) → Some m ≡ steps_tests 0 (Content.given (content_with ks p)) (outcomes t verified n p 0 p.values b) → Some m ≡ fitting_tests t verified n p b ts
+          steps_stop m e = stops (steps_tests 0 steps numbers) (planning ∷ []) m e ∙ second
 
-        pub steps_pass : None ≡ steps_tests 0 (Content.given (content_with ks p)) (outcomes t verified n p 0 p.values b) → (after : List Outcome) → run (Content.given (content_with ks p)) (outcomes t verified n p 0 p.values b) ≡ Some after
-            → planned_tests t verified n p b ts after ≡ fitting_tests t verified n p b ts
-        steps_pass e after ran = whole (planned_tests t verified n p b ts after) ∙ sym (ap (λ z. first_failing (on_value z (planned_tests t verified n p b ts) ∷ [])) ran) ∙ passes (steps_tests 0 steps numbers) (planning ∷ []) e ∙ second
-          where
-            whole : (z : Test) → z ≡ first_failing (z ∷ [])
-            whole None = refl
-            whole (Some m) = refl
+          pub steps_pass : None ≡ steps_tests 0 (Content.given (content_with ks p)) (outcomes t verified n p 0 p.values b) → (after : List Outcome) → run (Content.given (content_with ks p)) (outcomes t verified n p 0 p.values b) ≡ Some after
+              → planned_tests t verified n p b ts after ≡ fitting_tests t verified n p b ts
+          steps_pass e after ran = whole (planned_tests t verified n p b ts after) ∙ sym (ap (λ z. first_failing (on_value z (planned_tests t verified n p b ts) ∷ [])) ran) ∙ passes (steps_tests 0 steps numbers) (planning ∷ []) e ∙ second
+            where
+              whole : (z : Test) → z ≡ first_failing (z ∷ [])
+              whole None = refl
+              whole (Some m) = refl
 
   -- after the match
   module _ (b : Standing Value) where

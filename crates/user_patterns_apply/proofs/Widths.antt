@@ -8,7 +8,7 @@ use Rattle.ir_event.specs.types.Terms.{TypeTerm, Integer, Index, Function, Memre
 use Rattle.ir_event.specs.types.SameTypes.{same_type}
 use Rattle.ir_verify_base.specs.Types as types
 use Rattle.dialects_int.specs.Folds.{kind_of}
-use Rattle.user_patterns_data.specs.Planning.{kind_standing}
+use Rattle.user_patterns_data.specs.Planning.{is_numeric, kind_standing}
 use Rattle.user_patterns_apply.specs.Types.{is_kind}
 
 pub of_width : (ty : TypeTerm) (w : ℕ) → types.width_of ty ≡ Some w → Some (kind.Int w) ≡ kind_of ty
@@ -57,6 +57,11 @@ written_same kind.Index (OpaqueType s) = refl
 pub written_kind : (k : BitsKind) → k ≡ kind_standing (Some (type_of k))
 written_kind (kind.Int w) = refl
 written_kind kind.Index = refl
+
+-- the type of a kind is numeric
+pub written_numeric : (k : BitsKind) → true ≡ is_numeric (Some (type_of k))
+written_numeric (kind.Int w) = refl
+written_numeric kind.Index = refl
 
 pub found_kind : (ty : TypeTerm) (k : BitsKind) → Some k ≡ kind_of ty → k ≡ kind_standing (Some ty)
 found_kind (Integer Signless v) k e = cc

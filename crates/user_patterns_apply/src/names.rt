@@ -1,5 +1,5 @@
 //! The names of the operations of a pattern.
-ghost use Rattle.std.specs.Prelude.{◌≡◌, []};
+ghost use Rattle.std.specs.Prelude.{◌≡◌};
 ghost use Rattle.ir_event.specs.types.Things.{IsName};
 ghost use Rattle.ir_event.specs.types.Terms.{name_term};
 ghost use Rattle.ir_event.specs.types.WordNames.{word_bytes};
@@ -83,22 +83,16 @@ pub fn predicate_number(predicate: Predicate) -> u128
     }
 }
 
-/// Returns whether a name is empty.
-fn is_no_name(ctx: &Context, name: NameId) -> bool
-    requires { IsName ctx.now name }
-    ensures { result ≡ named [] (name_term ctx.now name) }
-{
-    ctx.sound();
-    things::name_of(ctx, name).is_empty()
-}
-
-/// Returns whether `name` is the operation name of `form`.
+/// Returns whether `name` is the operation name of `form`. If `form` has no name, returns whether `name` is empty.
 pub(crate) fn is_named(ctx: &Context, name: NameId, form: &Expression) -> bool
     requires { IsName ctx.now name }
     ensures { result ≡ named (name_of form.now) (name_term ctx.now name) }
 {
     match word_of(form) {
         Some(word) => ctx.is_word(name, word),
-        None => is_no_name(ctx, name),
+        None => {
+            ctx.sound();
+            things::name_of(ctx, name).is_empty()
+        }
     }
 }

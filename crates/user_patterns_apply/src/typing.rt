@@ -207,7 +207,8 @@ fn kind_standing(ctx: &Context, bound: &Option<BoundType>) -> BitsKind
     }
 }
 
-/// Returns whether a bound type is a signless integer type or `index`. A type that isn't bound is one.
+/// Returns whether a bound type is a signless integer type or `index`. A type that isn't bound passes.
+#[tactic(auto, using(crate::proofs::Widths::written_numeric))]
 fn is_numeric(ctx: &Context, bound: &Option<BoundType>) -> bool
     requires { IfSome bound.now (λ t. TypeIsOf ctx.now t) }
     ensures { result ≡ is_numeric (option_map (type_in ctx.now) bound.now) }

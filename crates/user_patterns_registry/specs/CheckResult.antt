@@ -85,7 +85,7 @@ pub record IsFirstFound (p : PatternModel) (w : ℕ) (c : Counterexample) : Type
   pub first : IsFirst (content_at p) p.types w (verdict.Fails c.widths c.values)
   pub shown : IsShown (content_at p c.widths.items) c
 
--- a result that tells the counterexample of a claim
+-- a result that reports the counterexample of a claim
 abbrev pub IsWrong : PatternModel → Refutation → CheckResult → Type 0
 IsWrong p r j = j ≡ judgement.Refuted (width_told p r.assignment.widths.items) r
 

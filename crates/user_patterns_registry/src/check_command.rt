@@ -71,7 +71,7 @@ fn tells_for_all_widths(
     }
 }
 
-/// Returns the result for a pattern that holds up to a width and of which claims say nothing.
+/// Returns the result for a pattern that holds up to a width, if no claim decides it.
 fn held_by_samples(
     alloc: Global,
     pattern: &Pattern,

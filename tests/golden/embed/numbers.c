@@ -38,7 +38,7 @@ static uint32_t number(interns *intern, const char *text) {
 }
 
 static const char *shown(const char *line) {
-  static char text[4096];
+  static char text[16384];
   mlir_work_command(&s, (const uint8_t *)line, strlen(line), &answer);
   text[mlir_work_read(&s, 0, (uint8_t *)text, sizeof text - 1)] = 0;
   return text;
@@ -75,44 +75,134 @@ static void inserting(void) {
   const uint32_t i32 = number(mlir_work_type, "i32"), unknown = 4000000000;
   const uint32_t name = number(mlir_work_name, "test.new"), value = number(mlir_work_name, "value");
   const uint32_t tag = number(mlir_work_name, "tag"), five = number(mlir_work_attribute, "5 : i32");
-  const mlir_work_new_entry sorted[] = {{value, five, 1}, {tag, five, 0}, {value, five, 0}};
-  const mlir_work_new_entry reversed[] = {{value, five, 0}, {tag, five, 0}}, twice[] = {{tag, five, 0}, {tag, five, 0}};
+  const mlir_work_new_entry entries[] = {{value, five, 1}, {tag, five, 0}};
   const mlir_work_new_entry strange[] = {{tag, unknown, 0}, {unknown, five, 0}};
   const uint32_t types[] = {i32, i32};
   char before[4096];
-  insert(MLIR_WORK_AFTER, CONSTANT, name, operands, 2, types, 2, sorted, 3);
+  insert(MLIR_WORK_AFTER, CONSTANT, name, operands, 2, types, 2, entries, 2);
   WANT(answer.outcome == MLIR_WORK_MADE && answer.number == NEW);
-  WANT(strstr(shown("print"), "%1:2 = \"test.new\"(%0, %arg1) <{value = 5 : i32}> {tag = 5 : i32, value = 5 : i32} : "
-                              "(i32, i32) -> (i32, i32)\n"));
+  WANT(strstr(shown("print"), "%1:2 = \"test.new\"(%0, %arg1) <{value = 5 : i32}> {tag = 5 : i32} : (i32, i32) -> "
+                              "(i32, i32)\n"));
   strcpy(before, shown("print"));
-  insert(MLIR_WORK_BEFORE, RETURN, unknown, operands, 0, types, 0, sorted, 0);
+  insert(MLIR_WORK_BEFORE, RETURN, unknown, operands, 0, types, 0, entries, 0);
   WANT(answer.outcome == MLIR_WORK_REFUSED && answer.refusal == MLIR_WORK_BAD_COMMAND);
-  insert(MLIR_WORK_BEFORE, RETURN, name, operands, 0, &unknown, 1, sorted, 0);
+  insert(MLIR_WORK_BEFORE, RETURN, name, operands, 0, &unknown, 1, entries, 0);
   WANT(answer.refusal == MLIR_WORK_BAD_COMMAND);
   for (int k = 0; k < 2; k++) {
     insert(MLIR_WORK_BEFORE, RETURN, name, operands, 0, types, 0, &strange[k], 1);
     WANT(answer.refusal == MLIR_WORK_BAD_COMMAND);
-    insert(MLIR_WORK_BEFORE, RETURN, name, operands, 0, types, 0, k ? reversed : twice, 2);
-    WANT(answer.refusal == MLIR_WORK_BAD_COMMAND);
   }
-  insert(4, RETURN, name, operands, 0, types, 0, sorted, 0);
+  insert(4, RETURN, name, operands, 0, types, 0, entries, 0);
   WANT(answer.refusal == MLIR_WORK_BAD_COMMAND);
-  insert(MLIR_WORK_BEFORE, 99, name, operands, 0, types, 0, sorted, 0);
+  insert(MLIR_WORK_BEFORE, 99, name, operands, 0, types, 0, entries, 0);
   WANT(answer.refusal == MLIR_WORK_NO_SUCH_OP);
-  insert(MLIR_WORK_AFTER, ROOT, name, operands, 0, types, 0, sorted, 0);
+  insert(MLIR_WORK_AFTER, ROOT, name, operands, 0, types, 0, entries, 0);
   WANT(answer.refusal == MLIR_WORK_IS_ROOT);
-  insert(MLIR_WORK_END, RETURN, name, operands, 0, types, 0, sorted, 0);
+  insert(MLIR_WORK_END, RETURN, name, operands, 0, types, 0, entries, 0);
   WANT(answer.refusal == MLIR_WORK_NO_SUCH_INDEX);
-  insert(MLIR_WORK_START, FUNC, name, &late, 1, types, 0, sorted, 0);
+  insert(MLIR_WORK_START, FUNC, name, &late, 1, types, 0, entries, 0);
   WANT(answer.refusal == MLIR_WORK_NO_SUCH_VALUE);
-  insert(MLIR_WORK_START, FUNC, name, &unseen, 1, types, 0, sorted, 0);
+  insert(MLIR_WORK_START, FUNC, name, &unseen, 1, types, 0, entries, 0);
   WANT(answer.refusal == MLIR_WORK_NOT_VISIBLE);
   WANT(!strcmp(before, shown("print")));
-  insert(MLIR_WORK_START, ROOT, name, operands, 0, types, 0, sorted, 0);
+  insert(MLIR_WORK_START, ROOT, name, operands, 0, types, 0, entries, 0);
   WANT(answer.outcome == MLIR_WORK_MADE && answer.number == NEW + 1);
-  insert(MLIR_WORK_END, ROOT, name, operands, 0, types, 0, sorted, 0);
+  insert(MLIR_WORK_END, ROOT, name, operands, 0, types, 0, entries, 0);
   WANT(answer.outcome == MLIR_WORK_MADE && mlir_work_last(&s, ROOT, 0) == NEW + 2);
   WANT(mlir_work_first(&s, ROOT, 0) == NEW + 1);
+}
+
+/* An entry of an operation that is inserted by a text and by numbers. */
+typedef struct written {
+  const char *key;
+  const char *attribute;
+  bool is_property;
+} written;
+
+static size_t length_of(const written *entries) {
+  size_t count = 0;
+  while (entries[count].key)
+    count++;
+  return count;
+}
+
+/* Writes the entries in braces, or writes nothing if there are none. */
+static void dictionary(char *text, const written *entries, bool are_properties, const char *open, const char *close) {
+  bool is_first = true;
+  for (const written *it = entries; it->key; it++)
+    if (it->is_property == are_properties) {
+      sprintf(text + strlen(text), "%s%s = %s", is_first ? open : ", ", it->key, it->attribute);
+      is_first = false;
+    }
+  strcat(text, is_first ? "" : close);
+}
+
+/* Inserts an operation with these entries by a text and by numbers. Returns the refusal of both, and faults if they
+   differ, or if the modules differ after it. */
+static uint32_t both_ways(const char *name, const written *entries) {
+  static mlir_work_new_entry made[600];
+  static char text[16384], by_text[16384];
+  const uint32_t type = 0;
+  const mlir_work_value value = {0, 0, 0};
+  sprintf(text, "insert before #%d \"%s\"()", RETURN, name);
+  dictionary(text, entries, true, " <{", "}>");
+  dictionary(text, entries, false, " {", "}");
+  strcat(text, " : () -> ()");
+  shown("begin");
+  shown(text);
+  const mlir_work_answer first = answer;
+  strcpy(by_text, shown("print"));
+  shown("rollback");
+  const size_t count = length_of(entries);
+  for (size_t k = 0; k < count; k++)
+    made[k] = (mlir_work_new_entry){number(mlir_work_name, entries[k].key),
+                                    number(mlir_work_attribute, entries[k].attribute), entries[k].is_property};
+  const uint32_t named = number(mlir_work_name, name);
+  shown("begin");
+  insert(MLIR_WORK_BEFORE, RETURN, named, &value, 0, &type, 0, made, count);
+  WANT(answer.refusal == first.refusal);
+  WANT(answer.outcome == (first.outcome == MLIR_WORK_REFUSED_AT ? MLIR_WORK_REFUSED : first.outcome));
+  WANT(first.outcome == MLIR_WORK_REFUSED_AT || answer.number == first.number);
+  WANT(!strcmp(by_text, shown("print")));
+  shown("rollback");
+  return first.refusal;
+}
+
+/* A key that is given twice is refused, and an inherent key is a property, as in a text; the order doesn't matter. */
+static void dictionaries(void) {
+  const written none[] = {{0}};
+  const written reversed[] = {{"c", "1 : i8", false}, {"b", "unit", true}, {"a", "2 : i8", false}, {"aa", "unit", true},
+                              {0}};
+  const written attributes_twice[] = {{"a", "unit", false}, {"b", "unit", false}, {"a", "2 : i8", false}, {0}};
+  const written properties_twice[] = {{"a", "unit", true}, {"a", "unit", true}, {0}};
+  const written both_twice[] = {{"a", "unit", false}, {"a", "2 : i8", true}, {0}};
+  const written inherent[] = {{"value", "5 : i32", false}, {"tag", "unit", false}, {0}};
+  const written inherent_twice[] = {{"value", "5 : i32", false}, {"value", "5 : i32", true}, {0}};
+  const written flags[] = {{"overflowFlags", "#arith.overflow<none>", false}, {"a", "unit", true}, {0}};
+  WANT(both_ways("test.new", none) == 0);
+  WANT(both_ways("test.new", reversed) == 0);
+  WANT(both_ways("test.new", inherent) == 0);
+  WANT(both_ways("test.new", attributes_twice) == MLIR_WORK_DUPLICATE_KEY);
+  WANT(both_ways("test.new", properties_twice) == MLIR_WORK_DUPLICATE_KEY);
+  WANT(both_ways("test.new", both_twice) == MLIR_WORK_DUPLICATE_KEY);
+  WANT(both_ways("arith.constant", inherent) == 0);
+  WANT(both_ways("arith.constant", inherent_twice) == MLIR_WORK_DUPLICATE_KEY);
+  WANT(both_ways("arith.addi", flags) == 0);
+  static char keys[258][8];
+  static written many[259];
+  for (int k = 0; k < 258; k++) {
+    sprintf(keys[k], "k%03d", 257 - k);
+    many[k] = (written){keys[k], "unit", false};
+  }
+  WANT(both_ways("test.new", many) == MLIR_WORK_TOO_MANY); /* 258 attributes */
+  many[0].key = "value";
+  many[257].key = NULL;
+  WANT(both_ways("test.new", many) == MLIR_WORK_TOO_MANY); /* 257 */
+  WANT(both_ways("arith.constant", many) == 0); /* 256, and a property */
+  many[1].is_property = many[2].is_property = true;
+  WANT(both_ways("test.new", many) == 0);
+  many[256].key = "value";
+  WANT(both_ways("test.new", many) == MLIR_WORK_DUPLICATE_KEY);
 }
 
 /* Entries that are set by numbers are those that `set-attr` sets, and a rollback restores them. */
@@ -227,6 +317,7 @@ int main(void) {
   WANT(answer.outcome == MLIR_WORK_OK);
   interning();
   inserting();
+  dictionaries();
   attributes();
   reports();
   patterns();

@@ -361,11 +361,6 @@ impl Session {
         numbers
     }
 
-    /// Returns the text of an interned number.
-    pub(crate) fn text_of<K: interned::Kind>(&self, number: u32) -> String {
-        Interned::<K> { session: self, number, kind: PhantomData }.text()
-    }
-
     /// Returns the name with this text, or `None` if the session has no such name. Compare it with the names of
     /// operations: that reads no text.
     pub fn name(&self, text: &str) -> Option<Name<'_>> {

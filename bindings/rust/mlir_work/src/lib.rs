@@ -549,6 +549,7 @@ mod tests {
         assert_eq!(session.operation(3).attribute("b").and_then(|it| it.integer()).map(|it| it.low), Some(5));
         assert_eq!(session.insert(Spot::After(99), name, &[], &[], &[], &[]).unwrap_err().refusal, 20);
         assert_eq!(session.insert(Spot::After(2), u32::MAX, &[], &[], &[], &[]).unwrap_err().refusal, 60);
+        assert_eq!(session.insert(Spot::After(2), name, &[], &[], &[(a, five)], &[(a, five)]).unwrap_err().refusal, 12);
         let rows = session.rows(1).unwrap();
         assert_eq!(rows.len(), session.report("uses").unwrap().len());
         let mut seen = Vec::new();

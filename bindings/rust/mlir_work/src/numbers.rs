@@ -1,6 +1,6 @@
 //! Reads of many operations by few calls, edits by interned numbers, and report rows as numbers.
 
-use crate::{interned, outcome, Outcome, Refused, Session, Spot, Value};
+use crate::{outcome, Outcome, Refused, Session, Spot, Value};
 use mlir_work_sys as sys;
 
 /// A row of a report as numbers: `bindings/c/mlir_work.h` says what a cell has.
@@ -132,7 +132,8 @@ impl Session {
     }
 
     /// Inserts an operation without regions, and returns its number. `name`, `results` and the entries, pairs of a key
-    /// and an attribute, are interned numbers. The entries may be in any order.
+    /// and an attribute, are interned numbers. The entries may be in any order. An inherent attribute is put among the
+    /// properties. A key that is given twice is refused.
     pub fn insert(
         &mut self,
         spot: Spot,
@@ -143,8 +144,13 @@ impl Session {
         attributes: &[(u32, u32)],
     ) -> Result<u32, Refused> {
         let operands: Vec<sys::Value> = operands.iter().map(|it| it.numbers()).collect();
-        let mut entries = self.sorted(properties, 1);
-        entries.extend(self.sorted(attributes, 0));
+        let given = [(properties, 1), (attributes, 0)];
+        let entries: Vec<sys::NewEntry> = given
+            .iter()
+            .flat_map(|&(them, is_property)| {
+                them.iter().map(move |&(key, attribute)| sys::NewEntry { key, attribute, is_property })
+            })
+            .collect();
         let (made, mut answer) = (sys::New { spot: spot.numbers(), name }, sys::Answer::default());
         // SAFETY: the session is open, and the pointers of slices aren't null.
         unsafe {
@@ -164,18 +170,6 @@ impl Session {
             Outcome::Made(operation) => Ok(operation as u32),
             _ => Err(Refused { refusal: answer.refusal, operation: None, byte: None }),
         }
-    }
-
-    /// Returns entries in the order of the texts of their keys.
-    fn sorted(&self, entries: &[(u32, u32)], is_property: u32) -> Vec<sys::NewEntry> {
-        let mut keyed: Vec<_> = entries
-            .iter()
-            .map(|&(key, attribute)| {
-                (self.text_of::<interned::Name>(key), sys::NewEntry { key, attribute, is_property })
-            })
-            .collect();
-        keyed.sort_by(|one, other| one.0.cmp(&other.0));
-        keyed.into_iter().map(|it| it.1).collect()
     }
 
     /// Sets the entry of an operation at a key to an attribute, by their numbers.

@@ -113,7 +113,7 @@ pub struct New {
     pub name: u32,
 }
 
-/// An entry of a new operation; `is_property` is 0 for a discardable attribute.
+/// An entry of a new operation; `is_property` is 0 for a discardable attribute. An inherent one becomes a property.
 #[repr(C)]
 #[derive(Clone, Copy, Debug, Default, PartialEq, Eq, Hash)]
 pub struct NewEntry {

@@ -12,10 +12,12 @@ values-preserved c =
     let left = rest_length c.values.rest.now c.in-len1-up.len_at_least in
     let sum = c.values.invariant.0 in
     let count = c.write_uses_of-at.ensures.count in
-    let long = ap length c.write_uses_of-at.ensures.written ∙ from_length c.values.at _ c.values.into c.values.invariant.1 in
-    (omega (arith, left, sum), omega (arith, count, long),
-    uses_on (tree_in c.args.world.now) c.args.values.now c.values.index c.values.rest.now _ c.value_of.result c.uses.result c.values.at c.write_uses_of-at.result c.values.into c.write_uses_of-at.new.into c.args.into.now
-    c.in-len1-up.len_at_least c.value_of.ensures c.uses.ensures c.write_uses_of-at.ensures.written c.write_uses_of-at.ensures.count c.values.invariant.2)
+    let long = ap length c.write_uses_of-at.ensures.written ∙ from_length c.values.at _ c.values.into c.values.invariant.1 in (
+      omega (arith, left, sum),
+      omega (arith, count, long),
+      uses_on (tree_in c.args.world.now) c.args.values.now c.values.index c.values.rest.now _ c.value_of.result c.uses.result c.values.at c.write_uses_of-at.result c.values.into c.write_uses_of-at.new.into c.args.into.now
+          c.in-len1-up.len_at_least c.value_of.ensures c.uses.ensures c.write_uses_of-at.ensures.written c.write_uses_of-at.ensures.count c.values.invariant.2,
+    )
 
 pub returns : goal.returns
 returns c =

@@ -4,7 +4,7 @@ use Rattle.rewriter.specs.Held.{module_held}
 use Rattle.patterns_base.specs.declared.edit.Edit.{Edit as Coded}
 use Rattle.patterns_base.specs.Lists.{Free, edits_meaning}
 use Rattle.patterns_lowering.proofs.Carrying.{Carrying, along_on, carrying_done, carrying_more, carrying_none, carrying_why, fits_next, noted_refused}
-use Rattle.patterns_lowering.proofs.Freely.{CarryingFree, free_more}
+use Rattle.patterns_lowering.proofs.Freely.{free_more}
 use Rattle.patterns_lowering.proofs.apply_unchecked.carry_all.Goals as goal
 
 pub edits-init : goal.edits-init

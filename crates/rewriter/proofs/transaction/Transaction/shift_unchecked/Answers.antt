@@ -1,4 +1,5 @@
-use Rattle.std.proofs.Common.{◌≡◌, rules}
+use Rattle.std.proofs.Common.{◌≡◌, ◌≢◌, [], rules}
+use Rattle.ir_event.specs.types.declared.refusal.Refusal.TheVariants.{Memory}
 use Rattle.ir_event.specs.store.Calls.{after_shift}
 use Rattle.rewriter_machine.specs.Journals.{IsStoreOf}
 use Rattle.rewriter.specs.Held.{TransactionModel}
@@ -25,7 +26,7 @@ returns-clause-ok c =
     rw (← c.self.view_is) (made_edited h c.self.invariant (after_shift c.args.op c.args.place w.store) c.shift_unchecked-made.new.world.store c.shift_unchecked-made.result made c.shift_unchecked-made.new.world.ctx c.note.new.journal.items c.shift_unchecked-made.ensures.ctx kept)
 
 pub returns-clause-refused : goal.returns-clause-refused
-returns-clause-refused c = never_refused c.shift_unchecked-made.result c.shift_unchecked-made.ensures.done
+returns-clause-refused c = never_refused (λ e. (e ≡ Memory) × (c.args.self.now.marks ≢ [])) c.shift_unchecked-made.result c.shift_unchecked-made.ensures.done
 
 pub returns-clause-tidy : goal.returns-clause-tidy
 returns-clause-tidy c =

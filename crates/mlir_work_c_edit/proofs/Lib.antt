@@ -1,3 +1,0 @@
-mod Placed
-mod Testing
-mod Growing

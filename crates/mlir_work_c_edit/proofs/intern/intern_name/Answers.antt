@@ -1,8 +1,0 @@
-use Rattle.mlir_work_c_edit.proofs.Growing.{grown_so}
-use Rattle.mlir_work_c_edit.proofs.intern.intern_name.Goals as goal
-
-pub returns-clause-grown : goal.returns-clause-grown
-returns-clause-grown g c = grown_so g.L.Analysis.meaning _ _ c.name-named.ensures.grown c.name-named.ensures.listeners
-
-pub returns-clause-kept : goal.returns-clause-kept
-returns-clause-kept g c = c.led_benches_are_kept.ensures.kept _ _ c.name-named.ensures.led c.requires
