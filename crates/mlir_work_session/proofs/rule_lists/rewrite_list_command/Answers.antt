@@ -35,8 +35,8 @@ returns-in-Off-clause-mixes g c =
     unless_proved c.args.session_options.now (registry_model c.args.registry.now) (list_command_view c.args.list_command.now) _ _ _ _ m.0 c.in-Ok.text.items _ m.1 these (rw c.deref.ensures.value at c.is_refused.ensures) c.if-is_refused.false (mixes_found c.args.session_options.now (registry_model c.args.registry.now) (list_command_view c.args.list_command.now) _ _ _ _ m.0 _ _ m.1 m.2.attempts c.limit_of-limit.ensures (rw c.deref-in-Off.ensures.value at c.rewrite_plainly.ensures.follows)
     (bytes_untold c.args.session_options.now (registry_model c.args.registry.now) (list_command_view c.args.list_command.now) _ _ _ c.in-Ok.text.items these c.in-Off.is c.rewrite_plainly.ensures.shows))
 
-pub returns-in-Counts-clause-mixes : goal.returns-in-Counts-clause-mixes
-returns-in-Counts-clause-mixes g c =
+pub returns-clause-mixes : goal.returns-clause-mixes
+returns-clause-mixes g c =
     let m = rw c.in-Ok-Some.field-0-is at c.in-Ok-Some.ensures.rule_list in
     let these = held_bytes c.args.bench.now.transaction c.world.result.now c.world.ensures.ctx c.world.ensures.store (unproved_of (registry_model c.args.registry.now) (list_command_view c.args.list_command.now).names) c.in-Ok.text.items c.in-Ok.ensures in
     unless_proved c.args.session_options.now (registry_model c.args.registry.now) (list_command_view c.args.list_command.now) _ _ _ _ m.0 c.in-Ok.text.items _ m.1 these (rw c.deref.ensures.value at c.is_refused.ensures) c.if-is_refused.false (mixes_found c.args.session_options.now (registry_model c.args.registry.now) (list_command_view c.args.list_command.now) _ _ _ _ m.0 _ _ m.1 m.2.attempts c.limit_of-limit.ensures (rw c.deref-in-Counts.ensures.value at c.rewrite_counting.ensures.follows)
