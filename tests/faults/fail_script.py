@@ -174,6 +174,8 @@ COMMANDS = [
     ([], "report uses"), ([], "print"), ([], "resync uses"), ([f"insert end #0 0 {PRIVATE}"], "sweep"), ([], "sweep"),
     ([], "canon"), ([], "canon limit 1"), ([], "canon trace"), (["set-operand #3 0 %v2.0"], "canon trace limit 2"),
     (["set-operand #3 0 %v2.0"], "rewrite 2,1"), (["set-operand #3 0 %v2.0"], "rewrite 2,1 trace"),
+    (["set-operand #3 0 %v2.0"], "canon fired limit 1"), (["set-operand #3 0 %v2.0"], "canon fired limit 2"),
+    (["set-operand #3 0 %v2.0", NEGATED], "rewrite negated,2,1 fired limit 1"),
     (["set-operand #3 0 %v2.0"], "canon"), (["set-operand #3 0 %v2.0"], "canon at #3"), ([], "why #3"),
     ([], "why #3 fold-to-constant"), ([], "apply 1 #2"), ([], "apply 2 #3"), ([], "apply drop-zero #3"),
     (["begin", "set-operand #3 0 %v2.0", "erase #4", "insert end #1 0 \"test.z\"(%v3.0) : (i32) -> ()"], "rollback"),
