@@ -1,4 +1,4 @@
-use Rattle.std.proofs.Common.{◌≡◌, ◌⊎◌, ap, refl, subst, sym, Err, Ok, Option, Some}
+use Rattle.std.proofs.Common.{◌≡◌, ◌⊎◌, refl, subst, Err, Ok, Option}
 use Rattle.std.specs.Prelude.{Result}
 use Rattle.ir_event.specs.types.Things.{ContextModel}
 use Rattle.ir_event.specs.types.declared.refusal.Refusal.{Refusal}
