@@ -77,7 +77,6 @@ class Numbers(Case):
         before = s.print()
         for number, edit in ((20, lambda it: it.erase(9)), (22, lambda it: it.erase(1)),
                              (13, lambda it: it.insert(end(0), "test.a", [], ["what"])),
-                             (2, lambda it: it.insert(end(0), "test.a", [], ["5 : i32"])),
                              (21, lambda it: it.insert(end(0), "test.a", [Argument(1, 0, 0)])),
                              (29, lambda it: it.insert(after(0), "test.a")),
                              (26, lambda it: it.drop_attribute(1, "test.none"))):

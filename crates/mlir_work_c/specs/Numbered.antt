@@ -46,9 +46,13 @@ InsertsOr None header s a t = (a ≡ refused BadCommand) × (t ≡ s)
 InsertsOr (Some point) header s a t = Inserts point header s a t
 
 -- the entries of the operation are put into its dictionaries by the words of the session's context
+abbrev pub InsertsNew : Option Point → ℕ → List ValueNumbers → List ℕ → List NewEntry → Session → Answer → Session → Type 0
+InsertsNew point name operands results entries s a t =
+    InsertsOr point (header (context_of s) name operands results entries) s a t
+
 abbrev pub InsertGoes : Option Point → ℕ → List ValueNumbers → List ℕ → List NewEntry → Option Session → Answer → Option Session → Type 0
 InsertGoes point name operands results entries old a new =
-    Goes (λ s b t. InsertsOr point (header (context_of s) name operands results entries) s b t) old a new
+    Goes (λ s b t. InsertsNew point name operands results entries s b t) old a new
 
 -- an entry is set
 abbrev pub Sets : ℕ → ℕ → ℕ → Session → Answer → Session → Type 0

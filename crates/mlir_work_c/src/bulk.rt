@@ -1,10 +1,10 @@
 //! The C functions that read many operations or values by one call, and report rows. They change nothing. Each read writes
 //! as many items as there is space for, and returns how many it wrote.
-ghost use Rattle.std.specs.Prelude.{◌≡◌};
+ghost use Rattle.std.specs.Prelude.{◌≡◌, nat_lt};
 ghost use Rattle.rewriter.specs.RewriterCalls.{AgreesOrStale};
 ghost use Rattle.mlir_work_analyses.specs.Listeners.{any_analysis};
 ghost use Rattle.mlir_work_c.specs.Calls.{IsHeld};
-ghost use Rattle.mlir_work_c.specs.Bulk.{ReportGoes, ReportsIn, WritesHeadsOf, WritesOperandsOf, WritesTypesOf, WritesValueUsesOf};
+ghost use Rattle.mlir_work_c.specs.Bulk.{ReportGoes, ReportsOf, WritesHeadsOf, WritesOperandsOf, WritesTypesOf, WritesValueUsesOf};
 
 use crate::answer::{Answer, closed, counted, refused};
 use crate::handle::Handle;
@@ -97,11 +97,14 @@ pub extern "C" fn mlir_work_value_uses(
 }
 
 /// Writes the cells of the report of a kind, and returns the answer with the number of cells.
-fn report_into(session: &Session, kind: u8, into: &mut [CellNumbers]) -> Answer
+fn report_into(session: &Session, kind: u32, into: &mut [CellNumbers]) -> Answer
     requires kept { AgreesOrStale any_analysis session.now.bench }
-    ensures { ReportsIn kind session.now into.old into.new result }
+    ensures { ReportsOf (nat_lt kind 256) kind session.now into.old into.new result }
 {
-    let rows = match session.bench.report(Kind::new(kind)) {
+    if kind >= 256 {
+        return refused(Refusal::NoSuchKind);
+    }
+    let rows = match session.bench.report(Kind::new(kind as u8)) {
         Ok(rows) => rows,
         Err(refusal) => return refused(refusal),
     };
@@ -126,10 +129,6 @@ pub extern "C" fn mlir_work_report(
         *answer = closed();
         return;
     };
-    *answer = if kind < 256 {
-        report_into(&found, kind as u8, into)
-    } else {
-        refused(Refusal::NoSuchKind)
-    };
+    *answer = report_into(&found, kind, into);
     held.open_with(found);
 }

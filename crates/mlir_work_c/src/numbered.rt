@@ -2,11 +2,9 @@
 ghost use Rattle.std.specs.Prelude.{◌≡◌};
 ghost use Rattle.rewriter.specs.RewriterCalls.{AgreesOrStale};
 ghost use Rattle.mlir_work_analyses.specs.Listeners.{any_analysis};
-ghost use Rattle.mlir_work_c_read.specs.Headers.{header};
 ghost use Rattle.mlir_work_c.specs.Calls.{IsHeld};
 ghost use Rattle.mlir_work_c.specs.Numbers.{point_of_numbers};
-ghost use Rattle.mlir_work_c.specs.Queries.{context_of};
-ghost use Rattle.mlir_work_c.specs.Numbered.{AttributeGoes, AttributeInterned, Drops, DropGoes, InsertGoes, InsertsOr, NameGoes, NameInterned, Sets, SetGoes, TypeGoes, TypeInterned};
+ghost use Rattle.mlir_work_c.specs.Numbered.{AttributeGoes, AttributeInterned, Drops, DropGoes, InsertGoes, InsertsNew, NameGoes, NameInterned, Sets, SetGoes, TypeGoes, TypeInterned};
 
 use crate::answer::{Answer, closed, counted, edited, inserted, refused, unread};
 use crate::handle::Handle;
@@ -31,7 +29,7 @@ fn insert_in(
     entries: &[NewEntry],
 ) -> Answer
     requires { AgreesOrStale any_analysis session.old.bench }
-    ensures inserts { InsertsOr (point_of_numbers new.now.point) (header (context_of session.old) new.now.name operands.now results.now entries.now) session.old result session.new }
+    ensures inserts { InsertsNew (point_of_numbers new.now.point) new.now.name operands.now results.now entries.now session.old result session.new }
     ensures kept { AgreesOrStale any_analysis session.new.bench }
 {
     let Some(point) = point_of(&new.point) else {

@@ -1,10 +1,7 @@
 -- A rewriter whose context grows.
-use Rattle.std.proofs.Common.{◌≡◌, ◌∙◌, ap, sym, subst, slice_get, ℕ, List, Some}
-use Rattle.ir_event.specs.types.Sound.{Holds, IsSound}
-use Rattle.ir_event.specs.types.Things.{ContextModel}
+use Rattle.std.proofs.Common.{◌≡◌}
 use Rattle.ir_event.specs.Listener.{Listener}
 use Rattle.rewriter_machine.specs.Panels.{all_shown}
-use Rattle.rewriter.specs.Held.{open_marks, module_held}
 use Rattle.rewriter.specs.Moves.{Grown as TransactionGrown}
 use Rattle.rewriter.specs.RewriterCalls.{Benched}
 use Rattle.mlir_work_c_read.specs.Interned.{Grown}

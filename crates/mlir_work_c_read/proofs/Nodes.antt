@@ -1,15 +1,12 @@
 -- What the node of an operation says of it.
-use Rattle.std.proofs.Common.{◌≡◌, ◌∙◌, refl, ap, ℕ, zero, suc, List, [], length, map, Option, Some, None, arith}
+use Rattle.std.proofs.Common.{◌≡◌, ◌∙◌, refl, ap, ℕ, zero, suc, List, [], length, Option, Some, None, arith}
 use Rattle.std.specs.Prelude.{option_map, option_and_then, slice_get}
-use Rattle.ir_event.specs.trees.declared.value.Value.{Value}
 use Rattle.ir_event.specs.trees.Tree.{Op, op, Regions, no_regions, region, region_count}
 use Rattle.ir_event.specs.trees.Ids.{find}
 use Rattle.ir_event.specs.tree_laws.Values.{arguments_of, arguments_at, region_at}
 use Rattle.ir_event.specs.store.Nodes.{Node, node_of, regions_arguments}
-use Rattle.mlir_work_c_read.specs.declared.numbers.Counts.{Counts}
-use Rattle.mlir_work_c_read.specs.declared.numbers.Head.{Head}
 use Rattle.mlir_work_c_read.specs.Bulk.{head_in, operands_in}
-use Rattle.mlir_work_c_read.specs.Operations.{argument_count, counts, counts_of, node_counts}
+use Rattle.mlir_work_c_read.specs.Operations.{argument_count, counts, node_counts}
 
 counted : (rs : Regions) → length (regions_arguments rs) ≡ region_count rs
 counted no_regions = refl

@@ -1,5 +1,5 @@
 -- What the node of an operation says of its blocks.
-use Rattle.std.proofs.Common.{◌≡◌, ◌∙◌, ap, sym, refl, ℕ, zero, suc, false, Option, Some, None}
+use Rattle.std.proofs.Common.{◌≡◌, ◌∙◌, ap, refl, ℕ, zero, suc, false, Option, Some, None}
 use Rattle.std.specs.Prelude.{is_some, option_map, option_and_then, slice_get}
 use Rattle.ir_event.specs.trees.Tree.{Op, op, Regions, no_regions, region, empty, block, regions}
 use Rattle.ir_event.specs.tree_laws.Values.{region_at}

@@ -192,13 +192,13 @@ static int reads(void) {
 }
 
 /* The calls by numbers that take memory, and whether the turn's call makes an operation. */
-static uint32_t name, type, attribute;
+static uint32_t name, other, type, attribute;
 
 static void call(mlir_work_session *session, int which, unsigned long turn, mlir_work_answer *answer) {
   static const char *const texts[] = {"test.name%lu", "memref<%lux?xi9>", "[%lu : i9, \"text\", @f]"};
   const mlir_work_value operand = {0, 0, 0};
   const mlir_work_new made = {{MLIR_WORK_END, 0, 0}, name};
-  const mlir_work_new_entry entries[] = {{name, attribute, 1}, {name, attribute, 0}};
+  const mlir_work_new_entry entries[] = {{name, attribute, 1}, {other, attribute, 0}};
   mlir_work_cell cells[4];
   char text[64];
   const int length = snprintf(text, sizeof text, texts[which % 3], turn + 1);
@@ -232,6 +232,8 @@ static int numbers(void) {
       open_one(&session, &answer);
       mlir_work_name(&session, (const uint8_t *)"test.key", 8, &answer);
       name = (uint32_t)answer.number;
+      mlir_work_name(&session, (const uint8_t *)"test.other", 10, &answer);
+      other = (uint32_t)answer.number;
       mlir_work_type(&session, (const uint8_t *)"i32", 3, &answer);
       type = (uint32_t)answer.number;
       mlir_work_attribute(&session, (const uint8_t *)"5 : i32", 7, &answer);
@@ -257,7 +259,7 @@ static int numbers(void) {
       if (held)
         return fprintf(stderr, "call %d, allocation %lu: %ld blocks are left\n", which, turns + 1, held);
     }
-    if (turns < 2 && which != 5)
+    if (turns < 2 && which != 5 && which < 8) /* a removal takes none, and some of the later reports have no rows */
       return fprintf(stderr, "call %d: no allocation was refused\n", which);
   }
   return 0;

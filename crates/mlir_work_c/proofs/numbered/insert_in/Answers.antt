@@ -1,4 +1,4 @@
-use Rattle.std.proofs.Common.{◌≡◌, ◌⊎◌, ap, refl, subst, sym, Err, Ok, Option, Some}
+use Rattle.std.proofs.Common.{◌≡◌, ◌⊎◌, refl, subst, Err, Ok, Option}
 use Rattle.std.specs.Prelude.{Result}
 use Rattle.ir_event.specs.types.Things.{ContextModel}
 use Rattle.ir_event.specs.types.declared.refusal.Refusal.{Refusal}
@@ -10,6 +10,7 @@ use Rattle.mlir_work_script_base.specs.InsertionPoints.{insertion_point_of}
 use Rattle.mlir_work_c_read.specs.Headers.{header}
 use Rattle.mlir_work_c.specs.Numbered.{InsertsOr}
 use Rattle.mlir_work_c.specs.Queries.{context_of}
+use Rattle.mlir_work_c.specs.declared.session.Session.{Session}
 use Rattle.mlir_work_c.proofs.Inserting.{inserted_so, refused_so}
 use Rattle.mlir_work_c.proofs.numbered.insert_in.Goals as goal
 
@@ -32,6 +33,7 @@ returns-in-Ok-clause-inserts c =
     let point = insertion_point_of c.in-Some.point in
     let told : ContextModel → Result Op Refusal = λ d. header d c.args.new.now.name c.args.operands.now c.args.results.now c.args.entries.now in
     let made = subst (λ (d : ContextModel). told d ≡ Ok c.in-Ok.header) c.world.ensures.ctx c.in-Ok.ensures.told in
-    subst (λ (p : Option Point). InsertsOr p (told (context_of s)) s c.inserted.result _) c.in-Some.ensures
-    (inserted_so point (told (context_of s)) s c.inserted.result c.in-Ok.header (id_reply_of c.insert.result) _ made c.insert.ensures.inserts c.inserted.ensures
+    let t : Session = record { bench = c.insert.new.bench; registry = s.registry; limit = s.limit; bytes = s.bytes; shows = s.shows } in
+    subst (λ (p : Option Point). InsertsOr p (told (context_of s)) s c.inserted.result t) c.in-Some.ensures
+    (inserted_so point (told (context_of s)) s c.inserted.result c.in-Ok.header (id_reply_of c.insert.result) t made c.insert.ensures.inserts c.inserted.ensures
     (record { registry = refl; limit = refl; counted = refl; shows = refl; mode = c.insert.ensures.mode }))

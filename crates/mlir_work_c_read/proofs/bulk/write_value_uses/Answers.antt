@@ -1,4 +1,4 @@
-use Rattle.std.proofs.Common.{◌≡◌, ◌≤◌, ap, ◌∙◌, length, arith}
+use Rattle.std.proofs.Common.{ap, ◌∙◌, length, arith}
 use Rattle.mlir_work_c_read.specs.Operations.{tree_in}
 use Rattle.mlir_work_c_read.proofs.Joining.{from_length, rest_length}
 use Rattle.mlir_work_c_read.proofs.Using.{uses_end, uses_on}

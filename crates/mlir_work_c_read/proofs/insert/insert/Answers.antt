@@ -1,4 +1,4 @@
-use Rattle.std.proofs.Common.{◌∙◌, ap, sym, subst, inl, inr, refl, Err, Ok, false, true, None, ◌≡◌, rules}
+use Rattle.std.proofs.Common.{◌∙◌, ap, subst, inl, inr, refl, None, rules}
 use Rattle.ir_event.specs.trees.Meaning.{IsSoundIn}
 use Rattle.ir_event.specs.types.Things.{ContextModel}
 use Rattle.ir_event.specs.store.Stored.{Stored}

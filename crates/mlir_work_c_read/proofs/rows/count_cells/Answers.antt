@@ -1,4 +1,4 @@
-use Rattle.std.proofs.Common.{rules, ◌≡◌, ◌∙◌, ◌+◌, ap, length, arith}
+use Rattle.std.proofs.Common.{rules, ◌≡◌, ◌+◌, ap, length, arith}
 use Rattle.std.specs.Prelude.{min}
 use Rattle.ir_event.specs.declared.row.Row.{Row}
 use Rattle.mlir_work_c_read.specs.Rows.{cells_numbers}
