@@ -29,8 +29,7 @@ static bool is_speculatable(Session &s, const Operation &op) {
 // Returns whether a value is made inside an operation.
 static bool is_inside(const Value &value, const Operation &around) {
   std::optional<Operation> at = value.is_result() ? value.owner().parent() : value.owner();
-  while (at && *at != around)
-    at = at->parent();
+  for (; at && *at != around; at = at->parent()) {}
   return at.has_value();
 }
 // Returns whether an operation uses only values that are made inside it or outside of the loop.
@@ -44,7 +43,7 @@ static bool is_invariant(const Operation &op, const Operation &loop) {
 int main(int, char **argv) {
   std::ifstream file(argv[1], std::ios::binary);
   Session s(std::string{std::istreambuf_iterator<char>(file), {}});
-  std::set<std::uint32_t> effects; // the operations with effects
+  std::set<std::uint32_t> effects; // the operations with effects, also unknown ones
   for (const auto &row : s.rows(MLIR_WORK_EFFECTS))
     effects.insert(row[0].value.operation);
   std::vector<Operation> loops; // inner loops first
@@ -54,7 +53,8 @@ int main(int, char **argv) {
   for (const Operation loop : loops)
     for (const Region region : loop.regions())
       for (const Operation op : region.block()->operations())
-        if (op.next() && !effects.count(op) && is_speculatable(s, op) && is_invariant(op, loop)) // no terminator
+        if (op.next() && (op.name().text().rfind("arith.", 0) == 0 || !effects.count(op)) && // no terminator
+            is_speculatable(s, op) && is_invariant(op, loop))
           s.move(op, before(loop));
   std::cout << s.text("print");
 }
