@@ -222,9 +222,9 @@ def arguments(parser):
     parser.add_argument("--color", choices=["auto", "always", "never"], default="auto",
                         help="whether to colour the output [default: auto, on a terminal without NO_COLOR]")
     parser.add_argument(traces.TEXTS, action="store_true",
-                        help="below each line of a trace, show the operation before the typed command, and the "
-                             "operations that the rewrite made, after the command, if they still exist; a traced command "
-                             "costs two more `print ids`")
+                        help="show the operations of a trace: below each line the rewritten operation before the typed "
+                             "command, and the new operations after it, if they still exist; such a command costs two "
+                             "more `print ids`")
     program.arguments(parser)
     program.blocks_argument(parser)
 
