@@ -24,7 +24,7 @@ class Manual(unittest.TestCase):
             self.assertIn(f"\nmlir-work {word} ", text)
         for own in (*words.WORDS.values(), *words.NAMED.values()):
             self.assertIn(f"\n  {own.form} ", text)
-        for option in ("--brief", "--keep ROW", "--function NAME", "--color auto|always|never"):
+        for option in ("--brief", "--keep ROW", "--function NAME", "--color auto|always|never", "--texts"):
             self.assertIn(option, text)
 
     def completed(self, *typed):
@@ -42,6 +42,7 @@ class Manual(unittest.TestCase):
         self.assertIn("fold.mlir", self.completed("fo"))
         self.assertEqual(self.completed("reduce", "--ke"), ["--keep"])
         self.assertEqual(self.completed("open", "--k"), [])
+        self.assertEqual(self.completed("open", "--te"), ["--texts"])
 
     @unittest.skipUnless(shutil.which("zsh"), "there is no zsh")
     def test_zsh(self):

@@ -1,5 +1,7 @@
 """The prompt: the module with numbers, what changed, and lines that are taken back or refused."""
 import pathlib
+import subprocess
+import sys
 import tempfile
 import unittest
 import unittest.mock
@@ -30,6 +32,12 @@ LISTED = '''    #0  "builtin.module"() ({
           }) : () -> ()
     #6    "test.last"(%v1.1, %v1.0) {zz} : (i32, i32) -> ()
         }) : () -> ()'''.splitlines()
+# A shift whose result has a use.
+TWICE = b'''%a = "test.a"() : () -> i32
+%one = "arith.constant"() <{value = 1 : i32}> : () -> i32
+%s = "arith.shli"(%a, %one) : (i32, i32) -> i32
+"test.use"(%s) : (i32) -> ()
+'''
 
 
 def begun(module, script=b""):
@@ -179,6 +187,75 @@ class Typed(unittest.TestCase):
         self.assertTrue(here.answer("canon trace limit 0")[0].startswith("refused 50 BadLimit: "))
         self.assertEqual(here.kept(), ["rewrite 1,10 limit 2", "rewrite 1,10 trace", "canon only 1,10 trace",
                                        "canon only 1"])
+
+
+class Texts(unittest.TestCase):
+    """Traces with the texts of operations (`--texts`)."""
+
+    def begun(self, module):
+        """A session over a module that shows the texts."""
+        here = begun(module)
+        here.shows_texts = True
+        return here
+
+    def test_texts_of_a_trace(self):
+        """Below each rewrite are its operation before the command, and the new operations after the command."""
+        here = self.begun((ROOT / "examples/canon.mlir").read_bytes())
+        flags = "<{overflowFlags = #arith.overflow<none>}>"
+        wanted = ["limit 2", "rewrote 10 regroup-constants #6 made #16,#17 erased #6",
+                  f'    #6  %v6.0 = "arith.addi"(%v5.0, %v3.0) {flags} : (i32, i32) -> i32',
+                  '    #16  %v16.0 = "arith.constant"() <{value = 5 : i32}> : () -> i32',
+                  f'    #17  %v17.0 = "arith.addi"(%a1.0.0, %v16.0) {flags} : (i32, i32) -> i32',
+                  "rewrote 1 erase-dead #3 erased #3",
+                  '    #3  %v3.0 = "arith.constant"() <{value = 3 : i32}> : () -> i32']
+        for line in ("canon trace limit 2", "rewrite canon trace limit 2", "canon only 1-24 \ttrace limit 2"):
+            self.assertEqual(here.answer(line), wanted, line)
+            self.assertEqual(here.kept(), [line])
+            here.answer("undo")
+        self.assertEqual(here.answer("rewrite canon proved trace limit 2")[:7], wanted)
+
+    def test_operation_that_an_earlier_rewrite_made(self):
+        """An operation that the trace itself made is shown as it is after the command, or not at all if it is gone."""
+        here = self.begun(TWICE)
+        here.answer("pattern twice arith.shli(%a, 1) => arith.muli(2, %a)")
+        made = '%v6.0 = "arith.muli"(%v1.0, %v5.0) <{overflowFlags = #arith.overflow<none>}> : (i32, i32) -> i32'
+        self.assertEqual(here.answer("rewrite twice,swap-constant trace"), [
+            "converged 2", "unproved twice unchecked", "rewrote twice #3 made #5,#6 erased #3",
+            '    #3  %v3.0 = "arith.shli"(%v1.0, %v2.0) : (i32, i32) -> i32',
+            '    #5  %v5.0 = "arith.constant"() <{value = 2 : i32}> : () -> i32', f"    #6  {made}",
+            "rewrote 3 swap-constant #6", f"    #6  {made}"])
+        here = self.begun((ROOT / "examples/canon.mlir").read_bytes())
+        said = here.answer("canon trace")
+        self.assertIn("rewrote 1 erase-dead #17 erased #17\nrewrote ", "\n".join(said))
+        self.assertEqual([line for line in said if line.startswith(("    #17 ", "    #18 "))], [])
+        self.assertIn('    #10  %v10.0 = "scf.if"(%v9.0) ({', said)
+
+    def test_conversion(self):
+        """A traced conversion has texts too. A refused one is explained as without them, and `fired` has none."""
+        module = TWICE.replace(b"arith.shli", b"arith.remsi")
+        line, here, plain = "convert trace partial illegal arith.remsi rules 27", self.begun(module), begun(module)
+        said = here.answer(line)
+        self.assertEqual([it for it in said if it[0] != " "], plain.answer(line))
+        self.assertEqual([it.split()[0] for it in said[2:]], ["#3", "#5", "#6", "#7"])
+        for line in ("convert trace partial illegal arith.divsi", "canon trace limit 0"):
+            self.assertEqual(here.answer(line), plain.answer(line))
+        self.assertEqual(here.refusals, 2)
+        with unittest.mock.patch.object(here.way, "rewritten", None):
+            self.assertEqual(here.answer("canon fired"), plain.answer("canon fired"))
+
+    def test_command_line(self):
+        """`--texts` is an option of the prompt. Without it a trace has no texts, and asks for no listing."""
+        words = [sys.executable, ROOT / "tools/session.py", ROOT / "examples/canon.mlir"]
+        text = "rewrite 19 trace\n"
+        told, more = [subprocess.run([*words, *options], input=text, stdout=subprocess.PIPE, text=True, check=True)
+                      .stdout.splitlines() for options in ([], ["--texts"])]
+        self.assertEqual(told, ["> rewrite 19 trace", "converged 1",
+                                "rewrote 19 extend-extension #12 made #16 erased #12"])
+        self.assertEqual(more, [*told, '    #12  %v12.0 = "arith.extsi"(%v11.0) : (i16) -> i32',
+                                '    #16  %v16.0 = "arith.extui"(%a1.0.2) : (i8) -> i32'])
+        here = example("canon")
+        with unittest.mock.patch.object(here.way, "rewritten", None):
+            self.assertEqual(here.answer("rewrite 19 trace"), told[1:])
 
 
 class Replied(unittest.TestCase):

@@ -87,6 +87,11 @@ class Listing:
         """The numbers of all operations."""
         return {key for key in self.keys if not isinstance(key, tuple)}
 
+    @functools.cached_property
+    def places(self):
+        """The place of the line in which each operation begins, by the number of the operation."""
+        return {key: place for place, key in enumerate(self.keys) if not isinstance(key, tuple)}
+
     def missing(self, word):
         """Returns why a word names no operation or value of the module; empty if it names one."""
         if re.fullmatch(r"#\d+", word):
@@ -153,6 +158,13 @@ class Listing:
     def lines(self):
         """Returns all lines as `ids` shows them."""
         return self.shown(range(len(self.texts)))
+
+    def heads(self, numbers):
+        """Returns the first lines of the operations with these numbers, by the numbers, as `ids` shows them but without
+        indentation. Operations that aren't in the module have none."""
+        places = {number: self.places[str(number)] for number in numbers if str(number) in self.places}
+        lines = self.named(list(places.values()))
+        return {number: f"#{number}  {line.lstrip(' ')}" for number, line in zip(places, lines)}
 
     def near(self, number, lines):
         """Returns the lines around an operation, or None if the operation isn't in the module."""

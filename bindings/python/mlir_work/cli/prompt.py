@@ -5,7 +5,7 @@ import re
 import sys
 import time
 
-from . import explain, kept, nesting, program
+from . import explain, kept, nesting, program, traces
 from .completion import Completion
 from .screen import Screen
 from .session import Session
@@ -221,6 +221,10 @@ def arguments(parser):
     parser.add_argument("script", metavar="SCRIPT", nargs="?", help="a file with commands to run first")
     parser.add_argument("--color", choices=["auto", "always", "never"], default="auto",
                         help="whether to colour the output [default: auto, on a terminal without NO_COLOR]")
+    parser.add_argument(traces.TEXTS, action="store_true",
+                        help="show the operations of a trace: below each line the rewritten operation before the typed "
+                             "command, and the new operations after it, if they still exist; such a command costs two "
+                             "more `print ids`")
     program.arguments(parser)
     program.blocks_argument(parser)
 
@@ -233,6 +237,7 @@ def run(given):
     session, script = opened(given, screen)
     if isinstance(session, int):
         return session
+    session.shows_texts = given.texts
     try:
         return Prompt(session, screen, script).go()
     finally:

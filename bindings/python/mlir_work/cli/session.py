@@ -10,7 +10,7 @@ from ..blocks import Nested, flatten, is_nested
 from ..errors import FormBroken
 from ..reply import Transcript, lines_of
 from ..script import is_counted, joined
-from . import explain, forms, generic, mistakes, nesting, pages, program, ways, words
+from . import explain, forms, generic, mistakes, nesting, pages, program, traces, ways, words
 from .changes import Changes
 from .kept import put
 from .listing import COMMAND, MADE
@@ -19,7 +19,7 @@ WIDTH = 100
 # Commands that edit operations which they don't name. Their answer ends with the difference, up to MOST_DIFF lines. A
 # traced command shows its rewrites instead, and `fired` its counts.
 WITH_DIFF, MOST_DIFF = {"apply", "canon", "convert", "rewrite", "sweep"}, 60
-TRACED = re.compile(r"(?:canon|convert|(?:rewrite|canon[ \t]+only)[ \t]+[^ \t]+)[ \t]+(?:trace|fired)(?![^ \t])")
+TRACED = re.compile(r"(?:canon|convert|(?:rewrite|canon[ \t]+only)[ \t]+[^ \t]+)[ \t]+(trace|fired)(?![^ \t])")
 # How many listings are cached.
 MOST_LISTINGS = 2
 # In a script, a comment before a `begin` has the name of the mark.
@@ -47,12 +47,14 @@ class Entry:
 
 
 class Session:
-    """A module, the accepted lines, and the listing that `diff` compares with."""
+    """A module, the accepted lines, and the listing that `diff` compares with. `shows_texts` says whether a trace is
+    shown with the texts of its operations."""
 
     def __init__(self, module, way=None):
         self.module, self.entries, self.undone = module, [], []
         self.way = way or ways.fitting(module)
         self.listings, self.seen, self.start, self.refusals = {}, None, [], 0
+        self.shows_texts = False
         self.words = {"ids": self.ids, "at": self.at, "find": self.find, "diff": self.diff, "undo": self.undo,
                       "redo": self.redo, "save": self.save, "source": self.source, "write": self.write,
                       "help": self.help, "quit": list}
@@ -134,15 +136,29 @@ class Session:
         """Returns the listing of the current module."""
         return self.listing_of(self.kept())
 
+    def listed_around(self, line):
+        """Runs a line that rewrites. Returns its reply, and the listings before and after the line, which it caches.
+        After a refused line the second listing is None."""
+        lines = self.kept()
+        reply, before, after = self.way.rewritten(lines, line, self.listings.get(tuple(lines)))
+        self.keep(lines, before)
+        if not reply.is_refused:
+            self.keep([*lines, line], after)
+        return reply, before, after
+
     def rewritten(self, line):
         """Runs a line that rewrites. Returns its reply, and the lines below the reply, with the difference."""
-        lines = self.kept()
-        reply, before, behind = self.way.rewritten(lines, line, self.listings.get(tuple(lines)))
-        self.keep(lines, before)
+        reply, before, after = self.listed_around(line)
         if reply.is_refused:
             return reply, []
-        self.keep([*lines, line], behind)
-        return reply, [*reply.lines, *cut_off(Changes(before, behind))]
+        lines = traces.with_texts(reply.lines, before, after) if self.shows_texts else reply.lines
+        return reply, [*lines, *cut_off(Changes(before, after))]
+
+    def traced(self, line):
+        """Runs a line that prints a trace. Returns its reply, and the lines below the reply, with texts of
+        operations."""
+        reply, before, after = self.listed_around(line)
+        return reply, reply.lines if reply.is_refused else traces.with_texts(reply.lines, before, after)
 
     # Answers.
 
@@ -173,9 +189,9 @@ class Session:
 
     def command(self, line):
         """Runs a command of a script, and keeps it if it is accepted."""
-        word = line.split()[0]
-        has_diff = word in WITH_DIFF and not TRACED.match(line)
-        reply, below = self.rewritten(line) if has_diff else self.run(line)
+        word, traced = line.split()[0], TRACED.match(line)
+        has_diff, has_texts = word in WITH_DIFF and not traced, self.shows_texts and traced and traced[1] == "trace"
+        reply, below = (self.rewritten if has_diff else self.traced if has_texts else self.run)(line)
         if reply.is_refused:
             return [*self.refused(reply, line.encode("utf-8", "surrogateescape")), *below]
         try:
