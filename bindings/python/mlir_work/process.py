@@ -16,7 +16,7 @@ MOST_BYTES = 1 << 20
 class Process(Way):
     """A process that holds the module. `program` is its file, or the words of its command, and `environment` has
     further variables. An answer that takes longer than `timeout` seconds ends the process; without a timeout a call
-    waits, and calls `tick` (pipe.py) meanwhile."""
+    waits. `tick` (pipe.py) is called while a call waits."""
 
     def __init__(self, program: Optional[Program] = None, environment: Optional[Dict[str, str]] = None,
                  timeout: Optional[float] = None, tick: Optional[Tick] = None) -> None:
