@@ -6,10 +6,12 @@ import tempfile
 import time
 import warnings
 import weakref
-from typing import IO, Dict, List, Optional, Sequence, Tuple, Union
+from typing import IO, Callable, Dict, List, Optional, Sequence, Tuple, Union
 
 # The bytes, or one of several, that an answer begins with.
 Begins = Union[bytes, Tuple[bytes, ...]]
+# Called while the process is waited for. It returns the seconds after which to call it again, or None for no more.
+Tick = Callable[[], Optional[float]]
 # The beginnings of the answer to a module: nothing, an analysis that wasn't attached, or a refusal of the module.
 FIRST = (b"\n", b"attach ", b"module refused ")
 CHUNK = 65536
@@ -35,8 +37,8 @@ class Pipe:
     call, also an interrupt, ends the process, since the state of the pipes is unknown then."""
 
     def __init__(self, words: Sequence[str], environment: Optional[Dict[str, str]] = None,
-                 timeout: Optional[float] = None) -> None:
-        self.words, self.timeout = list(words), timeout
+                 timeout: Optional[float] = None, tick: Optional[Tick] = None) -> None:
+        self.words, self.timeout, self.tick = list(words), timeout, tick
         self.status: Optional[int] = None
         self._kept, self._seen, self._is_deaf = bytearray(), 0, False
         # Messages of the process, for example about a wrong command line, are reported when it ends.
@@ -157,12 +159,12 @@ class Pipe:
         """Reads once, and writes as much as the pipe accepts. Returns the rest to write, and whether the output is
         still open."""
         timeout = PATIENCE if self._is_deaf and self.timeout is None else self.timeout
-        if left or timeout is not None:
+        if left or timeout is not None or self.tick:
             poll = select.poll()
             poll.register(self._output, select.POLLIN)
             if left:
                 poll.register(self._input, select.POLLOUT)
-            found = [number for number, _ in poll.poll(None if timeout is None else timeout * 1000)]
+            found = self._ready(poll, timeout)
             if not found:
                 raise self._lost("reads no more" if self._is_deaf else f"wrote no answer within {timeout} s")
             left = self._written(left, is_last) if self._input in found else left
@@ -171,6 +173,18 @@ class Pipe:
         more = os.read(self._output, CHUNK)
         self._kept += more
         return left, bool(more)
+
+    def _ready(self, poll: "select.poll", timeout: Optional[float]) -> List[int]:
+        """Waits for an end of a pipe, and calls `tick` meanwhile. Returns the ends that are ready, or none after
+        `timeout` seconds."""
+        ends = None if timeout is None else time.monotonic() + timeout
+        while True:
+            rest = None if ends is None else max(ends - time.monotonic(), 0)
+            step = self.tick() if self.tick else None
+            wait = min([it for it in (rest, step) if it is not None], default=None)
+            found = [number for number, _ in poll.poll(None if wait is None else wait * 1000)]
+            if found or wait is None or wait == rest:
+                return found
 
     def _cut(self, begin: Begins) -> Optional[bytes]:
         """Returns the next answer, if it is complete."""

@@ -4,7 +4,7 @@ from typing import Dict, Iterable, List, Optional, Sequence
 from . import command
 from .command import Program
 from .errors import ProcessLost, SessionClosed
-from .pipe import FIRST, Begins, Lost, Pipe
+from .pipe import FIRST, Begins, Lost, Pipe, Tick
 from .reply import Reply, decoded, lines_of, module_refused, reply_of
 from .script import has_divider, joined
 from .way import Way
@@ -16,12 +16,12 @@ MOST_BYTES = 1 << 20
 class Process(Way):
     """A process that holds the module. `program` is its file, or the words of its command, and `environment` has
     further variables. An answer that takes longer than `timeout` seconds ends the process; without a timeout a call
-    waits."""
+    waits. `tick` (pipe.py) is called while a call waits."""
 
     def __init__(self, program: Optional[Program] = None, environment: Optional[Dict[str, str]] = None,
-                 timeout: Optional[float] = None) -> None:
+                 timeout: Optional[float] = None, tick: Optional[Tick] = None) -> None:
         found = command.find(program)
-        self._words, self._timeout = found.words, timeout
+        self._words, self._timeout, self._tick = found.words, timeout, tick
         self._environment = {**found.environment, **(environment or {})}
         self._pipe: Optional[Pipe] = None
         self._count = 0
@@ -30,7 +30,8 @@ class Process(Way):
         if has_divider(text):
             raise ValueError("the text has a line `// -----`, which would end the module: remove that line")
         more = (["--limit", str(limit)] if limit is not None else []) + ["--opaque"] * opaque
-        self._pipe = Pipe([*self._words, "--brief", "--interactive", *more], self._environment, self._timeout)
+        self._pipe = Pipe([*self._words, "--brief", "--interactive", *more], self._environment, self._timeout,
+                          self._tick)
         answer, = self._ask(joined(text), [FIRST], True)
         refused = module_refused(decoded(answer))
         if refused:

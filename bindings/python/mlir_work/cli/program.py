@@ -1,4 +1,5 @@
 """Runs the program on a module and a script, and reads its output."""
+import contextlib
 import pathlib
 import re
 import subprocess
@@ -19,6 +20,8 @@ ASKED = []
 READS_BLOCKS = []
 # With --split-input-file, the module that a command reads in place of the file of this name.
 PART = {}
+# What is called while the program is waited for, as `Tick` of pipe.py says: it has one member, or none.
+TICKS = []
 # The status of a command that Ctrl-C ended, as in shells.
 INTERRUPTED = 130
 
@@ -61,7 +64,7 @@ def has_option(option):
 def process(module):
     """Returns a process of the program that holds a module. Raises `ModuleRefused` and `ProcessLost`."""
     program = asked_for().with_words(*explaining())
-    held = Process(program.words, program.more)
+    held = Process(program.words, program.more, tick=TICKS[0] if TICKS else None)
     held.open(module)
     return held
 
@@ -144,12 +147,24 @@ def written(text, *more):
     with tempfile.TemporaryFile() as given:
         given.write(text)
         given.seek(0)
-        it = subprocess.run([*program.words, "--brief"], stdin=given, stdout=subprocess.PIPE, env=program.environment,
-                            check=False)
-    if it.returncode not in (0, 1, 3) or not it.stdout and it.returncode:
-        raise Fault(f"{program.words[0]} ended with status {it.returncode} after {len(it.stdout)} bytes of output: "
-                    "expected output, and status 0, 1 or 3")
-    return it.returncode, decoded(it.stdout)
+        status, out = ended([*program.words, "--brief"], given, program.environment)
+    if status not in (0, 1, 3) or not out and status:
+        raise Fault(f"{program.words[0]} ended with status {status} after {len(out)} bytes of output: expected output, "
+                    "and status 0, 1 or 3")
+    return status, decoded(out)
+
+
+def ended(words, given, environment):
+    """Runs words over a file up to their end. Returns the status and the output. Any exception ends the process."""
+    with subprocess.Popen(words, stdin=given, stdout=subprocess.PIPE, env=environment) as run:
+        try:
+            while True:
+                with contextlib.suppress(subprocess.TimeoutExpired):
+                    out, _ = run.communicate(timeout=TICKS[0]() if TICKS else None)
+                    return run.returncode, out
+        except BaseException:
+            run.kill()
+            raise
 
 
 def ran(text, *more):

@@ -7,6 +7,7 @@ import time
 
 from . import explain, kept, nesting, program, traces
 from .completion import Completion
+from .progress import Progress
 from .screen import Screen
 from .session import Session
 
@@ -38,11 +39,11 @@ class Prompt(cmd.Cmd):
 
     prompt = PROMPT
 
-    def __init__(self, session, screen, script):
+    def __init__(self, session, screen, script, progress):
         super().__init__()
         self.session, self.screen, self.script = session, screen, script
         self.is_typed, self.completion = sys.stdin.isatty(), Completion(session)
-        self.told = set()
+        self.told, self.progress = set(), progress
         if not self.is_typed:
             self.prompt = ""
 
@@ -96,7 +97,8 @@ class Prompt(cmd.Cmd):
         if line.strip() == "quit":
             return True
         try:
-            said = self.session.answer(line)
+            with self.progress.of(line):
+                said = self.session.answer(line)
         except KeyboardInterrupt:
             said = ["interrupted"]
         except (OSError, program.Fault) as fault:
@@ -233,12 +235,13 @@ def run(given):
     """Runs a session, and returns its status: 1 if something was refused."""
     sys.stdin.reconfigure(errors="surrogateescape")
     sys.stdout.reconfigure(errors="surrogateescape")
-    screen = Screen(given.color)
+    screen, progress = Screen(given.color), Progress()
+    program.TICKS[:] = [progress.tick] * progress.is_terminal
     session, script = opened(given, screen)
     if isinstance(session, int):
         return session
     session.shows_texts = given.texts
     try:
-        return Prompt(session, screen, script).go()
+        return Prompt(session, screen, script, progress).go()
     finally:
         session.way.stop()
