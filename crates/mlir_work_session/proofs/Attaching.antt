@@ -9,7 +9,6 @@ use Rattle.ir_event.specs.Panels.{AttachedLast, HandedBack}
 use Rattle.mlir_work_transforms.specs.rewriter.Panels.{Shown, shown, all_shown, has_kind}
 use Rattle.mlir_work_session.specs.Output.{BoxTried, Attaches, box_line}
 use Rattle.mlir_work_session.proofs.Panels.{kind_shown}
-use Rattle.ir_event.proofs.of_trees.Counts.{and_true, and_assoc}
 use Rattle.mlir_work_transforms.proofs.of_rewriter.Panels.{shown_last}
 
 module _ {B : Type 0} (meaning : B → Listener) where

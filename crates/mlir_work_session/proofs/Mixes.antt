@@ -6,7 +6,7 @@ use Rattle.ir_event.specs.types.declared.refusal.Refusal.TheVariants.{Full, Memo
 use Rattle.ir_event.specs.Modules.{Module}
 use Rattle.mlir_work_transforms.specs.rewriter.Commands.{AppliesRule, Requested, Ask, Misplaced, Unparsed, Follows, Response, Replied, TextRefusedAt}
 use Rattle.mlir_work_transforms.specs.rewriter.Machine as call
-use Rattle.mlir_work_transforms.specs.rewriter.Machine.{State, Call, Reply, Refused, Nothing, Transformation, Goes, IsFullSo}
+use Rattle.mlir_work_transforms.specs.rewriter.Machine.{State, Reply, Refused, Nothing, Transformation, Goes}
 use Rattle.mlir_work_transforms.specs.greedy.Changes.{canonical_reply, rewriting}
 use Rattle.mlir_work_transforms.specs.greedy.Tracing.{trace_of}
 use Rattle.mlir_work_transforms.specs.greedy.PatternSet.{RuleOrPatternModel, by_attempts}
@@ -17,16 +17,15 @@ use Rattle.mlir_work_transforms.specs.TraceText.{trace_text}
 use Rattle.mlir_work_script.specs.SessionCommands.{SessionCommand}
 use Rattle.mlir_work_transforms.specs.registry.Replies.{IsBounded, is_accepted}
 use Rattle.mlir_work_transforms.specs.registry.Registry.{RegistryModel}
-use Rattle.mlir_work_transforms.specs.RuleLists.{Listed, all_listed, attempts_in, rule_list_trace, mixing, names_in}
+use Rattle.mlir_work_transforms.specs.RuleLists.{Listed, all_listed, attempts_in, rule_list_trace, names_in}
 use Rattle.mlir_work_transforms.specs.Unproved.{unproved_of}
 use Rattle.mlir_work_session.specs.declared.options.SessionOptions.{SessionOptions}
-use Rattle.mlir_work_session.specs.declared.trace_form.TraceForm.{TraceForm}
 use Rattle.mlir_work_session.specs.declared.trace_form.TraceForm.TheVariants.{Counts, EachRewrite, Off}
 use Rattle.mlir_work_session.specs.Machine.{IsContextFull, RunsSessionCommand, SessionSetting, limit_or, told_if}
 use Rattle.mlir_work_session.specs.RuleLists.{RunsListCommand, ListCommand, ListCommandHeadroom, Mixes, MixesUnless, is_unproved, list_command_bytes, list_command_change, list_command_trace}
-use Rattle.mlir_work_session.proofs.Fulfilling.{SomeFulfilled, fulfils_bounded, some_fulfilled}
+use Rattle.mlir_work_session.proofs.Fulfilling.{fulfils_bounded, some_fulfilled}
 use Rattle.mlir_work_session.proofs.Panels.{all_stay}
-use Rattle.mlir_work_session.proofs.Headroom.{other_headroom, replied, widened}
+use Rattle.mlir_work_session.proofs.Headroom.{other_headroom}
 
 -- a called transformation leads to the next state
 pub follows_called : (s t : State) (f : Transformation) (reply : Reply) (response : Response) → response ≡ Replied reply → Goes s (call.Change f) reply Nothing t → Follows s (Ask (call.Change f)) response Nothing t

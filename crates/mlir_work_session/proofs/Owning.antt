@@ -1,5 +1,5 @@
 -- Proofs about the answers to commands with a pattern registry.
-use Rattle.std.proofs.Common.{◌≡◌, ◌∙◌, sym, ap, refl, subst, ◌⊎◌, inl, inr, ℕ, ◌≤◌, List, [], Option, Some, None}
+use Rattle.std.proofs.Common.{◌≡◌, sym, refl, subst, ◌⊎◌, inl, inr, ℕ, List, [], Option, Some, None}
 use Rattle.ir_event.specs.types.declared.refusal.Refusal.{Refusal}
 use Rattle.ir_event.specs.types.declared.refusal.Refusal.TheVariants.{Memory}
 use Rattle.mlir_work_transforms.specs.Applying.{applying_own}
@@ -10,7 +10,7 @@ use Rattle.mlir_work_transforms.specs.registry.Registry.{Kept}
 use Rattle.mlir_work_session.specs.declared.options.SessionOptions.{SessionOptions}
 use Rattle.mlir_work_session.specs.Machine.{AsksHeadroom, IsContextFull, RunsCommand}
 use Rattle.mlir_work_session.specs.Sittings.{AppliesUserPattern, NextToHeadroom, RunsPatternCommand}
-use Rattle.mlir_work_session.proofs.Obeying.{SomeAnswer, obeys_within, some_answer}
+use Rattle.mlir_work_session.proofs.Obeying.{obeys_within, some_answer}
 use Rattle.mlir_work_session.proofs.Panels.{all_stay}
 
 module _ (session_options : SessionOptions) where

@@ -18,7 +18,7 @@ use Rattle.mlir_work_session.specs.RuleLists.{RunsListCommand, ListCommand, Mixe
 use Rattle.mlir_work_session.specs.declared.trace_form.TraceForm.{TraceForm}
 use Rattle.mlir_work_session.specs.declared.trace_form.TraceForm.TheVariants.{Counts, EachRewrite, Off}
 use Rattle.mlir_work_session.specs.WhyPatterns.{RunsNamedCommand, asked_pattern}
-use Rattle.mlir_work_session.specs.Output.{Line, SessionSetting, session_setting, Replied, Replies}
+use Rattle.mlir_work_session.specs.Output.{Line, SessionSetting, Replied, Replies}
 use Rattle.mlir_work_session.specs.Sittings.{RunsPatternCommand, Sitting, own_of}
 
 module _ (setting : SessionSetting) (bytes : ℕ) (longer : setting.session_options.bytes ≤ bytes) where

@@ -4,7 +4,7 @@ use Rattle.ir_event.specs.types.declared.refusal.Refusal.TheVariants.{Memory}
 use Rattle.mlir_work_transforms.specs.Unproved.{unproved_of}
 use Rattle.mlir_work_transforms.specs.registry.Registry.{registry_model}
 use Rattle.mlir_work_session.specs.ListCommandViews.{list_command_view}
-use Rattle.mlir_work_session.proofs.Mixes.{bytes_fired, bytes_told, bytes_untold, list_command_unroomed, mixes_found, unless_forgot, unless_proved, unless_unnamed, unless_unproved}
+use Rattle.mlir_work_session.proofs.Mixes.{bytes_fired, bytes_told, bytes_untold, mixes_found, unless_forgot, unless_proved, unless_unnamed, unless_unproved}
 use Rattle.mlir_work_session.proofs.Reading.{held_bytes}
 use Rattle.mlir_work_session.proofs.rule_lists.rewrite_list_command.Goals as goal
 
