@@ -1,5 +1,5 @@
 -- A run that stopped by its limit made as many rewrites as the limit allows, and its trace has an entry for each.
-use Rattle.std.proofs.Common.{◌≡◌, ◌∙◌, refl, ap, sym, subst, inl, inr, ℕ, zero, suc, ◌+◌, Bool, true, false, arith, Result, Ok}
+use Rattle.std.proofs.Common.{◌≡◌, ◌∙◌, ap, sym, subst, inl, inr, ℕ, zero, suc, ◌+◌, Bool, true, false, arith, Result, Ok}
 use Rattle.std.specs.Prelude.{◌&&◌, nat_le, length, if◌then◌else◌}
 use Rattle.ir_event.specs.types.declared.refusal.Refusal.{Refusal}
 use Rattle.ir_event.specs.types.declared.refusal.Refusal.TheVariants.{BadLimit, Full, Memory}
