@@ -12,7 +12,7 @@ use Rattle.greedy.specs.Changes.{canonical_reply, canonicalizing, made_of, rewri
 use Rattle.greedy.specs.Rewriting.{IsOfItsRules, next_by, rewriting_of, rewritten_from}
 use Rattle.greedy.specs.PatternSet.{PatternSetModel, by_rules}
 use Rattle.greedy.specs.Tracing.{TraceIsCounted, trace_of}
-use Rattle.greedy.specs.Trials.{IsApplied}
+use Rattle.greedy.specs.Applications.{IsApplied}
 use Rattle.greedy.specs.declared.outcome.Outcome.{Outcome}
 use Rattle.greedy.specs.declared.outcome.Outcome.TheVariants.{Limit}
 
