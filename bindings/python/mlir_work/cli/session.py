@@ -19,7 +19,8 @@ WIDTH = 100
 # Commands that edit operations which they don't name. Their answer ends with the difference, up to MOST_DIFF lines. A
 # traced command shows its rewrites instead, and `fired` its counts.
 WITH_DIFF, MOST_DIFF = {"apply", "canon", "convert", "rewrite", "sweep"}, 60
-TRACED = re.compile(r"(?:canon|convert|(?:rewrite|canon[ \t]+only)[ \t]+[^ \t]+)[ \t]+(trace|fired)(?![^ \t])")
+TRACED = re.compile(r"(?:canon|convert|(?:rewrite|canon[ \t]+only)[ \t]+[^ \t]+(?:[ \t]+proved)?)"
+                    r"[ \t]+(trace|fired)(?![^ \t])")
 # How many listings are cached.
 MOST_LISTINGS = 2
 # In a script, a comment before a `begin` has the name of the mark.
