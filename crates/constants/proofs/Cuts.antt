@@ -12,7 +12,7 @@ use Rattle.ir_event.specs.trees.Places.{place_of, without}
 use Rattle.ir_event.specs.trees.WellFormed.{ModuleOf}
 use Rattle.ir_event.specs.tree_laws.Members.{In}
 use Rattle.ir_event.specs.tree_laws.Changes.{HoldNone, Takes, Shifts}
-use Rattle.ir_event.specs.tree_laws.Stands.{StepOf, StandOf, stands, regions_stands, region_stands, ops_stands, place_in, left_stand, dropping}
+use Rattle.ir_event.specs.tree_laws.Stands.{StepOf, OpWithPathOf, stands, regions_stands, region_stands, ops_stands, place_in, left_stand, dropping}
 use Rattle.ir_event.proofs.of_tree_laws.Readings.{step}
 use Rattle.ir_event.proofs.of_tree_laws.Members.{stand, stand_found}
 use Rattle.ir_event.proofs.of_tree_laws.Around.{member_of_place}
@@ -35,10 +35,10 @@ record HeadCut (x : ℕ) (found : Option Operation) (whole left : List Header) :
   was : whole ≡ preceding ++ (heads here ++ back)
   rest : left ≡ preceding ++ back
 
-abbrev Stand : Type 0
-Stand = StandOf (List ℕ) TypeTerm AttrTerm
+abbrev OpWithPath : Type 0
+OpWithPath = OpWithPathOf (List ℕ) TypeTerm AttrTerm
 
-abbrev head_in : Stand → Header
+abbrev head_in : OpWithPath → Header
 head_in s = head s.here
 
 mutual
@@ -60,7 +60,7 @@ mutual
       map-append head_in (stands (step p r args preceding os ∷ path) o) (ops_stands p path r args (preceding ++ o ∷ []) os)
       ∙ λ i. stand_heads (step p r args preceding os ∷ path) o i ++ ops_stand_heads p path r args (preceding ++ o ∷ []) os i
 
-left_heads : (x : ℕ) (ss : List Stand) → map head_in (map (left_stand x) ss) ≡ map head_in ss
+left_heads : (x : ℕ) (ss : List OpWithPath) → map head_in (map (left_stand x) ss) ≡ map head_in ss
 left_heads x [] = refl
 left_heads x (s ∷ ss) = λ i. same_head x (dropping x) s.here i ∷ left_heads x ss i
 

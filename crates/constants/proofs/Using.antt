@@ -16,7 +16,7 @@ use Rattle.ir_event.specs.trees.Meaning.{meaning}
 use Rattle.ir_event.specs.trees.Uses.{same_value, operand_uses, uses_of}
 use Rattle.ir_event.proofs.of_trees.Mapped.{map_find}
 use Rattle.ir_event.specs.tree_laws.Members.{In}
-use Rattle.ir_event.specs.tree_laws.Stands.{StandOf, stand_id, stands, gather}
+use Rattle.ir_event.specs.tree_laws.Stands.{OpWithPathOf, op_with_path_id, stands, gather}
 use Rattle.ir_event.proofs.of_tree_laws.Listed.{in_left, in_right, in_parts, in_map, in_mapped, both, both_hold, either}
 use Rattle.ir_event.proofs.of_tree_laws.Readings.{stands_uses}
 use Rattle.ir_event.proofs.of_tree_laws.Members.{found_stands, stand_found}
@@ -121,15 +121,15 @@ module _ (w : World) (d : ℕ) (us : List (ℕ × ℕ)) (are : AreUses (Result d
   used : (y : ℕ) → In y (users_of us) → Uses (look_in w) d y
   used y h =
       let u = in_mapped (λ (u : ℕ × ℕ). u.0) y us h in
-      let i : In (u.0.0, u.0.1) (gather (λ s. operand_uses (Result d 0) (stand_id s) 0 (head s.here).operands) (stands [] w.store.module_of.tree)) =
+      let i : In (u.0.0, u.0.1) (gather (λ s. operand_uses (Result d 0) (op_with_path_id s) 0 (head s.here).operands) (stands [] w.store.module_of.tree)) =
       subst (In (u.0.0, u.0.1)) (sym (stands_uses (Result d 0) [] w.store.module_of.tree)) (in_uses u.0.0 u.0.1 u.1) in
-      let g = gathered (λ (s : StandOf ℕ ℕ ℕ). operand_uses (Result d 0) (stand_id s) 0 (head s.here).operands) (u.0.0, u.0.1) (stands [] w.store.module_of.tree) i in
-      let r = use_operand (Result d 0) (stand_id g.0) 0 u.0.0 u.0.1 (head g.0.here).operands g.2 in
-      let id : y ≡ stand_id g.0 = u.2 ∙ r.0 in
+      let g = gathered (λ (s : OpWithPathOf ℕ ℕ ℕ). operand_uses (Result d 0) (op_with_path_id s) 0 (head s.here).operands) (u.0.0, u.0.1) (stands [] w.store.module_of.tree) i in
+      let r = use_operand (Result d 0) (op_with_path_id g.0) 0 u.0.0 u.0.1 (head g.0.here).operands g.2 in
+      let id : y ≡ op_with_path_id g.0 = u.2 ∙ r.0 in
       record {
         here = map_head (name_term w.ctx) (type_term w.ctx) (attr_term w.ctx) (head g.0.here);
         is = ap (look_in w) id
-            ∙ look_number w (stand_id g.0)
+            ∙ look_number w (op_with_path_id g.0)
             ∙ ap (option_map (λ (o : Op). map_head (name_term w.ctx) (type_term w.ctx) (attr_term w.ctx) (head o))) (stand_found w.store.module_of.tree w.wellformed.distinct g.0 g.1);
         operand = r.1;
       }
@@ -143,12 +143,12 @@ module _ (w : World) (d : ℕ) (us : List (ℕ × ℕ)) (are : AreUses (Result d
           let one : map_head (name_term w.ctx) (type_term w.ctx) (attr_term w.ctx) (head o) ≡ u.here = cc in
           let operand : In (Result d 0) (head o).operands = subst (λ (h : Header). In (Result d 0) h.operands) (sym one) u.operand in
           let s = found_stands y w.store.module_of.tree o f in
-          let l = listed_use (Result d 0) (stand_id s.0) 0 (head s.0.here).operands (subst (λ (q : Op). In (Result d 0) (head q).operands) (sym s.3) operand) in
-          let i : In (stand_id s.0, l.0) (uses_of (Result d 0) w.store.module_of.tree) =
-          subst (In (stand_id s.0, l.0)) (stands_uses (Result d 0) [] w.store.module_of.tree)
-          (in_gather (λ (s : StandOf ℕ ℕ ℕ). operand_uses (Result d 0) (stand_id s) 0 (head s.here).operands) (stand_id s.0, l.0) s.0 (stands [] w.store.module_of.tree) s.1 l.1) in
-          let k : In (stand_id s.0, l.0) us = is_use_in (stand_id s.0) l.0 us (are.same (stand_id s.0) l.0 ∙ in_is_use (stand_id s.0) l.0 (uses_of (Result d 0) w.store.module_of.tree) i) in
-          subst (λ z. In z (users_of us)) s.2 (in_map (λ (u : ℕ × ℕ). u.0) (stand_id s.0, l.0) us k)
+          let l = listed_use (Result d 0) (op_with_path_id s.0) 0 (head s.0.here).operands (subst (λ (q : Op). In (Result d 0) (head q).operands) (sym s.3) operand) in
+          let i : In (op_with_path_id s.0, l.0) (uses_of (Result d 0) w.store.module_of.tree) =
+          subst (In (op_with_path_id s.0, l.0)) (stands_uses (Result d 0) [] w.store.module_of.tree)
+          (in_gather (λ (s : OpWithPathOf ℕ ℕ ℕ). operand_uses (Result d 0) (op_with_path_id s) 0 (head s.here).operands) (op_with_path_id s.0, l.0) s.0 (stands [] w.store.module_of.tree) s.1 l.1) in
+          let k : In (op_with_path_id s.0, l.0) us = is_use_in (op_with_path_id s.0) l.0 us (are.same (op_with_path_id s.0) l.0 ∙ in_is_use (op_with_path_id s.0) l.0 (uses_of (Result d 0) w.store.module_of.tree) i) in
+          subst (λ z. In z (users_of us)) s.2 (in_map (λ (u : ℕ × ℕ). u.0) (op_with_path_id s.0, l.0) us k)
 
   pub users_are : AreUsers (look_in w) d (users_of us)
   users_are = record { all = using; only = used }

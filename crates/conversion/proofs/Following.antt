@@ -6,7 +6,7 @@ use Rattle.ir_event.specs.trees.Tree.{OpOf, op, RegionsOf, no_regions, region, R
 use Rattle.ir_event.specs.trees.Ids.{ids, regions_ids, region_ids, ops_ids, HasDistinctIds}
 use Rattle.ir_event.proofs.of_trees.Returns.{absent_first}
 use Rattle.ir_event.specs.tree_laws.Reads.{comes_after, precedes}
-use Rattle.ir_event.specs.tree_laws.Stands.{StepOf, StandOf, stand_id, stands, regions_stands, region_stands, ops_stands}
+use Rattle.ir_event.specs.tree_laws.Stands.{StepOf, OpWithPathOf, op_with_path_id, stands, regions_stands, region_stands, ops_stands}
 use Rattle.ir_event.specs.tree_laws.Members.{In}
 use Rattle.ir_event.proofs.of_tree_laws.Listed.{bool_cases, either, in_parts}
 use Rattle.ir_event.proofs.of_tree_laws.Readings.{step}
@@ -61,18 +61,18 @@ module _ {N T A : Type 0} where
   from_more (suc k) g rs (region h os) e = let one : suc (k + 1) ≡ suc k + 1 = omega arith in subst (λ j. regions_from j (region h os) ≡ rs) one (from_more k g rs os e)
 
   -- the ids of a tree, split after the contents of an operation
-  abbrev Cut : List ℕ → StandOf N T A → Type 0
+  abbrev Cut : List ℕ → OpWithPathOf N T A → Type 0
   Cut all s = (preceding : List ℕ) × (all ≡ preceding ++ (ids s.here ++ trailing s.path))
 
-  cut_more : (more xs : List ℕ) (s : StandOf N T A) → Cut xs s → Cut (more ++ xs) s
+  cut_more : (more xs : List ℕ) (s : OpWithPathOf N T A) → Cut xs s → Cut (more ++ xs) s
   cut_more more xs s c = (more ++ c.0, ap (λ l. more ++ l) c.1 ∙ sym (append_assoc more c.0 (ids s.here ++ trailing s.path)))
 
   mutual
-    cut_op : (b : List (StepOf N T A)) (t : OpOf N T A) (s : StandOf N T A) → In s (stands b t) → Cut (ids t ++ trailing b) s
-    cut_op b (op h rs) s (inl e) = ([], ap (λ (z : StandOf N T A). ids z.here ++ trailing z.path) (sym e))
+    cut_op : (b : List (StepOf N T A)) (t : OpOf N T A) (s : OpWithPathOf N T A) → In s (stands b t) → Cut (ids t ++ trailing b) s
+    cut_op b (op h rs) s (inl e) = ([], ap (λ (z : OpWithPathOf N T A). ids z.here ++ trailing z.path) (sym e))
     cut_op b (op h rs) s (inr k) = cut_more (h.id ∷ []) (regions_ids rs ++ trailing b) s (cut_regions (op h rs) b 0 rs s refl k)
 
-    cut_regions : (p : OpOf N T A) (b : List (StepOf N T A)) (r : ℕ) (rs : RegionsOf N T A) (s : StandOf N T A) → regions_from r (regions p) ≡ rs → In s (regions_stands p b r rs) → Cut (regions_ids rs ++ trailing b) s
+    cut_regions : (p : OpOf N T A) (b : List (StepOf N T A)) (r : ℕ) (rs : RegionsOf N T A) (s : OpWithPathOf N T A) → regions_from r (regions p) ≡ rs → In s (regions_stands p b r rs) → Cut (regions_ids rs ++ trailing b) s
     cut_regions p b r no_regions s e k = absurd k
     cut_regions p b r (region g rs) s e k =
         let later = from_more r g rs (regions p) e in
@@ -83,11 +83,11 @@ module _ {N T A : Type 0} where
               (cut_more (region_ids g) (regions_ids rs ++ trailing b) s (cut_regions p b (r + 1) rs s later l))
         ]
 
-    cut_region : (p : OpOf N T A) (b : List (StepOf N T A)) (r : ℕ) (g : RegionOf N T A) (s : StandOf N T A) → In s (region_stands p b r g) → Cut (region_ids g ++ (regions_ids (regions_from (r + 1) (regions p)) ++ trailing b)) s
+    cut_region : (p : OpOf N T A) (b : List (StepOf N T A)) (r : ℕ) (g : RegionOf N T A) (s : OpWithPathOf N T A) → In s (region_stands p b r g) → Cut (region_ids g ++ (regions_ids (regions_from (r + 1) (regions p)) ++ trailing b)) s
     cut_region p b r empty s k = absurd k
     cut_region p b r (block args os) s k = cut_ops p b r args [] os s k
 
-    cut_ops : (p : OpOf N T A) (b : List (StepOf N T A)) (r : ℕ) (args : List T) (preceding : List (OpOf N T A)) (os : OpsOf N T A) (s : StandOf N T A) → In s (ops_stands p b r args preceding os) → Cut (ops_ids os ++ (regions_ids (regions_from (r + 1) (regions p)) ++ trailing b)) s
+    cut_ops : (p : OpOf N T A) (b : List (StepOf N T A)) (r : ℕ) (args : List T) (preceding : List (OpOf N T A)) (os : OpsOf N T A) (s : OpWithPathOf N T A) → In s (ops_stands p b r args preceding os) → Cut (ops_ids os ++ (regions_ids (regions_from (r + 1) (regions p)) ++ trailing b)) s
     cut_ops p b r args preceding no_ops s k = absurd k
     cut_ops p b r args preceding (next o os) s k =
         let a = step p r args preceding os in
@@ -99,8 +99,8 @@ module _ {N T A : Type 0} where
 
   module _ (t : OpOf N T A) (d : HasDistinctIds t) where
     -- operations inside or after an operation follow it in pre-order
-    pub comes_later : (s : StandOf N T A) (x : ℕ) → In s (stands [] t) → there x (regions_ids (regions s.here) ++ trailing s.path) ≡ true → precedes (stand_id s) x t ≡ true
+    pub comes_later : (s : OpWithPathOf N T A) (x : ℕ) → In s (stands [] t) → there x (regions_ids (regions s.here) ++ trailing s.path) ≡ true → precedes (op_with_path_id s) x t ≡ true
     comes_later s x h k =
         let c = cut_op [] t s h in
-        let is : ids t ≡ c.0 ++ (stand_id s ∷ (regions_ids (regions s.here) ++ trailing s.path)) = sym (append-nil (ids t)) ∙ c.1 ∙ ap (λ l. c.0 ++ (l ++ trailing s.path)) (ids_head s.here) in
-        ap (comes_after (stand_id s) x) is ∙ after_cut (stand_id s) x c.0 (regions_ids (regions s.here) ++ trailing s.path) (subst (IsDistinct eqb) is d) k
+        let is : ids t ≡ c.0 ++ (op_with_path_id s ∷ (regions_ids (regions s.here) ++ trailing s.path)) = sym (append-nil (ids t)) ∙ c.1 ∙ ap (λ l. c.0 ++ (l ++ trailing s.path)) (ids_head s.here) in
+        ap (comes_after (op_with_path_id s) x) is ∙ after_cut (op_with_path_id s) x c.0 (regions_ids (regions s.here) ++ trailing s.path) (subst (IsDistinct eqb) is d) k

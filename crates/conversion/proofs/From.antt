@@ -9,7 +9,7 @@ use Rattle.ir_event.specs.trees.Edits.{each_head, regions_each_head}
 use Rattle.ir_event.specs.trees.Places.{each_list, regions_each_list, without}
 use Rattle.ir_event.specs.store.Nodes.{regions_arguments}
 use Rattle.ir_event.specs.tree_laws.Members.{In}
-use Rattle.ir_event.specs.tree_laws.Stands.{StandOf, stand_id, stands, dropping, edit_stand}
+use Rattle.ir_event.specs.tree_laws.Stands.{OpWithPathOf, op_with_path_id, stands, dropping, edit_stand}
 use Rattle.ir_event.specs.tree_laws.Values.{region_at, arguments_of, arguments_at, type_of_value}
 use Rattle.ir_event.proofs.of_tree_laws.Heads.{each_stands}
 use Rattle.ir_event.proofs.of_tree_laws.Listed.{in_mapped}
@@ -41,9 +41,9 @@ module _ {N T A : Type 0} where
   from_left x t d w o e =
       let s = found_stands w (without x t) o e in
       let k = member_left x t s.0 s.1 in
-      let here : o ≡ each_list (dropping x) k.0.here = sym s.3 ∙ ap (λ (z : StandOf N T A). z.here) k.3 in
+      let here : o ≡ each_list (dropping x) k.0.here = sym s.3 ∙ ap (λ (z : OpWithPathOf N T A). z.here) k.3 in
       let heads : head o ≡ head k.0.here = ap (λ (z : OpOf N T A). head z) here ∙ same_head x (dropping x) k.0.here in
-      let id : stand_id k.0 ≡ w = sym (ap (λ (z : HeadOf N T A). z.id) heads) ∙ ap (λ (z : OpOf N T A). (head z).id) (sym s.3) ∙ s.2 in
+      let id : op_with_path_id k.0 ≡ w = sym (ap (λ (z : HeadOf N T A). z.id) heads) ∙ ap (λ (z : OpOf N T A). (head z).id) (sym s.3) ∙ s.2 in
       record {
         was = k.0.here;
         found = ap (λ z. find z t) (sym id) ∙ stand_found t d k.0 k.1;
@@ -68,9 +68,9 @@ module _ {N T A : Type 0} where
     from_edited t d w o e =
         let s = found_stands w (each_head f t) o e in
         let k = in_mapped (edit_stand f) s.0 (stands [] t) (subst (λ l. In s.0 l) (each_stands f [] t) s.1) in
-        let here : o ≡ each_head f k.0.here = sym s.3 ∙ ap (λ (z : StandOf N T A). z.here) k.2 in
+        let here : o ≡ each_head f k.0.here = sym s.3 ∙ ap (λ (z : OpWithPathOf N T A). z.here) k.2 in
         let heads : head o ≡ f (head k.0.here) = ap (λ (z : OpOf N T A). head z) here ∙ edited_head k.0.here in
-        let id : stand_id k.0 ≡ w = sym (ids (head k.0.here)) ∙ sym (ap (λ (z : HeadOf N T A). z.id) heads) ∙ ap (λ (z : OpOf N T A). (head z).id) (sym s.3) ∙ s.2 in
+        let id : op_with_path_id k.0 ≡ w = sym (ids (head k.0.here)) ∙ sym (ap (λ (z : HeadOf N T A). z.id) heads) ∙ ap (λ (z : OpOf N T A). (head z).id) (sym s.3) ∙ s.2 in
         record {
           was = k.0.here;
           found = ap (λ z. find z t) (sym id) ∙ stand_found t d k.0 k.1;

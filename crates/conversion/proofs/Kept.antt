@@ -14,7 +14,7 @@ use Rattle.ir_event.specs.trees.Places.{place_of}
 use Rattle.ir_event.specs.trees.Meaning.{Operation}
 use Rattle.ir_event.specs.store.Nodes.{NodeOf, node_of, regions_arguments}
 use Rattle.ir_event.specs.tree_laws.Members.{In}
-use Rattle.ir_event.specs.tree_laws.Stands.{StandOf, stand_id, stands}
+use Rattle.ir_event.specs.tree_laws.Stands.{OpWithPathOf, op_with_path_id, stands}
 use Rattle.ir_event.proofs.of_tree_laws.Around.{place_of_member, present_stand}
 use Rattle.ir_event.proofs.of_tree_laws.Listed.{both}
 use Rattle.ir_event.proofs.of_tree_laws.Members.{stand, has_around}
@@ -95,8 +95,8 @@ rule_at t n insertion o p e c = rule_is t n insertion o ∙ ap (λ a. given a of
     of : One → Option (List Edit)
     of q = cond (named cast_name q.name) (unrealized t n insertion o q) (when (among index_casts q.name) (through_index t n insertion o q))
 
-way_at : (t : Operation) (n : ℕ) (insertion : Place) (o : Operation) (p : One) → one (head o) ≡ Some p → named cast_name p.name ≡ true → (es : List Edit) → rule CastBack t n insertion o ≡ Some es → Way t p
-way_at t n insertion o p e c es r = way_from t n insertion o p es (sym (rule_at t n insertion o p e c) ∙ r)
+session_setting_at : (t : Operation) (n : ℕ) (insertion : Place) (o : Operation) (p : One) → one (head o) ≡ Some p → named cast_name p.name ≡ true → (es : List Edit) → rule CastBack t n insertion o ≡ Some es → Way t p
+session_setting_at t n insertion o p e c es r = way_from t n insertion o p es (sym (rule_at t n insertion o p e c) ∙ r)
 
 one_name : (name : List ℕ) (vs : List Value) (ts : List TypeTerm) (p : One) → one_from name vs ts ≡ Some p → (p.name ≡ name) × (vs ≡ p.first ∷ [])
 one_name name [] ts p e = absurd cc
@@ -136,7 +136,7 @@ collapses_from m x es c e =
       verified = w.0;
       ends = p.0;
       one_is = p.1;
-      way = way_at m.tree m.next f.0 o.0 p.0 p.1 cast es w.1;
+      way = session_setting_at m.tree m.next f.0 o.0 p.0 p.1 cast es w.1;
     }
 
 collapses_to : (m : Module) (x : ℕ) → is_cast x m.tree ≡ true → Collapses m x → edits_of CastBack m x ≡ None → ⊥
@@ -156,7 +156,7 @@ placed : (t : Operation) → HasDistinctIds t → (x : ℕ) → has_id x t ≡ t
 placed t d x h root =
     let s = present_stand [] t x h in
     elim (has_around [] t s.0 s.1) [
-      | inl k ↦ absurd (true≢false (sym (eq-eqb (head t).id x (ap (λ (z : StandOf (List ℕ) TypeTerm AttrTerm). stand_id z) (sym k) ∙ s.2)) ∙ root))
+      | inl k ↦ absurd (true≢false (sym (eq-eqb (head t).id x (ap (λ (z : OpWithPathOf (List ℕ) TypeTerm AttrTerm). op_with_path_id z) (sym k) ∙ s.2)) ∙ root))
       | inr w ↦
           let mem : In (stand s.0.here (w.0 ∷ w.1)) (stands [] t) = subst (λ l. In (stand s.0.here l) (stands [] t)) w.2 s.1 in
           let at = place_of_member t d s.0.here w.0 w.1 mem in

@@ -3,7 +3,7 @@ pub mod Leading
 pub mod Noting
 pub mod Replied
 pub mod Rising
-pub mod Seen
+pub mod VisibleValues
 pub mod Trying
 pub mod Turns
 pub mod Walking

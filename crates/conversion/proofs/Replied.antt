@@ -9,7 +9,7 @@ use Rattle.patterns.specs.Held.{module_held, open_marks}
 use Rattle.conversion_base.specs.Conversion.{Ended, converted, given_up}
 use Rattle.conversion.specs.Benches.{seen}
 use Rattle.conversion.specs.Converting.{conversion_reply, ended_as, ending}
-use Rattle.conversion.specs.States.{Converts, Wants}
+use Rattle.conversion.specs.States.{Converts, FaultIsOutOfCapacity}
 use Rattle.conversion.specs.declared.fault.Fault.{Fault}
 
 module _ {B : Type 0} (meaning : B → Listener) (to : Module → Ended) (a b : Benched B) (marks : open_marks b.transaction ≡ open_marks a.transaction) where
@@ -19,7 +19,7 @@ module _ {B : Type 0} (meaning : B → Listener) (to : Module → Ended) (a b : 
   abbrev answer_with : Result ℕ Fault → Answer
   answer_with r = record { reply = conversion_reply r; shows = Nothing; held = module_held b.transaction; marks = open_marks b.transaction }
 
-  unmade : (f : Fault) → Wants b.transaction.ctx f → module_held b.transaction ≡ module_held a.transaction → IsUnmade before (Change (ending to)) (answer_with (Err f))
+  unmade : (f : Fault) → FaultIsOutOfCapacity b.transaction.ctx f → module_held b.transaction ≡ module_held a.transaction → IsUnmade before (Change (ending to)) (answer_with (Err f))
   unmade f w held = elim w.1 [
     | inl memory ↦ inl (λ i. record { reply = fault_reply (memory i) (w.0 i); shows = Nothing; held = held i; marks = marks i })
     | inr full ↦ inr (refl, λ i. record { reply = fault_reply (full.0 i) (w.0 i); shows = Nothing; held = held i; marks = marks i })

@@ -19,7 +19,7 @@ use Rattle.ir_event.specs.trees.WellFormed.{IsWellFormed}
 use Rattle.ir_event.proofs.of_trees.Replaced.{same_value_true}
 use Rattle.ir_event.specs.tree_laws.Members.{In}
 use Rattle.ir_event.specs.tree_laws.Reads.{precedes}
-use Rattle.ir_event.specs.tree_laws.Stands.{StandOf, dominated_by, dropping}
+use Rattle.ir_event.specs.tree_laws.Stands.{OpWithPathOf, dominated_by, dropping}
 use Rattle.ir_event.proofs.of_tree_laws.Around.{left_apart}
 use Rattle.ir_event.proofs.of_tree_laws.Wellformed.{from_wellformed}
 use Rattle.ir_event.proofs.of_tree_laws.Heads.{each_id}
@@ -162,7 +162,7 @@ module _ (m : Module) (w : IsWellFormed is_isolated m) where
     gone_from u r o e =
         let s = found_stands x (without x u) o e in
         let k = member_left x u s.0 s.1 in
-        let heads : head s.0.here ≡ head k.0.here = ap (λ (z : StandOf (List ℕ) TypeTerm AttrTerm). head z.here) k.3 ∙ same_head x (dropping x) k.0.here in
+        let heads : head s.0.here ≡ head k.0.here = ap (λ (z : OpWithPathOf (List ℕ) TypeTerm AttrTerm). head z.here) k.3 ∙ same_head x (dropping x) k.0.here in
         left_apart x u k.0 k.1 k.2 r (sym (ap (λ (h : Header). h.id) heads) ∙ s.2)
 
     module _ (f : Header → Header) (ids : (h : Header) → (f h).id ≡ h.id) (names : (h : Header) → (f h).name ≡ h.name) (from : From f m.tree n.tree) (same_root : (head n.tree).id ≡ (head m.tree).id) where

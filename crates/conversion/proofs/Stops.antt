@@ -14,9 +14,9 @@ use Rattle.conversion.specs.declared.fault.Fault.{Fault}
 use Rattle.conversion.specs.declared.match_failure.MatchFailure.{MatchFailure}
 use Rattle.conversion.specs.declared.conversion_error.ConversionError.{ConversionError}
 use Rattle.conversion.specs.declared.legalization.Legalization.{Legalization}
-use Rattle.conversion.specs.Converting.{conversion_to, stay_to}
+use Rattle.conversion.specs.Converting.{conversion_to, match_failure_to}
 use Rattle.conversion.specs.States.{State, Comes, Ends, Faults, StopsAt}
-use Rattle.conversion.specs.MatchFailures.{last_rule, match_failure_by, unlegalised_op, reported_failure, staying, stays_on}
+use Rattle.conversion.specs.MatchFailures.{last_rule, match_failure_by, unlegalised_op, reported_failure, staying, match_failure_after}
 use Rattle.conversion.proofs.Turns.{failed_ends, wanted}
 
 -- a refusal that isn't about an operation
@@ -35,7 +35,7 @@ after_stays e z n s = s ∙ sym (told_none e.fault.id) ∙ ap (λ (y : Option (�
 
 -- no rule succeeded
 pub failed_stays : (next : Module → Option (ℕ × MatchFailure)) (by : Module → MatchFailure) (x : ℕ) (o : Outcome) (t : Legalization) (a b : State) (e : ConversionError) → Comes o (Ok t) a b → t.legal ≡ false → StopsAt t.limit_reached x (by b.held) e
-    → e.failure ≡ reported_failure e.fault.id (stays_on next x (by a.held) o)
+    → e.failure ≡ reported_failure e.fault.id (match_failure_after next x (by a.held) o)
 failed_stays next by x (legalised p ks deep) t a b e c is h = absurd (true≢false (sym c.0 ∙ is))
 failed_stays next by x (failed deep) t a b e c is (inl h) =
     h.1.1 ∙ sym (ap (λ (i : Option ℕ). reported_failure i (Some (x, by b.held))) h.1.0) ∙ ap (λ (m : Module). reported_failure e.fault.id (Some (x, by m))) c.1.1
@@ -48,7 +48,7 @@ failed_at x o t a b s e c is (inr h) = wanted (ended_at x o) e.fault b.things (h
 
 -- ---- operations in turn
 
-goes_stay : (f : Module → Option (ℕ × MatchFailure)) (x : ℕ) (s : MatchFailure) (o : Outcome) (ks : List AppliedRule) (n : State) → Ends (ended_at x o) (Ok ks) n → f n.held ≡ stays_on f x s o
+goes_stay : (f : Module → Option (ℕ × MatchFailure)) (x : ℕ) (s : MatchFailure) (o : Outcome) (ks : List AppliedRule) (n : State) → Ends (ended_at x o) (Ok ks) n → f n.held ≡ match_failure_after f x s o
 goes_stay f x s (legalised p js deep) ks n h = ap f h.1
 goes_stay f x s (failed deep) ks n h = absurd h
 goes_stay f x s (stopped e) ks n h = absurd h
@@ -65,7 +65,7 @@ module _ (g : Aim) (all : List ℕ) (start : State) where
       goes_stay (staying g (take (length xs - 1) (drop 1 xs))) x (match_failure_by (last_rule g.rules) here.held x) (standing (legalization_of g g.depth) here.held x) ks next c ∙ same_rest xs x here l z h
 
   pub stays_stops : (xs : List ℕ) (x : ℕ) (here : State) (e : ConversionError) → 1 ≤ length xs → x ≡ get_or xs 0 x → StillStays xs here
-      → ((next : Module → Option (ℕ × MatchFailure)) → e.failure ≡ reported_failure e.fault.id (stays_on next x (match_failure_by (last_rule g.rules) here.held x) (standing (legalization_of g g.depth) here.held x)))
+      → ((next : Module → Option (ℕ × MatchFailure)) → e.failure ≡ reported_failure e.fault.id (match_failure_after next x (match_failure_by (last_rule g.rules) here.held x) (standing (legalization_of g g.depth) here.held x)))
       → e.failure ≡ reported_failure e.fault.id (staying g all start.held)
   stays_stops xs x here e l z h k =
       k (staying g (take (length xs - 1) (drop 1 xs))) ∙ ap (λ (y : Option (ℕ × MatchFailure)). reported_failure e.fault.id y) (same_rest xs x here l z h)
@@ -87,7 +87,7 @@ stay_accepted g m a = ap (λ b. if b then staying g (ids m.tree) m else None) a
 -- ---- the operation of the match failure is that of the fault
 
 stay_step : (f : Module → Option (ℕ × MatchFailure)) (k : Module → Ended) (x : ℕ) (by : MatchFailure) (s : ℕ × MatchFailure) → ((m : Module) → f m ≡ Some s → (limit_reached : Bool) × (k m ≡ given_up (failing limit_reached) (Some s.0)))
-    → (o : Outcome) → stays_on f x by o ≡ Some s → (limit_reached : Bool) × (next_part k (ended_at x o) ≡ given_up (failing limit_reached) (Some s.0))
+    → (o : Outcome) → match_failure_after f x by o ≡ Some s → (limit_reached : Bool) × (next_part k (ended_at x o) ≡ given_up (failing limit_reached) (Some s.0))
 stay_step f k x by s h (legalised n ks limit_reached) e = let r = h n e in (r.0, ap (ended_after ks) r.1)
 stay_step f k x by s h (failed limit_reached) e =
     let is : (x, by) ≡ s = cc in
@@ -107,7 +107,7 @@ all_stay_ends g m s e = go (is_accepted g) e
     go false h = absurd cc
 
 -- a reported match failure is about the operation of the fault
-pub fault_is_for : (o : Option Aim) (m : Module) (f : Fault) (c : ContextModel) (x : ℕ) (s : ℕ × MatchFailure) → Faults (conversion_to o m) f c → f.id ≡ Some x → stay_to o m ≡ Some s → s.0 ≡ x
+pub fault_is_for : (o : Option Aim) (m : Module) (f : Fault) (c : ContextModel) (x : ℕ) (s : ℕ × MatchFailure) → Faults (conversion_to o m) f c → f.id ≡ Some x → match_failure_to o m ≡ Some s → s.0 ≡ x
 fault_is_for None m f c x s h i k = absurd cc
 fault_is_for (Some g) m f c x s h i k =
     let e = all_stay_ends g m s k in

@@ -17,7 +17,7 @@ use Rattle.conversion_base.specs.declared.applied_rule.AppliedRule.{AppliedRule}
 use Rattle.conversion_base.specs.RuleNames.{is_converting}
 use Rattle.conversion_base.specs.Targets.{Aim, is_legal}
 use Rattle.conversion_base.specs.Legalization.{Outcome, legalised, failed, stopped, trailing, and_then, or_else, standing, each_of, after_rule, first_rule, legalization_of, made_since}
-use Rattle.conversion.specs.States.{State, Applied, IsWant, IsLegalization, ToldAfter, Stops, Comes, ComesAfter, Closed, Leads, marked, marked_transaction, applied_since, went_well}
+use Rattle.conversion.specs.States.{State, Applied, IsOutOfCapacity, IsLegalization, ReportsAfter, Stops, Comes, ComesAfter, Closed, Leads, marked, marked_transaction, applied_since, went_well}
 use Rattle.conversion.proofs.Noting.{noted_closed}
 
 -- ---- outcomes after other outcomes
@@ -36,7 +36,7 @@ after_both js ks limit_reached deep (legalised m ns d) = λ i. legalised m (appe
 after_both js ks limit_reached deep (failed d) = ap failed (or_assoc limit_reached deep d)
 after_both js ks limit_reached deep (stopped e) = refl
 
-wants : (o : Outcome) (c : ContextModel) (e : Refusal) → IsWant c e → Stops o c e
+wants : (o : Outcome) (c : ContextModel) (e : Refusal) → IsOutOfCapacity c e → Stops o c e
 wants (legalised p ks deep) c e w = w
 wants (failed deep) c e w = w
 wants (stopped f) c e w = inr w
@@ -135,7 +135,7 @@ module _ (go : Module → ℕ → Outcome) (all : Outcome) (id end : ℕ) where
   making_stops here next ks limit_reached e l h c =
       subst (λ (o : Outcome). Stops o next.things e) (split here ks limit_reached l h) (stops_after ks limit_reached _ next.things e (stops_then _ (standing go here.held id) next.things e c.0))
 
-  fails : (f : Module → Outcome) (o : Outcome) (ks : List AppliedRule) (limit_reached : Bool) (t u : Legalization) (m n : Module) → IsLegalization o t m n → u.legal ≡ t.legal → u.limit_reached ≡ (limit_reached || t.limit_reached) → u.legal ≡ false → ToldAfter (trailing ks limit_reached (and_then f o)) u n
+  fails : (f : Module → Outcome) (o : Outcome) (ks : List AppliedRule) (limit_reached : Bool) (t u : Legalization) (m n : Module) → IsLegalization o t m n → u.legal ≡ t.legal → u.limit_reached ≡ (limit_reached || t.limit_reached) → u.legal ≡ false → ReportsAfter (trailing ks limit_reached (and_then f o)) u n
   fails f (legalised q js deep) ks limit_reached t u m n c l d is = absurd (true≢false (sym c.0 ∙ sym l ∙ is))
   fails f (failed deep) ks limit_reached t u m n c l d is = (is, d ∙ ap (λ b. limit_reached || b) c.1.0)
   fails f (stopped e) ks limit_reached t u m n c l d is = absurd c
@@ -143,7 +143,7 @@ module _ (go : Module → ℕ → Outcome) (all : Outcome) (id end : ℕ) where
   pub making_fails : (here next : State) (ks : List AppliedRule) (limit_reached : Bool) (t u : Legalization) → id < end → Making go all id end here ks limit_reached → Comes (standing go here.held id) (Ok t) here next
       → u.legal ≡ t.legal → u.limit_reached ≡ (limit_reached || t.limit_reached) → u.legal ≡ false → ComesAfter all (Ok u) next
   making_fails here next ks limit_reached t u l h c legal d is =
-      subst (λ (o : Outcome). ToldAfter o u next.held) (split here ks limit_reached l h) (fails _ (standing go here.held id) ks limit_reached t u here.held next.held c legal d is)
+      subst (λ (o : Outcome). ReportsAfter o u next.held) (split here ks limit_reached l h) (fails _ (standing go here.held id) ks limit_reached t u here.held next.held c legal d is)
 
   goes_on : (f : Module → Outcome) (o : Outcome) (ks : List AppliedRule) (limit_reached : Bool) (t u : Legalization) (m n : Module) → IsLegalization o t m n → u.legal ≡ t.legal → u.limit_reached ≡ (limit_reached || t.limit_reached) → u.legal ≡ true
       → trailing (ks ++ t.applied.items) u.limit_reached (f n) ≡ trailing ks limit_reached (and_then f o)
@@ -162,7 +162,7 @@ module _ (go : Module → ℕ → Outcome) (all : Outcome) (id end : ℕ) where
   making_done here ks limit_reached u l h is k d =
       let e : end - id ≡ 0 = omega arith in
       let o : legalised here.held ks limit_reached ≡ all = (λ i. legalised here.held (sym (append-nil ks) i) (sym (or-false limit_reached) i)) ∙ sym (ap (λ j. trailing ks limit_reached (each_of go (range_with_len id j) here.held)) e) ∙ h in
-      subst (λ (p : Outcome). ToldAfter p u here.held) o (is, (k, (d, refl)))
+      subst (λ (p : Outcome). ReportsAfter p u here.held) o (is, (k, (d, refl)))
 
 -- running out of memory ends the attempt, whatever its outcome
 pub wanted_after : (o : Outcome) (e : Refusal) (here : State) → e ≡ Memory → ComesAfter o (Err e) here

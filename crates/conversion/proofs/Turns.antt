@@ -17,7 +17,7 @@ use Rattle.conversion_base.specs.Legalization.{Outcome, legalised, failed, stopp
 use Rattle.conversion_base.specs.Listing.{casts_among}
 use Rattle.conversion_base.specs.Reconciling.{is_cast, go_on, next_collapse, collapsed, all_collapsed}
 use Rattle.conversion_base.specs.Conversion.{Ended, converted, given_up, ended_after, next_part, in_turn, ended, ended_at, failing, cast_ended, casts_left, checked, has_no_cast, later_parts}
-use Rattle.conversion.specs.States.{State, Applied, Refuses, AnswersAfter, IsWant, Comes, Wants, Faults, Stands, Ends, EndsWith, EndsAfter, none_of, Converts, Closed, marked}
+use Rattle.conversion.specs.States.{State, Applied, Refuses, AnswersAfter, IsOutOfCapacity, Comes, FaultIsOutOfCapacity, Faults, Stands, Ends, EndsWith, EndsAfter, none_of, Converts, Closed, marked}
 use Rattle.conversion.specs.Converting.{applied_rules}
 use Rattle.conversion_base.proofs.Gone.{no_cast_is_left}
 use Rattle.conversion.proofs.Trying.{noted}
@@ -25,7 +25,7 @@ use Rattle.ir_event.proofs.of_types.Truths.{rest_at, times_more}
 
 -- ---- one end after another
 
-pub wanted : (e : Ended) (f : Fault) (c : ContextModel) → Wants c f → Faults e f c
+pub wanted : (e : Ended) (f : Fault) (c : ContextModel) → FaultIsOutOfCapacity c f → Faults e f c
 wanted (converted m ks) f c w = w
 wanted (given_up r x) f c w = inr w
 
@@ -110,10 +110,10 @@ module _ (most : ℕ) (start : State) where
       (ends (next_collapse here.held) here.held next.held start.held (collapsed (times - 1)) (subst (λ c. Applied (next_collapse here.held) c here.held next.held) t a))
 
   given : (a : Rewrite) (m p : Module) (f : Module → Rewrite) (g : Fault) (c : ContextModel) (e : Refusal) → Refuses a c e → g.refusal ≡ e → g.id ≡ None → Faults (ended (go_on f m a) p) g c
-  given none m p f g c e r i n = (n, subst (IsWant c) (sym i) r)
-  given (becomes q) m p f g c e r i n = wanted (ended (f q) p) g c (n, subst (IsWant c) (sym i) r)
+  given none m p f g c e r i n = (n, subst (IsOutOfCapacity c) (sym i) r)
+  given (becomes q) m p f g c e r i n = wanted (ended (f q) p) g c (n, subst (IsOutOfCapacity c) (sym i) r)
   given (refused d) m p f g c e (inl is) i n = inl (i ∙ is, n)
-  given (refused d) m p f g c e (inr w) i n = inr (n, subst (IsWant c) (sym i) w)
+  given (refused d) m p f g c e (inr w) i n = inr (n, subst (IsOutOfCapacity c) (sym i) w)
 
   pub collapsing_stops : (times : ℕ) (here next : State) (e : Refusal) (f : Fault) → 0 < times → Collapsing most start times here → AnswersAfter (next_collapse here.held) (Err e) here next → f.refusal ≡ e → f.id ≡ None
       → Ends (ended (collapsed most start.held) start.held) (Err f) next
@@ -129,10 +129,10 @@ module _ (most : ℕ) (start : State) where
 -- ---- casts
 
 pub cast_faults : (x : ℕ) (a : Rewrite) (c : ContextModel) (e : Refusal) (f : Fault) → Refuses a c e → f.refusal ≡ e → f.id ≡ None → Faults (cast_ended x a) f c
-cast_faults x none c e f r i n = inr (n, subst (IsWant c) (sym i) r)
-cast_faults x (becomes q) c e f r i n = (n, subst (IsWant c) (sym i) r)
+cast_faults x none c e f r i n = inr (n, subst (IsOutOfCapacity c) (sym i) r)
+cast_faults x (becomes q) c e f r i n = (n, subst (IsOutOfCapacity c) (sym i) r)
 cast_faults x (refused d) c e f (inl is) i n = inl (i ∙ is, n)
-cast_faults x (refused d) c e f (inr w) i n = inr (n, subst (IsWant c) (sym i) w)
+cast_faults x (refused d) c e f (inr w) i n = inr (n, subst (IsOutOfCapacity c) (sym i) w)
 
 -- a part that applies no rule
 pub part_none : (a : Module → Ended) (e : Ended) (ks : List AppliedRule) (n m : Module) → Stands e ks n → Stands (a n) [] m → Stands (next_part a e) ks m
@@ -155,13 +155,13 @@ failed_ends x (failed deep) t a b f c is r i = inl (r ∙ ap failing c.1.0, i)
 failed_ends x (stopped e) t a b f c is r i = absurd c
 
 pub stopped_ends : (x : ℕ) (o : Outcome) (e : Refusal) (a b : State) (f : Fault) → Comes o (Err e) a b → f.refusal ≡ e → f.id ≡ None → Ends (ended_at x o) (Err f) b
-stopped_ends x (legalised p ks deep) e a b f c r i = (i, subst (IsWant b.things) (sym r) c.0)
-stopped_ends x (failed deep) e a b f c r i = inr (i, subst (IsWant b.things) (sym r) c.0)
+stopped_ends x (legalised p ks deep) e a b f c r i = (i, subst (IsOutOfCapacity b.things) (sym r) c.0)
+stopped_ends x (failed deep) e a b f c r i = inr (i, subst (IsOutOfCapacity b.things) (sym r) c.0)
 stopped_ends x (stopped d) e a b f c r i = stop c.0
   where
-    stop : (e ≡ d) ⊎ IsWant b.things e → ((f.refusal ≡ d) × (f.id ≡ None)) ⊎ Wants b.things f
+    stop : (e ≡ d) ⊎ IsOutOfCapacity b.things e → ((f.refusal ≡ d) × (f.id ≡ None)) ⊎ FaultIsOutOfCapacity b.things f
     stop (inl is) = inl (r ∙ is, i)
-    stop (inr w) = inr (i, subst (IsWant b.things) (sym r) w)
+    stop (inr w) = inr (i, subst (IsOutOfCapacity b.things) (sym r) w)
 
 -- ---- a conversion under a mark
 

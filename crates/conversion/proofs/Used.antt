@@ -8,7 +8,7 @@ use Rattle.ir_event.specs.trees.Ids.{HasDistinctIds, find}
 use Rattle.ir_event.specs.trees.Edits.{each_head, put_value, put_values, with_value_replaced}
 use Rattle.ir_event.specs.trees.Places.{without}
 use Rattle.ir_event.specs.tree_laws.Members.{In}
-use Rattle.ir_event.specs.tree_laws.Stands.{StepOf, StandOf, stands, gone_in, is_gone, dropping, edit_step, edit_stand, left_stand}
+use Rattle.ir_event.specs.tree_laws.Stands.{StepOf, OpWithPathOf, stands, gone_in, is_gone, dropping, edit_step, edit_stand, left_stand}
 use Rattle.ir_event.proofs.of_tree_laws.Around.{Within, gone_within}
 use Rattle.ir_event.proofs.of_tree_laws.Heads.{each_stands}
 use Rattle.ir_event.proofs.of_tree_laws.Listed.{bool_cases, all_each, in_map}
@@ -39,7 +39,7 @@ given_among z v (Arg y r k ∷ vs) e (inr h) = given_among z v vs e h
 module _ {N T A : Type 0} where
   -- a user of the operation
   pub record User (z : ℕ) (t : OpOf N T A) : Type 0 where
-    pub at : StandOf N T A
+    pub at : OpWithPathOf N T A
     pub there : In at (stands [] t)
     pub value : Value
     pub among : In value (head at.here).operands
@@ -48,25 +48,25 @@ module _ {N T A : Type 0} where
   pub user : (z : ℕ) (t : OpOf N T A) → is_unused z t ≡ false → User z t
   user z t e =
       let p = λ (v : Value). not (is_result_of z v) in
-      let s = some_fails (λ (s : StandOf N T A). list_all p (head s.here).operands) (stands [] t) (stands_every (λ o. list_all p (head o).operands) [] t ∙ e) in
+      let s = some_fails (λ (s : OpWithPathOf N T A). list_all p (head s.here).operands) (stands [] t) (stands_every (λ o. list_all p (head o).operands) [] t ∙ e) in
       let v = some_fails p (head s.0.here).operands s.2 in
       record { at = s.0; there = s.1; value = v.0; among = v.1; of = not-false (is_result_of z v.0) v.2 }
 
-  none_of : (z : ℕ) (t : OpOf N T A) → is_unused z t ≡ true → (s : StandOf N T A) → In s (stands [] t) → (v : Value) → In v (head s.here).operands → is_result_of z v ≡ true → ⊥
+  none_of : (z : ℕ) (t : OpOf N T A) → is_unused z t ≡ true → (s : OpWithPathOf N T A) → In s (stands [] t) → (v : Value) → In v (head s.here).operands → is_result_of z v ≡ true → ⊥
   none_of z t e s h v k i =
       let p = λ (v : Value). not (is_result_of z v) in
-      let all = all_each (λ (s : StandOf N T A). list_all p (head s.here).operands) (stands [] t) (stands_every (λ o. list_all p (head o).operands) [] t ∙ e) s h in
+      let all = all_each (λ (s : OpWithPathOf N T A). list_all p (head s.here).operands) (stands [] t) (stands_every (λ o. list_all p (head o).operands) [] t ∙ e) s h in
       true≢false (sym (all_each p (head s.here).operands all v k) ∙ ap not i)
 
   -- if no operation uses it any more, its user was erased
-  gone_left : (x z : ℕ) (t : OpOf N T A) → is_unused z (without x t) ≡ true → (s : StandOf N T A) → In s (stands [] t) → (v : Value) → In v (head s.here).operands → is_result_of z v ≡ true → is_gone x s ≡ true
+  gone_left : (x z : ℕ) (t : OpOf N T A) → is_unused z (without x t) ≡ true → (s : OpWithPathOf N T A) → In s (stands [] t) → (v : Value) → In v (head s.here).operands → is_result_of z v ≡ true → is_gone x s ≡ true
   gone_left x z t e s h v k i = elim (bool_cases (is_gone x s)) [
     | inl g ↦ g
     | inr g ↦ absurd (none_of z (without x t) e (left_stand x s) (left_member x t s h g) v (subst (λ (w : HeadOf N T A). In v w.operands) (sym (same_head x (dropping x) s.here)) k) i)
   ]
 
   -- a user with nothing inside is the erased operation itself
-  bare_gone : (x : ℕ) (t o : OpOf N T A) → HasDistinctIds t → find x t ≡ Some o → regions o ≡ no_regions → (s : StandOf N T A) → In s (stands [] t) → is_gone x s ≡ true → s.here ≡ o
+  bare_gone : (x : ℕ) (t o : OpOf N T A) → HasDistinctIds t → find x t ≡ Some o → regions o ≡ no_regions → (s : OpWithPathOf N T A) → In s (stands [] t) → is_gone x s ≡ true → s.here ≡ o
   bare_gone x t o d f bare s h g = go w.here (w.step_in ∷ w.path) (ap (λ (z : OpOf N T A). regions z) same ∙ bare) w.inner ∙ same
     where
       w : Within x t s
@@ -76,7 +76,7 @@ module _ {N T A : Type 0} where
       same = (let two : Some w.here ≡ Some o = sym (stand_found t d (stand w.here (w.step_in ∷ w.path)) w.there) ∙ ap (λ z. find z t) w.id ∙ f in cc)
 
       go : (p : OpOf N T A) (path : List (StepOf N T A)) → regions p ≡ no_regions → In s (stands path p) → s.here ≡ p
-      go (op k no_regions) path e (inl i) = ap (λ (z : StandOf N T A). z.here) i
+      go (op k no_regions) path e (inl i) = ap (λ (z : OpWithPathOf N T A). z.here) i
       go (op k no_regions) path e (inr i) = absurd i
       go (op k (region g rs)) path e i = absurd cc
 

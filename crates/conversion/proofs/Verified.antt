@@ -8,7 +8,7 @@ use Rattle.ir_event.specs.trees.Tree.{head}
 use Rattle.ir_event.specs.trees.Ids.{find}
 use Rattle.ir_event.specs.trees.Meaning.{Operation}
 use Rattle.ir_event.specs.store.Nodes.{NodeOf, node_of}
-use Rattle.ir_event.specs.tree_laws.Stands.{StandOf, stand_of}
+use Rattle.ir_event.specs.tree_laws.Stands.{OpWithPathOf, op_with_path}
 use Rattle.ir_event.proofs.of_tree_laws.Readings.{stands_find}
 use Rattle.op_registry.specs.declared.definition.TypeRule.TheVariants.{Any}
 use Rattle.op_registry.specs.declared.own.Own.TheVariants.{Pure}
@@ -18,7 +18,7 @@ use Rattle.listeners_support.specs.Surroundings.{OuterOf, surround, surroundings
 use Rattle.ir_verify_base.specs.Fits.{Known, Surroundings, fits, first_fit, known_of, there}
 use Rattle.ir_verify_base.specs.Shapes.{breaks_1, breaks_3, breaks_5, breaks_12, breaks_13, is_well_shaped}
 use Rattle.ir_verify_base.specs.TypeRules.{breaks_2, breaks_4}
-use Rattle.ir_verify.specs.Breaks.{told_of, broken_rules_in, numbers_from, broken}
+use Rattle.ir_verify.specs.Breaks.{counted_rules, broken_rules_in, numbers_from, broken}
 use Rattle.patterns_base.specs.Looks.{Header, breaks_none, is_verified}
 use Rattle.patterns_base.specs.Words.{named}
 use Rattle.conversion_base.specs.Targets.{cast_name}
@@ -55,8 +55,8 @@ module _ (h : Header) (arguments : List (Option (List TypeTerm))) where
   around lasts types outer = record { node = record { head = record h { name = cast_name }; arguments = arguments }; lasts = lasts; types = types; outer = outer }
 
   -- the rules on its form, and on the types
-  abbrev told_by : Bool → Bool → List Bool
-  told_by operands results =
+  abbrev reported_by : Bool → Bool → List Bool
+  reported_by operands results =
       (let n = (around [] [] None).node in
       let w = is_well_shaped cast_row n in
       breaks_1 cast_row n
@@ -73,7 +73,7 @@ module _ (h : Header) (arguments : List (Option (List TypeTerm))) where
       ∷ (w && false)
       ∷ [])
 
-  told_is : (lasts : List (Option (List ℕ))) (types : List (Option TypeTerm)) (outer : Option (OuterOf (List ℕ) TypeTerm AttrTerm)) → told_of cast_row (around lasts types outer) ≡ told_by (breaks_2 cast_row (around lasts types outer)) (breaks_4 cast_row (around lasts types outer))
+  told_is : (lasts : List (Option (List ℕ))) (types : List (Option TypeTerm)) (outer : Option (OuterOf (List ℕ) TypeTerm AttrTerm)) → counted_rules cast_row (around lasts types outer) ≡ reported_by (breaks_2 cast_row (around lasts types outer)) (breaks_4 cast_row (around lasts types outer))
   unfolding row_of rows
   told_is lasts types outer = refl
 
@@ -81,7 +81,7 @@ module _ (h : Header) (arguments : List (Option (List TypeTerm))) where
   told_alike l k ts us o p =
       ap (λ r. broken_rules_in r (around l ts o)) row_is
       ∙ told_is l ts o
-      ∙ (λ i. told_by (operands i) (results i))
+      ∙ (λ i. reported_by (operands i) (results i))
       ∙ sym (told_is k us p)
       ∙ sym (ap (λ r. broken_rules_in r (around k us p)) row_is)
     where
@@ -105,9 +105,9 @@ broken_alike s r same e =
 -- ---- in two trees
 
 found_around : (x : ℕ) (t o : Operation) → find x t ≡ Some o → (s : Surroundings) × (surroundings x t ≡ Some s) × (s.node ≡ node_of o)
-found_around x t o e = go (stand_of x t) refl (stands_find x [] t ∙ e)
+found_around x t o e = go (op_with_path x t) refl (stands_find x [] t ∙ e)
   where
-    go : (a : Option (StandOf (List ℕ) TypeTerm AttrTerm)) → stand_of x t ≡ a → option_map (λ (z : StandOf (List ℕ) TypeTerm AttrTerm). z.here) a ≡ Some o → (s : Surroundings) × (surroundings x t ≡ Some s) × (s.node ≡ node_of o)
+    go : (a : Option (OpWithPathOf (List ℕ) TypeTerm AttrTerm)) → op_with_path x t ≡ a → option_map (λ (z : OpWithPathOf (List ℕ) TypeTerm AttrTerm). z.here) a ≡ Some o → (s : Surroundings) × (surroundings x t ≡ Some s) × (s.node ≡ node_of o)
     go None i k = absurd cc
     go (Some z) i k = (let same : z.here ≡ o = cc in (surround t z, ap (option_map (surround t)) i, ap (λ (q : Operation). node_of q) same))
 

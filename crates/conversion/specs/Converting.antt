@@ -56,9 +56,9 @@ applied_rules (converted m ks) = ks
 applied_rules (given_up e x) = []
 
 -- why an operation can't be legalized, if there is an aim
-abbrev pub stay_to : Option Aim → Module → Option (ℕ × MatchFailure)
-stay_to None m = None
-stay_to (Some g) m = unlegalised_op g m
+abbrev pub match_failure_to : Option Aim → Module → Option (ℕ × MatchFailure)
+match_failure_to None m = None
+match_failure_to (Some g) m = unlegalised_op g m
 
 -- the transformation of a command
 abbrev pub conversion : Target → Transformation

@@ -27,15 +27,15 @@ match_failure_by None m x = NoRule
 match_failure_by (Some r) m x = unhelpful r (reason_of r m x)
 
 -- the first of some operations that can't be legalized, with the reason; if this one succeeded, the later ones decide
-abbrev pub stays_on : (Module → Option (ℕ × MatchFailure)) → ℕ → MatchFailure → Outcome → Option (ℕ × MatchFailure)
-stays_on next x s (legalised n ks limit_reached) = next n
-stays_on next x s (failed limit_reached) = Some (x, s)
-stays_on next x s (stopped e) = None
+abbrev pub match_failure_after : (Module → Option (ℕ × MatchFailure)) → ℕ → MatchFailure → Outcome → Option (ℕ × MatchFailure)
+match_failure_after next x s (legalised n ks limit_reached) = next n
+match_failure_after next x s (failed limit_reached) = Some (x, s)
+match_failure_after next x s (stopped e) = None
 
 abbrev pub staying : Aim → List ℕ → Module → Option (ℕ × MatchFailure)
 staying g [] m = None
 staying g (x ∷ xs) m =
-    stays_on (staying g xs) x (match_failure_by (last_rule g.rules) m x) (standing (legalization_of g g.depth) m x)
+    match_failure_after (staying g xs) x (match_failure_by (last_rule g.rules) m x) (standing (legalization_of g g.depth) m x)
 
 -- the operation that a module's conversion can't legalize, if there is one, with the reason
 abbrev pub unlegalised_op : Aim → Module → Option (ℕ × MatchFailure)

@@ -59,8 +59,8 @@ abbrev pub IsFull : ContextModel → Type 0
 IsFull c = (16777216 ≤ length c.names) ⊎ ((16777216 ≤ length c.types) ⊎ (16777216 ≤ length c.attrs))
 
 -- a refusal because memory runs out or because the context is full
-abbrev pub IsWant : ContextModel → Refusal → Type 0
-IsWant c e = (e ≡ Memory) ⊎ ((e ≡ Full) × IsFull c)
+abbrev pub IsOutOfCapacity : ContextModel → Refusal → Type 0
+IsOutOfCapacity c e = (e ≡ Memory) ⊎ ((e ≡ Full) × IsFull c)
 
 -- ---- rules
 
@@ -72,9 +72,9 @@ Applied (becomes p) done m n = (done ≡ true) × (n ≡ p)
 Applied (refused e) done m n = ⊥
 
 abbrev pub Refuses : Rewrite → ContextModel → Refusal → Type 0
-Refuses none c e = IsWant c e
-Refuses (becomes p) c e = IsWant c e
-Refuses (refused f) c e = (e ≡ f) ⊎ IsWant c e
+Refuses none c e = IsOutOfCapacity c e
+Refuses (becomes p) c e = IsOutOfCapacity c e
+Refuses (refused f) c e = (e ≡ f) ⊎ IsOutOfCapacity c e
 
 abbrev pub Answers : Rewrite → Result Bool Refusal → State → State → Type 0
 Answers a (Ok done) s t = Applied a done s.held t.held
@@ -110,22 +110,22 @@ IsLegalization (failed deep) t m n = (t.legal ≡ false) × ((t.limit_reached �
 IsLegalization (stopped e) t m n = ⊥
 
 abbrev pub Stops : Outcome → ContextModel → Refusal → Type 0
-Stops (legalised p ks deep) c e = IsWant c e
-Stops (failed deep) c e = IsWant c e
-Stops (stopped f) c e = (e ≡ f) ⊎ IsWant c e
+Stops (legalised p ks deep) c e = IsOutOfCapacity c e
+Stops (failed deep) c e = IsOutOfCapacity c e
+Stops (stopped f) c e = (e ≡ f) ⊎ IsOutOfCapacity c e
 
 abbrev pub Comes : Outcome → Result Legalization Refusal → State → State → Type 0
 Comes o (Ok t) a b = IsLegalization o t a.held b.held
 Comes o (Err e) a b = Stops o b.things e × (b.held ≡ a.held)
 
 -- the same under a mark: if the attempt fails or is refused, the module is unspecified
-abbrev pub ToldAfter : Outcome → Legalization → Module → Type 0
-ToldAfter (legalised p ks deep) t n = (t.legal ≡ true) × ((t.applied.items ≡ ks) × ((t.limit_reached ≡ deep) × (n ≡ p)))
-ToldAfter (failed deep) t n = (t.legal ≡ false) × (t.limit_reached ≡ deep)
-ToldAfter (stopped e) t n = ⊥
+abbrev pub ReportsAfter : Outcome → Legalization → Module → Type 0
+ReportsAfter (legalised p ks deep) t n = (t.legal ≡ true) × ((t.applied.items ≡ ks) × ((t.limit_reached ≡ deep) × (n ≡ p)))
+ReportsAfter (failed deep) t n = (t.legal ≡ false) × (t.limit_reached ≡ deep)
+ReportsAfter (stopped e) t n = ⊥
 
 abbrev pub ComesAfter : Outcome → Result Legalization Refusal → State → Type 0
-ComesAfter o (Ok t) b = ToldAfter o t b.held
+ComesAfter o (Ok t) b = ReportsAfter o t b.held
 ComesAfter o (Err e) b = Stops o b.things e
 
 -- whether the attempt succeeded
@@ -142,12 +142,12 @@ Closed stays old new = (k : OpenMark) (ks : List OpenMark) → old.marks ≡ k �
 
 -- an end, and the result of a call under a mark. If it is refused, the module is unspecified. A fault is that of the
 -- end, or memory or the context is exhausted
-abbrev pub Wants : ContextModel → Fault → Type 0
-Wants c f = (f.id ≡ None) × IsWant c f.refusal
+abbrev pub FaultIsOutOfCapacity : ContextModel → Fault → Type 0
+FaultIsOutOfCapacity c f = (f.id ≡ None) × IsOutOfCapacity c f.refusal
 
 abbrev pub Faults : Ended → Fault → ContextModel → Type 0
-Faults (converted m ks) f c = Wants c f
-Faults (given_up e x) f c = ((f.refusal ≡ e) × (f.id ≡ x)) ⊎ Wants c f
+Faults (converted m ks) f c = FaultIsOutOfCapacity c f
+Faults (given_up e x) f c = ((f.refusal ≡ e) × (f.id ≡ x)) ⊎ FaultIsOutOfCapacity c f
 
 -- the end with the applied rules
 abbrev pub Stands : Ended → List AppliedRule → Module → Type 0

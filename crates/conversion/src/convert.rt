@@ -19,7 +19,7 @@ use crate::tracer::{NoTracer, Tracer};
 use conversion_base::target::Target;
 use ir_event::analysis::Analysis;
 use patterns::runs::Bench;
-use patterns::runs::bench_laws::led_benches_are_kept;
+use patterns::runs::rewriter_laws::led_benches_are_kept;
 use std::alloc::Global;
 
 /// Converts the module of a rewriter (Dialect Conversion, "Modes of Conversion") and reports the applied rules to

@@ -10,7 +10,7 @@ ghost use Rattle.conversion.specs.Converting.{applied_rules};
 ghost use Rattle.conversion_base.specs.Legalization.{legalization_of, standing};
 ghost use Rattle.conversion.specs.States.{Converts, Ends, EndsAfter, Leads, Stays, StopsAt, listed, most_rules};
 ghost use Rattle.conversion.specs.States.{none_of};
-ghost use Rattle.conversion.specs.MatchFailures.{last_rule, match_failure_by, unlegalised_op, reported_failure, staying, stays_on};
+ghost use Rattle.conversion.specs.MatchFailures.{last_rule, match_failure_by, unlegalised_op, reported_failure, staying, match_failure_after};
 ghost use Rattle.conversion.specs.declared.match_failure.MatchFailure.{MatchFailure as Why};
 ghost use Rattle.conversion_base.specs.Targets.{IsAimIn, IsNamedIn, target_model};
 
@@ -39,7 +39,7 @@ fn failing(limit_reached: bool) -> Refusal
 }
 
 /// Returns the error of a conversion that can't legalize an operation of the original module.
-fn stopped_at<B: RuleApplier>(
+fn unlegalized_error<B: RuleApplier>(
     alloc: Global,
     bench: &B,
     target: &Target,
@@ -65,7 +65,7 @@ fn legalise_at<B: RuleApplier>(
     ensures ends { Ends (legalised_end (target_model (B.state bench.old).things target.now)
         (B.state bench.old).held op) (listed result) (B.state bench.new) }
     ensures stays { (next : Module → Option (ℕ × Why)) → IfErr result (λ e. e.failure ≡ reported_failure e.fault.id
-        (stays_on next op (match_failure_by (last_rule target.now.rules) (B.state bench.old).held op)
+        (match_failure_after next op (match_failure_by (last_rule target.now.rules) (B.state bench.old).held op)
         (standing (legalization_of (target_model (B.state bench.old).things target.now) target.now.depth)
         (B.state bench.old).held op))) }
     ensures few { IfOk result (λ v. length v.items + (B.state bench.old).held.next ≤ (B.state bench.new).held.next) }
@@ -76,7 +76,7 @@ fn legalise_at<B: RuleApplier>(
             if legalization.legal {
                 return Ok(legalization.applied);
             }
-            Err(stopped_at(alloc, bench, target, op, legalization.limit_reached))
+            Err(unlegalized_error(alloc, bench, target, op, legalization.limit_reached))
         }
         Err(refusal) => Err(ConversionError::without_op(refusal)),
     }
@@ -269,7 +269,7 @@ fn count_of(applied: &[AppliedRule]) -> u32
 }
 
 /// Reports to `tracer` why an operation couldn't be legalized, if one couldn't.
-fn tell_stay<T: Tracer>(tracer: &mut T, failure: Option<MatchFailure>)
+fn trace_match_failure<T: Tracer>(tracer: &mut T, failure: Option<MatchFailure>)
     ensures { T.stayed failure tracer.old tracer.new }
 {
     if let Some(failure) = failure {
@@ -303,7 +303,7 @@ fn convert_marked<B: RuleApplier, T: Tracer>(
             Err(refusal) => Err(Fault::without_op(refusal)),
         },
         Err(stopped) => {
-            tell_stay(tracer, stopped.failure);
+            trace_match_failure(tracer, stopped.failure);
             Err(stopped.fault)
         }
     }

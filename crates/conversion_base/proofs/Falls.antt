@@ -10,7 +10,7 @@ use Rattle.ir_event.specs.trees.Ids.{find, has_id, op_count}
 use Rattle.ir_event.specs.trees.Places.{without}
 use Rattle.ir_event.specs.trees.Edits.{put_values, with_value_replaced}
 use Rattle.ir_event.specs.trees.Meaning.{Operation}
-use Rattle.ir_event.specs.tree_laws.Stands.{StandOf, stand_id, stands, is_gone, left_stand}
+use Rattle.ir_event.specs.tree_laws.Stands.{OpWithPathOf, op_with_path_id, stands, is_gone, left_stand}
 use Rattle.ir_event.specs.tree_laws.Members.{In}
 use Rattle.ir_event.proofs.of_tree_laws.Listed.{bool_cases, both}
 use Rattle.ir_event.proofs.of_tree_laws.Readings.{stands_ids}
@@ -61,7 +61,7 @@ map_length f (x ∷ xs) = ap suc (map_length f xs)
 
 module _ {N T A : Type 0} where
   counted : (t : OpOf N T A) → op_count t ≡ length (stands [] t)
-  counted t = ap length (sym (stands_ids [] t)) ∙ map_length (λ (s : StandOf N T A). stand_id s) (stands [] t)
+  counted t = ap length (sym (stands_ids [] t)) ∙ map_length (λ (s : OpWithPathOf N T A). op_with_path_id s) (stands [] t)
 
   pub falls_without : (x : ℕ) (t : OpOf N T A) → eqb (head t).id x ≡ false → has_id x t ≡ true → op_count (without x t) < op_count t
   falls_without x t root h =
@@ -70,9 +70,9 @@ module _ {N T A : Type 0} where
         | inl k ↦ k
         | inr k ↦ absurd (left_apart x t s.0 s.1 k root s.2)
       ] in
-      let less = shorter (λ (u : StandOf N T A). not (is_gone x u)) s.0 (stands [] t) s.1 (ap not gone) in
+      let less = shorter (λ (u : OpWithPathOf N T A). not (is_gone x u)) s.0 (stands [] t) s.1 (ap not gone) in
       let before = counted t in
-      let after = counted (without x t) ∙ ap length (without_stands x t) ∙ map_length (left_stand x) (filter (λ (u : StandOf N T A). not (is_gone x u)) (stands [] t)) in
+      let after = counted (without x t) ∙ ap length (without_stands x t) ∙ map_length (left_stand x) (filter (λ (u : OpWithPathOf N T A). not (is_gone x u)) (stands [] t)) in
       omega (arith, less, before, after)
 
   pub falls_replaced : (x : ℕ) (v w : Value) (t : OpOf N T A) → eqb (head t).id x ≡ false → has_id x t ≡ true → op_count (without x (with_value_replaced v w t)) < op_count t

@@ -19,7 +19,7 @@ use Rattle.ir_event.specs.trees.Meaning.{Operation}
 use Rattle.ir_event.specs.trees.WellFormed.{IsWellFormed}
 use Rattle.ir_event.proofs.of_trees.Heads.{head_find}
 use Rattle.ir_event.specs.tree_laws.Members.{In}
-use Rattle.ir_event.specs.tree_laws.Stands.{StandOf, stand_id, stands, dominated_by, dropping, left_stand}
+use Rattle.ir_event.specs.tree_laws.Stands.{OpWithPathOf, op_with_path_id, stands, dominated_by, dropping, left_stand}
 use Rattle.ir_event.specs.tree_laws.Reads.{is_within}
 use Rattle.ir_event.specs.tree_laws.Reasons.{with_id, leaves_within, unused_outside}
 use Rattle.ir_event.proofs.of_tree_laws.Listed.{bool_cases, all_each, each_all, in_map, both, either, neither}
@@ -148,7 +148,7 @@ module _ (m : Module) (w : IsWellFormed is_isolated m) (n : Module) (x : ℕ) (a
   seen : list_all (visible is_isolated m.tree x) (a.value ∷ []) ≡ true
   seen =
       let s = standing.at in
-      let at : StandOf (List ℕ) TypeTerm AttrTerm = stand s.here (s.step_in ∷ s.path) in
+      let at : OpWithPathOf (List ℕ) TypeTerm AttrTerm = stand s.here (s.step_in ∷ s.path) in
       let own : list_all (dominated_by is_isolated at.path) (a.value ∷ []) ≡ true = ap (list_all (dominated_by is_isolated at.path)) (sym (ap (λ (z : Operation). (head z).operands) same_here ∙ a.operands)) ∙ (from_wellformed is_isolated m.tree w.wellformed).dominated_by_own at s.there in
       let one = (both (dominated_by is_isolated at.path a.value) true own).0 in
       ap (λ b. b && true) (ap (λ z. visible is_isolated m.tree z a.value) (sym s.id) ∙ visible_there is_isolated m.tree w.distinct at s.there a.value ∙ one)
@@ -192,7 +192,7 @@ module _ (m : Module) (w : IsWellFormed is_isolated m) (n : Module) (x : ℕ) (a
       let f = headed.found_there is_isolated x a.insertion after_replace replaced_stands in
       let own : list_all (λ v. not (is_within (owner_of v).0 (Some o))) (head s.here).operands ≡ true =
       ap (leaves_within (Some o)) (sym (same_head x (dropping x) s.here)) ∙ ap (λ z. leaves_within z (head (left_stand x s).here)) (sym f)
-      ∙ all_each (λ (u : StandOf (List ℕ) TypeTerm AttrTerm). leaves_within (find x after_replace.tree) (head u.here)) (stands [] (without x after_replace.tree))
+      ∙ all_each (λ (u : OpWithPathOf (List ℕ) TypeTerm AttrTerm). leaves_within (find x after_replace.tree) (head u.here)) (stands [] (without x after_replace.tree))
       (stands_every (λ q. leaves_within (find x after_replace.tree) (head q)) [] (without x after_replace.tree) ∙ nobody) (left_stand x s) (left_member x after_replace.tree s h g) in
       each_all (λ v. not (eqb (owner_of v).0 x)) (head s.here).operands (λ v k. elim (bool_cases (eqb (owner_of v).0 x)) [
         | inr e ↦ ap not e
@@ -211,8 +211,8 @@ module _ (m : Module) (w : IsWellFormed is_isolated m) (n : Module) (x : ℕ) (a
       let o = cast_there y (without x after_replace.tree) c in
       let u = found_stands y (without x after_replace.tree) o.0 o.1 in
       let k = member_left x after_replace.tree u.0 u.1 in
-      let heads : head u.0.here ≡ head k.0.here = ap (λ (z : StandOf (List ℕ) TypeTerm AttrTerm). head z.here) k.3 ∙ same_head x (dropping x) k.0.here in
-      let id : stand_id k.0 ≡ y = sym (ap (λ (h : Header). h.id) heads) ∙ u.2 in
+      let heads : head u.0.here ≡ head k.0.here = ap (λ (z : OpWithPathOf (List ℕ) TypeTerm AttrTerm). head z.here) k.3 ∙ same_head x (dropping x) k.0.here in
+      let id : op_with_path_id k.0 ≡ y = sym (ap (λ (h : Header). h.id) heads) ∙ u.2 in
       let found : find y after_replace.tree ≡ Some k.0.here = ap (λ z. find z after_replace.tree) (sym id) ∙ stand_found after_replace.tree replaced_stands.wellformed.distinct k.0 k.1 in
       let name : named cast_name (head k.0.here).name ≡ true = ap (λ (h : Header). named cast_name h.name) (sym heads ∙ ap (λ (z : Operation). head z) u.3) ∙ o.2 in
       (ap is_cast_found found ∙ name, λ e. left_apart x after_replace.tree k.0 k.1 k.2 root (id ∙ e))
@@ -265,7 +265,7 @@ among_all m w = record {
   among = λ y c.
       let o = cast_there y m.tree c in
       let s = found_stands y m.tree o.0 o.1 in
-      subst (λ z. In z (ids m.tree)) s.2 (subst (In (stand_id s.0)) (stands_ids [] m.tree) (in_map (λ (u : StandOf (List ℕ) TypeTerm AttrTerm). stand_id u) s.0 (stands [] m.tree) s.1));
+      subst (λ z. In z (ids m.tree)) s.2 (subst (In (op_with_path_id s.0)) (stands_ids [] m.tree) (in_map (λ (u : OpWithPathOf (List ℕ) TypeTerm AttrTerm). op_with_path_id u) s.0 (stands [] m.tree) s.1));
 }
 
 -- if a part succeeds after other parts, the other parts succeeded
@@ -308,7 +308,7 @@ pub no_cast_is_left : (m n : Module) (ks : List Applied) → IsWellFormed is_iso
 no_cast_is_left m n ks w e =
     let a = none_among (ids m.tree) m n ks (among_all m w) e in
     sym (stands_every (λ o. not (named cast_name (head o).name)) [] n.tree)
-    ∙ each_all (λ (s : StandOf (List ℕ) TypeTerm AttrTerm). not (named cast_name (head s.here).name)) (stands [] n.tree) (λ s h. elim (bool_cases (named cast_name (head s.here).name)) [
+    ∙ each_all (λ (s : OpWithPathOf (List ℕ) TypeTerm AttrTerm). not (named cast_name (head s.here).name)) (stands [] n.tree) (λ s h. elim (bool_cases (named cast_name (head s.here).name)) [
       | inr f ↦ ap not f
-      | inl f ↦ absurd (a.among (stand_id s) (ap is_cast_found (stand_found n.tree a.wellformed.distinct s h) ∙ f))
+      | inl f ↦ absurd (a.among (op_with_path_id s) (ap is_cast_found (stand_found n.tree a.wellformed.distinct s h) ∙ f))
     ])

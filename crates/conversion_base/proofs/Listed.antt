@@ -10,7 +10,7 @@ use Rattle.ir_event.specs.trees.Edits.{each_head, put_values, with_value_replace
 use Rattle.ir_event.specs.trees.Meaning.{Operation}
 use Rattle.ir_event.proofs.of_trees.Heads.{head_find}
 use Rattle.ir_event.specs.tree_laws.Members.{In}
-use Rattle.ir_event.specs.tree_laws.Stands.{StandOf, stand_id, stands, is_gone, dropping, left_stand}
+use Rattle.ir_event.specs.tree_laws.Stands.{OpWithPathOf, op_with_path_id, stands, is_gone, dropping, left_stand}
 use Rattle.ir_event.proofs.of_tree_laws.HeadForm.{edit_ids}
 use Rattle.ir_event.proofs.of_tree_laws.Listed.{bool_cases, both}
 use Rattle.ir_event.proofs.of_tree_laws.Members.{found_stands, same_stand, stand_found}
@@ -36,8 +36,8 @@ use Rattle.std.proofs.lemmas.Bool.{not-false}
 
 -- ---- sublists
 
-abbrev Stand : Type 0
-Stand = StandOf (List ℕ) TypeTerm AttrTerm
+abbrev OpWithPath : Type 0
+OpWithPath = OpWithPathOf (List ℕ) TypeTerm AttrTerm
 
 no_is : (a b : Bool) → (b ≡ true → a ≡ true) → a ≡ false → b ≡ false
 no_is a true h e = absurd (true≢false (sym (h refl) ∙ e))
@@ -76,10 +76,10 @@ still xs t u h f =
 -- an operation is taken out
 module _ (x : ℕ) (t : Operation) (d : HasDistinctIds t) where
   record There (y : ℕ) : Type 0 where
-    stand : Stand
+    stand : OpWithPath
     in_tree : In stand (stands [] t)
     stays : is_gone x stand ≡ false
-    id : stand_id stand ≡ y
+    id : op_with_path_id stand ≡ y
     is : is_cast y t ≡ true
 
   there : (y : ℕ) → is_cast y (without x t) ≡ true → There y
@@ -87,34 +87,34 @@ module _ (x : ℕ) (t : Operation) (d : HasDistinctIds t) where
       let o = cast_there y (without x t) c in
       let u = found_stands y (without x t) o.0 o.1 in
       let k = member_left x t u.0 u.1 in
-      let heads : head u.0.here ≡ head k.0.here = ap (λ (z : Stand). head z.here) k.3 ∙ same_head x (dropping x) k.0.here in
-      let id : stand_id k.0 ≡ y = sym (ap (λ (h : Header). h.id) heads) ∙ u.2 in
+      let heads : head u.0.here ≡ head k.0.here = ap (λ (z : OpWithPath). head z.here) k.3 ∙ same_head x (dropping x) k.0.here in
+      let id : op_with_path_id k.0 ≡ y = sym (ap (λ (h : Header). h.id) heads) ∙ u.2 in
       let found : find y t ≡ Some k.0.here = ap (λ z. find z t) (sym id) ∙ stand_found t d k.0 k.1 in
       let name : named cast_name (head k.0.here).name ≡ true = ap (λ (h : Header). named cast_name h.name) (sym heads ∙ ap (λ (z : Operation). head z) u.3) ∙ o.2 in
       record { stand = k.0; in_tree = k.1; stays = k.2; id = id; is = ap is_cast_found found ∙ name }
 
-  gone_not : (s : Stand) → In s (stands [] t) → not (is_gone x s) ≡ false → is_cast (stand_id s) (without x t) ≡ false
-  gone_not s h g = elim (bool_cases (is_cast (stand_id s) (without x t))) [
+  gone_not : (s : OpWithPath) → In s (stands [] t) → not (is_gone x s) ≡ false → is_cast (op_with_path_id s) (without x t) ≡ false
+  gone_not s h g = elim (bool_cases (is_cast (op_with_path_id s) (without x t))) [
     | inr e ↦ e
     | inl e ↦ absurd (
-        let w = there (stand_id s) e in
+        let w = there (op_with_path_id s) e in
         let same : w.stand ≡ s = same_stand t d w.stand s w.in_tree h w.id in
         true≢false (sym (not-false (is_gone x s) g) ∙ ap (is_gone x) (sym same) ∙ w.stays))
   ]
 
-  left_ids : (ss : List Stand) → map (λ (s : Stand). stand_id s) (map (left_stand x) ss) ≡ map (λ (s : Stand). stand_id s) ss
+  left_ids : (ss : List OpWithPath) → map (λ (s : OpWithPath). op_with_path_id s) (map (left_stand x) ss) ≡ map (λ (s : OpWithPath). op_with_path_id s) ss
   left_ids [] = refl
   left_ids (s ∷ ss) = λ i. ap (λ (h : Header). h.id) (same_head x (dropping x) s.here) i ∷ left_ids ss i
 
-  ids_left : ids (without x t) ≡ map (λ (s : Stand). stand_id s) (filter (λ (s : Stand). not (is_gone x s)) (stands [] t))
-  ids_left = sym (stands_ids [] (without x t)) ∙ ap (map (λ (s : Stand). stand_id s)) (without_stands x t) ∙ left_ids (filter (λ (s : Stand). not (is_gone x s)) (stands [] t))
+  ids_left : ids (without x t) ≡ map (λ (s : OpWithPath). op_with_path_id s) (filter (λ (s : OpWithPath). not (is_gone x s)) (stands [] t))
+  ids_left = sym (stands_ids [] (without x t)) ∙ ap (map (λ (s : OpWithPath). op_with_path_id s)) (without_stands x t) ∙ left_ids (filter (λ (s : OpWithPath). not (is_gone x s)) (stands [] t))
 
   fewer_erased : Fewer t (without x t)
   fewer_erased =
       let q = λ (y : ℕ). is_cast y (without x t) in
       record {
         was = λ y c. (there y c).is;
-        left = ap (filter q) (sym (stands_ids [] t)) ∙ filter_dropped q (λ (s : Stand). stand_id s) (λ (s : Stand). not (is_gone x s)) (stands [] t) gone_not ∙ ap (filter q) (sym ids_left);
+        left = ap (filter q) (sym (stands_ids [] t)) ∙ filter_dropped q (λ (s : OpWithPath). op_with_path_id s) (λ (s : OpWithPath). not (is_gone x s)) (stands [] t) gone_not ∙ ap (filter q) (sym ids_left);
       }
 
 -- a value is replaced

@@ -13,7 +13,7 @@ use Rattle.ir_event.proofs.of_tree_laws.Listed.{bool_cases}
 use Rattle.patterns_base.specs.Words.{among}
 use Rattle.conversion_base.specs.Targets.{Aim, each_once, names_of}
 use Rattle.conversion_base.specs.Numbers.{are_apart, lists_apart, lists_once}
-use Rattle.conversion_base.specs.Repeats.{stands_twice}
+use Rattle.conversion_base.specs.Repeats.{has_duplicates}
 
 module _ (c : ContextModel) (sound : IsSound c) where
   -- two names are equal exactly if their numbers are
@@ -33,10 +33,10 @@ module _ (c : ContextModel) (sound : IsSound c) where
   same_among n (m ∷ ns) h a = λ i. same_numbers n m h (All-head (IsName c) m ns a) i || same_among n ns h (All-tail (IsName c) m ns a) i
 
   -- a list has no duplicate exactly if each name is listed once
-  pub same_once : (ns : List ℕ) → All (IsName c) ns → not (stands_twice ns) ≡ each_once (map (name_term c) ns)
+  pub same_once : (ns : List ℕ) → All (IsName c) ns → not (has_duplicates ns) ≡ each_once (map (name_term c) ns)
   same_once [] a = refl
   same_once (n ∷ ns) a =
-      not_either (list_any (eqb n) ns) (stands_twice ns)
+      not_either (list_any (eqb n) ns) (has_duplicates ns)
       ∙ (λ i. not (same_among n ns (All-head (IsName c) n ns a) (All-tail (IsName c) n ns a) i) && same_once ns (All-tail (IsName c) n ns a) i)
     where
       not_either : (a b : Bool) → not (a || b) ≡ (not a && not b)

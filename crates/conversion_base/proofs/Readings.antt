@@ -17,7 +17,7 @@ use Rattle.ir_event.specs.trees.Uses.{uses_of}
 use Rattle.ir_event.specs.trees.Meaning.{meaning}
 use Rattle.ir_event.proofs.of_trees.Mapped.{map_every, map_find}
 use Rattle.ir_event.specs.tree_laws.Members.{In}
-use Rattle.ir_event.specs.tree_laws.Stands.{StandOf, place_in}
+use Rattle.ir_event.specs.tree_laws.Stands.{OpWithPathOf, place_in}
 use Rattle.ir_event.specs.tree_laws.Values.{type_of_value}
 use Rattle.ir_event.proofs.of_tree_laws.Around.{present_stand, member_of_place}
 use Rattle.ir_event.proofs.of_tree_laws.Contents.{map_has_id, map_type_of_value}
@@ -58,7 +58,7 @@ module _ (x : ℕ) (t : Op) (d : HasDistinctIds t) (known : has_id x t ≡ true)
     | inl k ↦ absurd (
         let w = member_of_place x p t e in
         let same : w.0 ≡ stand t [] = same_stand t d w.0 (stand t []) w.1 (itself [] t) (w.2 ∙ sym (eqb-true (head t).id x k)) in
-        let n : None ≡ Some p = ap (λ (s : StandOf ℕ ℕ ℕ). place_in s.path) (sym same) ∙ w.3 in
+        let n : None ≡ Some p = ap (λ (s : OpWithPathOf ℕ ℕ ℕ). place_in s.path) (sym same) ∙ w.3 in
         cc)
   ]
 

@@ -10,7 +10,7 @@ use Rattle.std.specs.BTreeSet.{BTreeSet}
 use Rattle.std.specs.BTreeSet as set
 use Rattle.std.proofs.lemmas.Bool.{ne_eqb}
 use Rattle.std.proofs.lemmas.List.Folds.{list_any-append}
-use Rattle.conversion_base.specs.Repeats.{AreKnown, stands_twice}
+use Rattle.conversion_base.specs.Repeats.{AreKnown, has_duplicates}
 use Rattle.ir_event.proofs.of_types.Sorting.{flips_eq}
 use Rattle.ir_event.proofs.of_types.Truths.{same_test}
 
@@ -24,9 +24,9 @@ any_last p ns n = list_any-append p ns (n ∷ []) ∙ go (list_any p ns) (p n)
     go false true = refl
     go false false = refl
 
-twice_last : (ns : List ℕ) (n : ℕ) → stands_twice (ns ++ n ∷ []) ≡ (stands_twice ns || list_any (eqb n) ns)
+twice_last : (ns : List ℕ) (n : ℕ) → has_duplicates (ns ++ n ∷ []) ≡ (has_duplicates ns || list_any (eqb n) ns)
 twice_last [] n = refl
-twice_last (m ∷ ns) n = (λ i. (any_last (eqb m) ns n ∙ ap (λ b. cond b true (list_any (eqb m) ns)) (flips_eq m n)) i || twice_last ns n i) ∙ go (eqb n m) (list_any (eqb m) ns) (stands_twice ns) (list_any (eqb n) ns)
+twice_last (m ∷ ns) n = (λ i. (any_last (eqb m) ns n ∙ ap (λ b. cond b true (list_any (eqb m) ns)) (flips_eq m n)) i || twice_last ns n i) ∙ go (eqb n m) (list_any (eqb m) ns) (has_duplicates ns) (list_any (eqb n) ns)
   where
     go : (a b c d : Bool) → (cond a true b || (c || d)) ≡ ((b || c) || (a || d))
     go true true c d = refl

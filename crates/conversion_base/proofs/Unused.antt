@@ -8,7 +8,7 @@ use Rattle.ir_event.specs.trees.Ids.{HasDistinctIds}
 use Rattle.ir_event.specs.trees.Uses.{uses_of, operand_uses}
 use Rattle.ir_event.specs.trees.Sites.{operands_visible}
 use Rattle.ir_event.proofs.of_trees.Replaced.{same_value_refl}
-use Rattle.ir_event.specs.tree_laws.Stands.{StandOf, stand_id, stands, dominated_by}
+use Rattle.ir_event.specs.tree_laws.Stands.{OpWithPathOf, op_with_path_id, stands, dominated_by}
 use Rattle.ir_event.specs.tree_laws.Members.{In}
 use Rattle.ir_event.specs.tree_laws.Values.{has_value}
 use Rattle.ir_event.proofs.of_tree_laws.Listed.{bool_cases, all_each, each_all}
@@ -22,14 +22,14 @@ use Rattle.effects.specs.Dead.{is_result_of, is_unused}
 module _ {N T A : Type 0} (isolated : N → Bool) (x : ℕ) (t : OpOf N T A) (d : HasDistinctIds t) (wellformed : operands_visible isolated t ≡ true) where
   -- if none of the results has a use, the operation is unused
   module _ (none : (k : ℕ) → has_value (Result x k) t ≡ true → uses_of (Result x k) t ≡ []) where
-    not_there : (k : ℕ) (s : StandOf N T A) → In s (stands [] t) → In (Result x k) (head s.here).operands → ⊥
+    not_there : (k : ℕ) (s : OpWithPathOf N T A) → In s (stands [] t) → In (Result x k) (head s.here).operands → ⊥
     not_there k s h m =
-        let e = all_each (dominated_by isolated s.path) (head s.here).operands (all_each (λ (z : StandOf N T A). list_all (dominated_by isolated z.path) (head z.here).operands) (stands [] t) (sym (stands_operands isolated t) ∙ wellformed) s h) (Result x k) m in
+        let e = all_each (dominated_by isolated s.path) (head s.here).operands (all_each (λ (z : OpWithPathOf N T A). list_all (dominated_by isolated z.path) (head z.here).operands) (stands [] t) (sym (stands_operands isolated t) ∙ wellformed) s h) (Result x k) m in
         let there = (seen_by isolated t d s h (Result x k) e).is in
-        let n = used_here (Result x k) (stand_id s) 0 (head s.here).operands (Result x k) m (same_value_refl (Result x k)) in
-        subst (In (stand_id s, n.0)) (stands_uses (Result x k) [] t ∙ none k there) (in_gather (λ (z : StandOf N T A). operand_uses (Result x k) (stand_id z) 0 (head z.here).operands) (stand_id s, n.0) s (stands [] t) h n.1)
+        let n = used_here (Result x k) (op_with_path_id s) 0 (head s.here).operands (Result x k) m (same_value_refl (Result x k)) in
+        subst (In (op_with_path_id s, n.0)) (stands_uses (Result x k) [] t ∙ none k there) (in_gather (λ (z : OpWithPathOf N T A). operand_uses (Result x k) (op_with_path_id z) 0 (head z.here).operands) (op_with_path_id s, n.0) s (stands [] t) h n.1)
 
-    spared : (s : StandOf N T A) → In s (stands [] t) → (v : Value) → In v (head s.here).operands → not (is_result_of x v) ≡ true
+    spared : (s : OpWithPathOf N T A) → In s (stands [] t) → (v : Value) → In v (head s.here).operands → not (is_result_of x v) ≡ true
     spared s h (Arg y r k) m = refl
     spared s h (Result y k) m = elim (bool_cases (eqb y x)) [
       | inr e ↦ ap not e
@@ -39,7 +39,7 @@ module _ {N T A : Type 0} (isolated : N → Bool) (x : ℕ) (t : OpOf N T A) (d 
     pub none_used : is_unused x t ≡ true
     none_used =
         sym (stands_every (λ o. list_all (λ v. not (is_result_of x v)) (head o).operands) [] t)
-        ∙ each_all (λ (s : StandOf N T A). list_all (λ v. not (is_result_of x v)) (head s.here).operands) (stands [] t) (λ s h. each_all (λ v. not (is_result_of x v)) (head s.here).operands (spared s h))
+        ∙ each_all (λ (s : OpWithPathOf N T A). list_all (λ v. not (is_result_of x v)) (head s.here).operands) (stands [] t) (λ s h. each_all (λ v. not (is_result_of x v)) (head s.here).operands (spared s h))
 
 -- if one result has a use, the operation is used
 module _ {N T A : Type 0} (x k : ℕ) (t : OpOf N T A) where
@@ -48,7 +48,7 @@ module _ {N T A : Type 0} (x k : ℕ) (t : OpOf N T A) where
     | inr e ↦ e
     | inl e ↦ absurd (
         let s = user (Result x k) t u h in
-        let all = all_each (λ (s : StandOf N T A). list_all (λ v. not (is_result_of x v)) (head s.here).operands) (stands [] t) (stands_every (λ o. list_all (λ v. not (is_result_of x v)) (head o).operands) [] t ∙ e) s.0 s.1 in
+        let all = all_each (λ (s : OpWithPathOf N T A). list_all (λ v. not (is_result_of x v)) (head s.here).operands) (stands [] t) (stands_every (λ o. list_all (λ v. not (is_result_of x v)) (head o).operands) [] t ∙ e) s.0 s.1 in
         let no = all_each (λ v. not (is_result_of x v)) (head s.0.here).operands all (Result x k) s.3 in
         true≢false (sym no ∙ ap not (eq-eqb x x refl)))
   ]

@@ -6,11 +6,11 @@ use Rattle.std.specs.BTreeSet.{BTreeSet}
 use Rattle.std.specs.BTreeSet as set
 
 -- whether a list has a duplicate
-abbrev pub stands_twice : List ℕ → Bool
-stands_twice [] = false
-stands_twice (n ∷ ns) = list_any (eqb n) ns || stands_twice ns
+abbrev pub has_duplicates : List ℕ → Bool
+has_duplicates [] = false
+has_duplicates (n ∷ ns) = list_any (eqb n) ns || has_duplicates ns
 
 -- the set has exactly the names of the list, and the flag says whether the list has a duplicate
 pub record AreKnown (names : List ℕ) (known : BTreeSet ℕ) (repeats : Bool) : Type 0 where
   pub has : (n : ℕ) → set.contains nat_cmp known n ≡ list_any (eqb n) names
-  pub twice : repeats ≡ stands_twice names
+  pub twice : repeats ≡ has_duplicates names

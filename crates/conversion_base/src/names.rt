@@ -1,7 +1,7 @@
 //! The names of a target's list.
 ghost use Rattle.std.specs.Prelude.{◌≡◌, ◌++◌, [], ◌∷◌, eqb, OnOk, OnErr};
 ghost use Rattle.std.specs.List.{list_any};
-ghost use Rattle.conversion_base.specs.Repeats.{stands_twice};
+ghost use Rattle.conversion_base.specs.Repeats.{has_duplicates};
 
 use ir_event::types::ids::NameId;
 use std::alloc::{AllocError, Global};
@@ -80,7 +80,7 @@ impl Names {
 
     /// Returns whether the list has a duplicate.
     pub fn repeats(&self) -> bool
-        ensures { result ≡ stands_twice self.now }
+        ensures { result ≡ has_duplicates self.now }
     {
         self.repeats
     }

@@ -41,7 +41,7 @@ fn has_word(ctx: &Context, names: &Names, word: Word) -> bool
 }
 
 /// Returns whether a list of names has no duplicate.
-fn stand_once(ctx: &Context, names: &Names) -> bool
+fn have_no_duplicates(ctx: &Context, names: &Names) -> bool
     requires names { All (IsName ctx.now) names.now }
     ensures { result ≡ each_once (map (name_term ctx.now) names.now) }
 {
@@ -84,9 +84,9 @@ fn lists_once(ctx: &Context, target: &Target) -> bool
     requires names { IsNamedIn ctx.now target.now }
     ensures { result ≡ lists_once (target_model ctx.now target.now) }
 {
-    stand_once(ctx, &target.legal)
-        && stand_once(ctx, &target.illegal)
-        && stand_once(ctx, &target.dynamic)
+    have_no_duplicates(ctx, &target.legal)
+        && have_no_duplicates(ctx, &target.illegal)
+        && have_no_duplicates(ctx, &target.dynamic)
 }
 
 /// Returns whether no name is in two lists of a target.

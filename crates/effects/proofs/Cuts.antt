@@ -6,7 +6,7 @@ use Rattle.ir_event.specs.trees.Tree.{HeadOf, OpOf, op, RegionsOf, no_regions, r
 use Rattle.ir_event.specs.trees.Ids.{find, HasDistinctIds}
 use Rattle.ir_event.specs.trees.Places.{first_id, place_of, without}
 use Rattle.ir_event.specs.tree_laws.Members.{In}
-use Rattle.ir_event.specs.tree_laws.Stands.{StepOf, StandOf, stand_id, stands, regions_stands, region_stands, ops_stands, place_in, left_step, left_stand, dropping}
+use Rattle.ir_event.specs.tree_laws.Stands.{StepOf, OpWithPathOf, op_with_path_id, stands, regions_stands, region_stands, ops_stands, place_in, left_step, left_stand, dropping}
 use Rattle.ir_event.proofs.of_tree_laws.Readings.{step}
 use Rattle.ir_event.proofs.of_tree_laws.Members.{stand, stand_found}
 use Rattle.ir_event.proofs.of_tree_laws.Around.{member_of_place}
@@ -32,8 +32,8 @@ module _ {N T A : Type 0} (own : N → Own) where
   around [] = None
   around (a ∷ path) = Some (head a.parent).id
 
-  abbrev pub point_in : StandOf N T A → Point
-  point_in s = record { id = stand_id s; parent = around s.path; own = own (head s.here).name }
+  abbrev pub point_in : OpWithPathOf N T A → Point
+  point_in s = record { id = op_with_path_id s; parent = around s.path; own = own (head s.here).name }
 
   mutual
     pub stand_points : (path : List (StepOf N T A)) (t : OpOf N T A) → map point_in (stands path t) ≡ points own (around path) t
@@ -59,7 +59,7 @@ module _ {N T A : Type 0} (own : N → Own) where
   left_around x [] = refl
   left_around x (a ∷ path) = ap (λ (h : HeadOf N T A). Some h.id) (same_head x (dropping x) a.parent)
 
-  left_points : (x : ℕ) (ss : List (StandOf N T A)) → map point_in (map (left_stand x) ss) ≡ map point_in ss
+  left_points : (x : ℕ) (ss : List (OpWithPathOf N T A)) → map point_in (map (left_stand x) ss) ≡ map point_in ss
   left_points x [] = refl
   left_points x (s ∷ ss) = λ i. record { id = (same_head x (dropping x) s.here i).id; parent = left_around x s.path i; own = own (same_head x (dropping x) s.here i).name } ∷ left_points x ss i
 

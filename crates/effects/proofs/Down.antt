@@ -6,7 +6,7 @@ use Rattle.ir_event.specs.trees.Tree.{OpOf, op, OpsOf, no_ops, next, RegionsOf, 
 use Rattle.ir_event.specs.trees.Ids.{HasDistinctIds, ids, regions_ids, region_ids, ops_ids, op_count, find}
 use Rattle.ir_event.specs.trees.Places.{first_id, place_of}
 use Rattle.ir_event.specs.tree_laws.Members.{In}
-use Rattle.ir_event.specs.tree_laws.Stands.{StepOf, StandOf, stand_id, stand_of, stands, ops_stands, place_in}
+use Rattle.ir_event.specs.tree_laws.Stands.{StepOf, OpWithPathOf, op_with_path_id, op_with_path, stands, ops_stands, place_in}
 use Rattle.ir_event.specs.tree_laws.Reads.{first_at, next_of, ops_at, ops_in}
 use Rattle.ir_event.specs.tree_laws.Values.{region_at}
 use Rattle.ir_event.proofs.of_tree_laws.Readings.{step, stands_find}
@@ -19,7 +19,7 @@ use Rattle.ir_event.proofs.Facts.{joined_more}
 
 module _ {N T A : Type 0} (t : OpOf N T A) (d : HasDistinctIds t) where
   -- the operations from one on are the operation and those after it in its block
-  onward_is : (s : StandOf N T A) → In s (stands [] t) → ops_from (Some (stand_id s)) t ≡ onward s
+  onward_is : (s : OpWithPathOf N T A) → In s (stands [] t) → ops_from (Some (op_with_path_id s)) t ≡ onward s
   onward_is s h = ap (λ o. some_ops (option_map onward o)) (stand_of_member t d s h)
 
   -- the rest of a block of an operation in the tree
@@ -56,16 +56,16 @@ module _ {N T A : Type 0} (t : OpOf N T A) (d : HasDistinctIds t) where
           let w = member_of_place (head o).id place t e in
           let same : w.0 ≡ stand o [] = same_stand t d w.0 (stand o []) w.1 h w.2 in
           let root : List (StepOf N T A) = [] in
-          let bad : place_in root ≡ Some place = ap (λ (z : StandOf N T A). place_in z.path) (sym same) ∙ w.3 in
+          let bad : place_in root ≡ Some place = ap (λ (z : OpWithPathOf N T A). place_in z.path) (sym same) ∙ w.3 in
           absurd cc
   after_onward o (a ∷ q) h =
       ap (λ (p : Option Place). ops_from (option_and_then (λ p. p.before) p) t) (place_of_member t d o a q h)
       ∙ left_onward a.parent q a.region a.args (a.preceding ++ o ∷ []) a.rest (around_there t o a q h).1 (shape t o a q h ∙ ap (λ z. Some (block a.args z)) (joined_more a.preceding o a.rest))
 
   pub next_onward : (x : ℕ) (o : OpOf N T A) (os : OpsOf N T A) → ops_from (Some x) t ≡ next o os → ops_from (next_of x t) t ≡ os
-  next_onward x o os e = go (stand_of x t) refl e
+  next_onward x o os e = go (op_with_path x t) refl e
     where
-      go : (f : Option (StandOf N T A)) → stand_of x t ≡ f → some_ops (option_map onward f) ≡ next o os → ops_from (next_of x t) t ≡ os
+      go : (f : Option (OpWithPathOf N T A)) → op_with_path x t ≡ f → some_ops (option_map onward f) ≡ next o os → ops_from (next_of x t) t ≡ os
       go None k h = absurd cc
       go (Some s) k h =
           let m = member x (stands [] t) s k in
@@ -73,11 +73,11 @@ module _ {N T A : Type 0} (t : OpOf N T A) (d : HasDistinctIds t) where
           ap (λ y. ops_from (next_of y t) t) (sym m.1) ∙ after_onward s.here s.path m.0 ∙ rest
 
   pub onward_there : (x : ℕ) (o : OpOf N T A) (os : OpsOf N T A) → ops_from (Some x) t ≡ next o os → find x t ≡ Some o
-  onward_there x o os e = go (stand_of x t) refl e
+  onward_there x o os e = go (op_with_path x t) refl e
     where
-      go : (f : Option (StandOf N T A)) → stand_of x t ≡ f → some_ops (option_map onward f) ≡ next o os → find x t ≡ Some o
+      go : (f : Option (OpWithPathOf N T A)) → op_with_path x t ≡ f → some_ops (option_map onward f) ≡ next o os → find x t ≡ Some o
       go None k h = absurd cc
-      go (Some s) k h = let one : s.here ≡ o = cc in sym (stands_find x [] t) ∙ ap (option_map (λ (z : StandOf N T A). z.here)) k ∙ ap Some one
+      go (Some s) k h = let one : s.here ≡ o = cc in sym (stands_find x [] t) ∙ ap (option_map (λ (z : OpWithPathOf N T A). z.here)) k ∙ ap Some one
 
   -- the list of a block begins with its first operation
   pub first_starts : (p r : ℕ) → first_id (list_at p r t) ≡ first_at p r t
@@ -88,7 +88,7 @@ module _ {N T A : Type 0} (t : OpOf N T A) (d : HasDistinctIds t) where
       go (Some os) = refl
 
   pub next_starts : (x : ℕ) (o : OpOf N T A) (os : OpsOf N T A) → ops_from (Some x) t ≡ next o os → first_id os ≡ next_of x t
-  next_starts x o os e = go (stand_of x t) refl e
+  next_starts x o os e = go (op_with_path x t) refl e
     where
       place : (u : OpOf N T A) (q : List (StepOf N T A)) → In (stand u q) (stands [] t) → first_id (trailing q) ≡ next_of (head u).id t
       place u [] h = root (place_of (head u).id t) refl
@@ -99,11 +99,11 @@ module _ {N T A : Type 0} (t : OpOf N T A) (d : HasDistinctIds t) where
               let w = member_of_place (head u).id place t e in
               let same : w.0 ≡ stand u [] = same_stand t d w.0 (stand u []) w.1 h w.2 in
               let none : List (StepOf N T A) = [] in
-              let bad : place_in none ≡ Some place = ap (λ (z : StandOf N T A). place_in z.path) (sym same) ∙ w.3 in
+              let bad : place_in none ≡ Some place = ap (λ (z : OpWithPathOf N T A). place_in z.path) (sym same) ∙ w.3 in
               absurd cc
       place u (a ∷ q) h = sym (ap (option_and_then (λ (p : Place). p.before)) (place_of_member t d u a q h))
 
-      go : (f : Option (StandOf N T A)) → stand_of x t ≡ f → some_ops (option_map onward f) ≡ next o os → first_id os ≡ next_of x t
+      go : (f : Option (OpWithPathOf N T A)) → op_with_path x t ≡ f → some_ops (option_map onward f) ≡ next o os → first_id os ≡ next_of x t
       go None k h = absurd cc
       go (Some s) k h =
           let m = member x (stands [] t) s k in

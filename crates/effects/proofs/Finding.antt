@@ -8,7 +8,7 @@ use Rattle.ir_event.specs.trees.Ids.{ids, find, first_of, HasDistinctIds}
 use Rattle.ir_event.specs.trees.Places.{place_of}
 use Rattle.ir_event.specs.tree_laws.Members.{In}
 use Rattle.ir_event.specs.tree_laws.Reads.{parent_of}
-use Rattle.ir_event.specs.tree_laws.Stands.{StepOf, StandOf, stand_id, stands, place_in}
+use Rattle.ir_event.specs.tree_laws.Stands.{StepOf, OpWithPathOf, op_with_path_id, stands, place_in}
 use Rattle.ir_event.proofs.of_tree_laws.Around.{member_of_place, place_of_member}
 use Rattle.ir_event.proofs.of_tree_laws.Listed.{in_mapped}
 use Rattle.ir_event.proofs.of_tree_laws.Members.{same_stand, stand, stand_found}
@@ -37,7 +37,7 @@ point_joined own x p (Some h) ns = refl
 
 -- the parent of an operation is the innermost operation on its path
 module _ {N T A : Type 0} (own : N → Own) where
-  pub around_is : (t : OpOf N T A) → HasDistinctIds t → (s : StandOf N T A) → In s (stands [] t) → parent_of (stand_id s) t ≡ around own s.path
+  pub around_is : (t : OpOf N T A) → HasDistinctIds t → (s : OpWithPathOf N T A) → In s (stands [] t) → parent_of (op_with_path_id s) t ≡ around own s.path
   around_is t d s m = go s.here s.path m
     where
       go : (o : OpOf N T A) (path : List (StepOf N T A)) → In (stand o path) (stands [] t) → parent_of (head o).id t ≡ around own path
@@ -49,7 +49,7 @@ module _ {N T A : Type 0} (own : N → Own) where
           rest (Some place) e =
               let u = member_of_place (head o).id place t e in
               let same : u.0 ≡ stand o [] = same_stand t d u.0 (stand o []) u.1 m u.2 in
-              let bad : None ≡ Some place = sym (ap (λ (s : StandOf N T A). place_in s.path) same) ∙ u.3 in
+              let bad : None ≡ Some place = sym (ap (λ (s : OpWithPathOf N T A). place_in s.path) same) ∙ u.3 in
               absurd cc
 
 -- an operation of a store's module has its head
@@ -73,7 +73,7 @@ heads_found s xs d e = ap (heads_by (head_at s)) (e ∙ sym (heads_ids s.module_
     there h m =
         let t = s.module_of.tree in
         let w = in_mapped head_in h (stands [] t) (subst (In h) (sym (stand_heads [] t)) m) in
-        subst (λ (g : Head). head_at s g.id ≡ Some g) (sym w.2) (shown s (stand_id w.0) w.0.here (stand_found t d w.0 w.1))
+        subst (λ (g : Head). head_at s g.id ≡ Some g) (sym w.2) (shown s (op_with_path_id w.0) w.0.here (stand_found t d w.0 w.1))
 
 -- ---- operations with their parents
 
@@ -99,4 +99,4 @@ points_found own s xs d e =
         let t = s.module_of.tree in
         let w = in_mapped (point_in own) n (stands [] t) (subst (In n) (sym (stand_points own [] t)) m) in
         subst (Found own (parent_at s) (head_at s)) (sym w.2)
-        record { here = head w.0.here; is = shown s (stand_id w.0) w.0.here (stand_found t d w.0 w.1); owns = refl; parent = around_is own t d w.0 w.1 }
+        record { here = head w.0.here; is = shown s (op_with_path_id w.0) w.0.here (stand_found t d w.0 w.1); owns = refl; parent = around_is own t d w.0 w.1 }

@@ -15,7 +15,7 @@ use Rattle.ir_event.specs.trees.Maps.{map_head, map_tree, map_regions, map_regio
 use Rattle.ir_event.specs.trees.Edits.{each_head, regions_each_head, region_each_head, ops_each_head}
 use Rattle.ir_event.specs.trees.Places.{place_of, without}
 use Rattle.ir_event.specs.tree_laws.Members.{In}
-use Rattle.ir_event.specs.tree_laws.Stands.{StepOf, StandOf, stand_id, stands, regions_stands, region_stands, ops_stands, gather, place_in, left_stand, dropping}
+use Rattle.ir_event.specs.tree_laws.Stands.{StepOf, OpWithPathOf, op_with_path_id, stands, regions_stands, region_stands, ops_stands, gather, place_in, left_stand, dropping}
 use Rattle.ir_event.proofs.of_tree_laws.Listed.{gather-append}
 use Rattle.ir_event.proofs.of_tree_laws.Readings.{step, stands_uses, stands_every}
 use Rattle.ir_event.proofs.of_tree_laws.Members.{stand, stand_found}
@@ -47,7 +47,7 @@ tagged k [] = []
 tagged k (h ∷ hs) = (h.id, k h) ∷ tagged k hs
 
 module _ {N T A : Type 0} where
-  abbrev pub head_in : StandOf N T A → HeadOf N T A
+  abbrev pub head_in : OpWithPathOf N T A → HeadOf N T A
   head_in s = head s.here
 
   mutual
@@ -69,7 +69,7 @@ module _ {N T A : Type 0} where
         map-append head_in (stands (step p r args preceding os ∷ path) o) (ops_stands p path r args (preceding ++ o ∷ []) os)
         ∙ λ i. stand_heads (step p r args preceding os ∷ path) o i ++ ops_stand_heads p path r args (preceding ++ o ∷ []) os i
 
-  left_heads : (x : ℕ) (ss : List (StandOf N T A)) → map head_in (map (left_stand x) ss) ≡ map head_in ss
+  left_heads : (x : ℕ) (ss : List (OpWithPathOf N T A)) → map head_in (map (left_stand x) ss) ≡ map head_in ss
   left_heads x [] = refl
   left_heads x (s ∷ ss) = λ i. same_head x (dropping x) s.here i ∷ left_heads x ss i
 
@@ -95,17 +95,17 @@ module _ {N T A : Type 0} where
           }
 
   -- the value of each operation is that of its head
-  tagged_in : {V : Type 0} (k : HeadOf N T A → V) (ss : List (StandOf N T A)) → tagged k (map head_in ss) ≡ map (says (λ (o : OpOf N T A). k (head o))) ss
+  tagged_in : {V : Type 0} (k : HeadOf N T A → V) (ss : List (OpWithPathOf N T A)) → tagged k (map head_in ss) ≡ map (says (λ (o : OpOf N T A). k (head o))) ss
   tagged_in k [] = refl
-  tagged_in k (s ∷ ss) = ap (λ l. (stand_id s, k (head s.here)) ∷ l) (tagged_in k ss)
+  tagged_in k (s ∷ ss) = ap (λ l. (op_with_path_id s, k (head s.here)) ∷ l) (tagged_in k ss)
 
   pub heads_tagged : {V : Type 0} (k : HeadOf N T A → V) (t : OpOf N T A) → tagged k (heads t) ≡ of_each (λ o. k (head o)) t
   heads_tagged k t = ap (tagged k) (sym (stand_heads [] t)) ∙ tagged_in k (stands [] t)
 
   -- values without uses
-  used_in : (v : Value) (ss : List (StandOf N T A)) → gather (λ (h : HeadOf N T A). operand_uses v h.id 0 h.operands) (map head_in ss) ≡ gather (λ s. operand_uses v (stand_id s) 0 (head s.here).operands) ss
+  used_in : (v : Value) (ss : List (OpWithPathOf N T A)) → gather (λ (h : HeadOf N T A). operand_uses v h.id 0 h.operands) (map head_in ss) ≡ gather (λ s. operand_uses v (op_with_path_id s) 0 (head s.here).operands) ss
   used_in v [] = refl
-  used_in v (s ∷ ss) = ap (λ l. operand_uses v (stand_id s) 0 (head s.here).operands ++ l) (used_in v ss)
+  used_in v (s ∷ ss) = ap (λ l. operand_uses v (op_with_path_id s) 0 (head s.here).operands ++ l) (used_in v ss)
 
   heads_uses : (v : Value) (t : OpOf N T A) → gather (λ (h : HeadOf N T A). operand_uses v h.id 0 h.operands) (heads t) ≡ uses_of v t
   heads_uses v t = ap (gather (λ (h : HeadOf N T A). operand_uses v h.id 0 h.operands)) (sym (stand_heads [] t)) ∙ used_in v (stands [] t) ∙ stands_uses v [] t
@@ -172,7 +172,7 @@ module _ {N T A : Type 0} where
   pub unused_among : (x : ℕ) (t : OpOf N T A) → ((v : Value) → (owner_of v).0 ≡ x → uses_of v t ≡ []) → results_among x (all_operands (heads t)) ≡ 0
   unused_among x t u = none_among x (heads t) (λ v o. heads_uses v t ∙ u v (eqb-true (owner_of v).0 x o))
 
-  all_none : (x : ℕ) (ss : List (StandOf N T A)) → list_all (λ s. list_all (λ v. not (is_result_of x v)) (head s.here).operands) ss ≡ nat_lt (results_among x (all_operands (map head_in ss))) 1
+  all_none : (x : ℕ) (ss : List (OpWithPathOf N T A)) → list_all (λ s. list_all (λ v. not (is_result_of x v)) (head s.here).operands) ss ≡ nat_lt (results_among x (all_operands (map head_in ss))) 1
   all_none x [] = refl
   all_none x (s ∷ ss) =
       (λ i. none_of x (head s.here).operands i && all_none x ss i)

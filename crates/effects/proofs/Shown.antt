@@ -7,7 +7,7 @@ use Rattle.std.proofs.lemmas.List.{map-append}
 use Rattle.std.proofs.lemmas.Map.Keys.{IsDistinct-head, IsDistinct-tail}
 use Rattle.ir_event.specs.trees.Tree.{OpOf, op, RegionsOf, no_regions, region, RegionOf, empty, block, OpsOf, no_ops, next}
 use Rattle.ir_event.specs.trees.Ids.{ids, regions_ids, region_ids, ops_ids, HasDistinctIds, find}
-use Rattle.ir_event.specs.tree_laws.Stands.{StepOf, StandOf, stand_id, stands, regions_stands, region_stands, ops_stands, stand_in}
+use Rattle.ir_event.specs.tree_laws.Stands.{StepOf, OpWithPathOf, op_with_path_id, stands, regions_stands, region_stands, ops_stands, find_op_with_path}
 use Rattle.ir_event.proofs.of_tree_laws.Readings.{step, stands_ids, stands_find}
 use Rattle.std.proofs.lemmas.Bool.Decides.{nat_tests}
 use Rattle.effects.specs.declared.kinds.EffectKinds.{EffectKinds}
@@ -111,20 +111,20 @@ each_all P (n ∷ ns) h = (h n (inl refl), each_all P ns (λ m a. h m (inr a)))
 -- ---- a value for each operation of a tree
 
 module _ {N T A V : Type 0} (f : OpOf N T A → V) where
-  abbrev pub says : StandOf N T A → ℕ × V
-  says s = (stand_id s, f s.here)
+  abbrev pub says : OpWithPathOf N T A → ℕ × V
+  says s = (op_with_path_id s, f s.here)
 
-  pub said_ids : (ss : List (StandOf N T A)) → map (λ (p : ℕ × V). p.0) (map says ss) ≡ map (λ (s : StandOf N T A). stand_id s) ss
+  pub said_ids : (ss : List (OpWithPathOf N T A)) → map (λ (p : ℕ × V). p.0) (map says ss) ≡ map (λ (s : OpWithPathOf N T A). op_with_path_id s) ss
   said_ids [] = refl
-  said_ids (s ∷ ss) = ap (λ l. stand_id s ∷ l) (said_ids ss)
+  said_ids (s ∷ ss) = ap (λ l. op_with_path_id s ∷ l) (said_ids ss)
 
-  look_stands : (x : ℕ) (ss : List (StandOf N T A)) → look x (map says ss) ≡ option_map f (option_map (λ (s : StandOf N T A). s.here) (stand_in x ss))
+  look_stands : (x : ℕ) (ss : List (OpWithPathOf N T A)) → look x (map says ss) ≡ option_map f (option_map (λ (s : OpWithPathOf N T A). s.here) (find_op_with_path x ss))
   look_stands x [] = refl
   look_stands x (s ∷ ss) =
-      ap (λ b. cond b (Some (f s.here)) (look x (map says ss))) (flip x (stand_id s))
-      ∙ ap (cond (eqb (stand_id s) x) (Some (f s.here))) (look_stands x ss)
-      ∙ elim (eqb (stand_id s) x) as (λ b. cond b (Some (f s.here)) (option_map f (option_map (λ (s : StandOf N T A). s.here) (stand_in x ss)))
-      ≡ option_map f (option_map (λ (s : StandOf N T A). s.here) (cond b (Some s) (stand_in x ss)))) [ true ↦ refl | false ↦ refl ]
+      ap (λ b. cond b (Some (f s.here)) (look x (map says ss))) (flip x (op_with_path_id s))
+      ∙ ap (cond (eqb (op_with_path_id s) x) (Some (f s.here))) (look_stands x ss)
+      ∙ elim (eqb (op_with_path_id s) x) as (λ b. cond b (Some (f s.here)) (option_map f (option_map (λ (s : OpWithPathOf N T A). s.here) (find_op_with_path x ss)))
+      ≡ option_map f (option_map (λ (s : OpWithPathOf N T A). s.here) (cond b (Some s) (find_op_with_path x ss)))) [ true ↦ refl | false ↦ refl ]
     where
       flip : (a b : ℕ) → eqb a b ≡ eqb b a
       flip a b = grind (arith, nat_tests)
@@ -143,19 +143,19 @@ module _ {N T A V : Type 0} (f : OpOf N T A → V) where
 
 module _ {N T A : Type 0} (own : N → Own) where
   mutual
-    each_listed : (path : List (StepOf N T A)) (t : OpOf N T A) → map (λ (s : StandOf N T A). (stand_id s, effects own s.here)) (stands path t) ≡ listed own t
+    each_listed : (path : List (StepOf N T A)) (t : OpOf N T A) → map (λ (s : OpWithPathOf N T A). (op_with_path_id s, effects own s.here)) (stands path t) ≡ listed own t
     each_listed path (op h rs) = ap (λ l. (h.id, effects own (op h rs)) ∷ l) (regions_each_listed (op h rs) path 0 rs)
 
-    regions_each_listed : (p : OpOf N T A) (path : List (StepOf N T A)) (r : ℕ) (rs : RegionsOf N T A) → map (λ (s : StandOf N T A). (stand_id s, effects own s.here)) (regions_stands p path r rs) ≡ regions_listed own rs
+    regions_each_listed : (p : OpOf N T A) (path : List (StepOf N T A)) (r : ℕ) (rs : RegionsOf N T A) → map (λ (s : OpWithPathOf N T A). (op_with_path_id s, effects own s.here)) (regions_stands p path r rs) ≡ regions_listed own rs
     regions_each_listed p path r no_regions = refl
     regions_each_listed p path r (region g rs) =
         map-append (says (effects own)) (region_stands p path r g) (regions_stands p path (r + 1) rs) ∙ λ i. region_each_listed p path r g i ++ regions_each_listed p path (r + 1) rs i
 
-    region_each_listed : (p : OpOf N T A) (path : List (StepOf N T A)) (r : ℕ) (g : RegionOf N T A) → map (λ (s : StandOf N T A). (stand_id s, effects own s.here)) (region_stands p path r g) ≡ region_listed own g
+    region_each_listed : (p : OpOf N T A) (path : List (StepOf N T A)) (r : ℕ) (g : RegionOf N T A) → map (λ (s : OpWithPathOf N T A). (op_with_path_id s, effects own s.here)) (region_stands p path r g) ≡ region_listed own g
     region_each_listed p path r empty = refl
     region_each_listed p path r (block args os) = ops_each_listed p path r args [] os
 
-    ops_each_listed : (p : OpOf N T A) (path : List (StepOf N T A)) (r : ℕ) (args : List T) (preceding : List (OpOf N T A)) (os : OpsOf N T A) → map (λ (s : StandOf N T A). (stand_id s, effects own s.here)) (ops_stands p path r args preceding os) ≡ ops_listed own os
+    ops_each_listed : (p : OpOf N T A) (path : List (StepOf N T A)) (r : ℕ) (args : List T) (preceding : List (OpOf N T A)) (os : OpsOf N T A) → map (λ (s : OpWithPathOf N T A). (op_with_path_id s, effects own s.here)) (ops_stands p path r args preceding os) ≡ ops_listed own os
     ops_each_listed p path r args preceding no_ops = refl
     ops_each_listed p path r args preceding (next o os) =
         map-append (says (effects own)) (stands (step p r args preceding os ∷ path) o) (ops_stands p path r args (preceding ++ o ∷ []) os)

@@ -16,7 +16,7 @@ use Rattle.ir_event.specs.trees.Maps.{map_head, map_tree, map_regions, map_regio
 use Rattle.ir_event.specs.trees.Meaning.{meaning, isolated_in}
 use Rattle.ir_event.proofs.of_trees.Mapped.{map_find}
 use Rattle.ir_event.proofs.of_trees.Replaced.{same_value_refl, same_value_true}
-use Rattle.ir_event.specs.tree_laws.Stands.{StandOf, stand_id, stands, dominated_by, gather}
+use Rattle.ir_event.specs.tree_laws.Stands.{OpWithPathOf, op_with_path_id, stands, dominated_by, gather}
 use Rattle.ir_event.specs.tree_laws.Members.{In}
 use Rattle.ir_event.proofs.of_tree_laws.Listed.{bool_cases, all_each, each_all, both}
 use Rattle.ir_event.proofs.of_tree_laws.Readings.{stands_every, stands_uses}
@@ -43,14 +43,14 @@ none_here v x k [] f = refl
 none_here v x k (w ∷ ws) f = ap (λ b. cond b ((x, k) ∷ operand_uses v x (k + 1) ws) (operand_uses v x (k + 1) ws)) (f w (inl refl)) ∙ none_here v x (k + 1) ws (λ u h. f u (inr h))
 
 module _ {N T A : Type 0} where
-  each_unused : (x : ℕ) (t : OpOf N T A) → is_unused x t ≡ true → (s : StandOf N T A) → In s (stands [] t) → (v : Value) → In v (head s.here).operands → not (is_result_of x v) ≡ true
-  each_unused x t e s h v m = all_each (λ v. not (is_result_of x v)) (head s.here).operands (all_each (λ (s : StandOf N T A). list_all (λ v. not (is_result_of x v)) (head s.here).operands) (stands [] t) (stands_every (λ o. list_all (λ v. not (is_result_of x v)) (head o).operands) [] t ∙ e) s h) v m
+  each_unused : (x : ℕ) (t : OpOf N T A) → is_unused x t ≡ true → (s : OpWithPathOf N T A) → In s (stands [] t) → (v : Value) → In v (head s.here).operands → not (is_result_of x v) ≡ true
+  each_unused x t e s h v m = all_each (λ v. not (is_result_of x v)) (head s.here).operands (all_each (λ (s : OpWithPathOf N T A). list_all (λ v. not (is_result_of x v)) (head s.here).operands) (stands [] t) (stands_every (λ o. list_all (λ v. not (is_result_of x v)) (head o).operands) [] t ∙ e) s h) v m
 
   no_uses : (x k : ℕ) (t : OpOf N T A) → is_unused x t ≡ true → uses_of (Result x k) t ≡ []
   no_uses x k t e =
       sym (stands_uses (Result x k) [] t)
-      ∙ gather_none (λ (s : StandOf N T A). operand_uses (Result x k) (stand_id s) 0 (head s.here).operands) (stands [] t) (λ s h.
-      none_here (Result x k) (stand_id s) 0 (head s.here).operands (λ w m. elim (bool_cases (same_value (Result x k) w)) [
+      ∙ gather_none (λ (s : OpWithPathOf N T A). operand_uses (Result x k) (op_with_path_id s) 0 (head s.here).operands) (stands [] t) (λ s h.
+      none_here (Result x k) (op_with_path_id s) 0 (head s.here).operands (λ w m. elim (bool_cases (same_value (Result x k) w)) [
         | inr i ↦ i
         | inl i ↦ absurd (
             let one : Result x k ≡ w = same_value_true (Result x k) w i in
@@ -66,7 +66,7 @@ module _ {N T A : Type 0} where
       go true e = absurd (some (no_uses x k t e))
 
   -- results without uses
-  module _ (isolated : N → Bool) (t : OpOf N T A) (d : HasDistinctIds t) (wellformed : (s : StandOf N T A) → In s (stands [] t) → list_all (dominated_by isolated s.path) (head s.here).operands ≡ true) (x : ℕ) (o : OpOf N T A) (found : find x t ≡ Some o)
+  module _ (isolated : N → Bool) (t : OpOf N T A) (d : HasDistinctIds t) (wellformed : (s : OpWithPathOf N T A) → In s (stands [] t) → list_all (dominated_by isolated s.path) (head s.here).operands ≡ true) (x : ℕ) (o : OpOf N T A) (found : find x t ≡ Some o)
       (unused : (k : ℕ) → k < length (head o).results → uses_of (Result x k) t ≡ []) where
     few : (k : ℕ) → is_some (option_and_then (λ z. slice_get (head z).results k) (find x t)) ≡ true → k < length (head o).results
     few k e = go (slice_get (head o).results k) refl (sym (ap (λ f. is_some (option_and_then (λ z. slice_get (head z).results k) f)) found) ∙ e)
@@ -75,14 +75,14 @@ module _ {N T A : Type 0} where
         go None e h = absurd (true≢false (sym h))
         go (Some y) e h = slice_get_within (head o).results k y e
 
-    not_used : (s : StandOf N T A) → In s (stands [] t) → (k : ℕ) → In (Result x k) (head s.here).operands → ⊥
+    not_used : (s : OpWithPathOf N T A) → In s (stands [] t) → (k : ℕ) → In (Result x k) (head s.here).operands → ⊥
     not_used s h k m =
         let e = all_each (dominated_by isolated s.path) (head s.here).operands (wellformed s h) (Result x k) m in
         let l = few k (seen_by isolated t d s h (Result x k) e).is in
-        let n = used_here (Result x k) (stand_id s) 0 (head s.here).operands (Result x k) m (same_value_refl (Result x k)) in
-        subst (In (stand_id s, n.0)) (stands_uses (Result x k) [] t ∙ unused k l) (in_gather (λ (z : StandOf N T A). operand_uses (Result x k) (stand_id z) 0 (head z.here).operands) (stand_id s, n.0) s (stands [] t) h n.1)
+        let n = used_here (Result x k) (op_with_path_id s) 0 (head s.here).operands (Result x k) m (same_value_refl (Result x k)) in
+        subst (In (op_with_path_id s, n.0)) (stands_uses (Result x k) [] t ∙ unused k l) (in_gather (λ (z : OpWithPathOf N T A). operand_uses (Result x k) (op_with_path_id z) 0 (head z.here).operands) (op_with_path_id s, n.0) s (stands [] t) h n.1)
 
-    one_unused : (s : StandOf N T A) → In s (stands [] t) → (v : Value) → In v (head s.here).operands → not (is_result_of x v) ≡ true
+    one_unused : (s : OpWithPathOf N T A) → In s (stands [] t) → (v : Value) → In v (head s.here).operands → not (is_result_of x v) ≡ true
     one_unused s h (Arg y r k) m = refl
     one_unused s h (Result y k) m = go (eqb y x) refl
       where
@@ -93,7 +93,7 @@ module _ {N T A : Type 0} where
     pub unused_results : true ≡ is_unused x t
     unused_results =
         sym (sym (stands_every (λ o. list_all (λ v. not (is_result_of x v)) (head o).operands) [] t)
-        ∙ each_all (λ (s : StandOf N T A). list_all (λ v. not (is_result_of x v)) (head s.here).operands) (stands [] t) (λ s h. each_all (λ v. not (is_result_of x v)) (head s.here).operands (λ v m. one_unused s h v m)))
+        ∙ each_all (λ (s : OpWithPathOf N T A). list_all (λ v. not (is_result_of x v)) (head s.here).operands) (stands [] t) (λ s h. each_all (λ v. not (is_result_of x v)) (head s.here).operands (λ v m. one_unused s h v m)))
 
 -- in terms of the module's contents
 module _ {N T A M U B : Type 0} (f : N → M) (g : T → U) (h : A → B) where

@@ -2,7 +2,7 @@
 use Rattle.std.specs.Prelude.{ℕ, List, [], ◌∷◌, ◌++◌, map, Bool, if◌then◌else◌}
 use Rattle.ir_event.specs.trees.Tree.{OpOf}
 use Rattle.ir_event.specs.trees.Meaning.{Operation}
-use Rattle.ir_event.specs.tree_laws.Stands.{stand_id, stands}
+use Rattle.ir_event.specs.tree_laws.Stands.{op_with_path_id, stands}
 use Rattle.ir_event.specs.Rows.{RowTerm, Op, Tag, by_id}
 use Rattle.ir_event.specs.Tags.{tag_number}
 use Rattle.ir_event.specs.declared.tag.Tag.TheVariants as word
@@ -13,7 +13,7 @@ use Rattle.effects.specs.Dead.{is_dead}
 
 -- each operation of a tree, by its id, with the value of a function
 abbrev pub of_each : {N T A V : Type 0} → (OpOf N T A → V) → OpOf N T A → List (ℕ × V)
-of_each f t = map (λ s. (stand_id s, f s.here)) (stands [] t)
+of_each f t = map (λ s. (op_with_path_id s, f s.here)) (stands [] t)
 
 -- the operations that have an effect
 abbrev pub having : List (ℕ × EffectKinds) → List (ℕ × EffectKinds)

@@ -2,7 +2,7 @@
 use Rattle.std.specs.Prelude.{ℕ, zero, suc, List, [], ◌∷◌, length, Option, Some, None, option_map}
 use Rattle.ir_event.specs.trees.Tree.{OpOf, OpsOf, no_ops, next, RegionsOf, no_regions, region, regions}
 use Rattle.ir_event.specs.trees.Ids.{op_count, ops_ids}
-use Rattle.ir_event.specs.tree_laws.Stands.{StepOf, StandOf, stand_of}
+use Rattle.ir_event.specs.tree_laws.Stands.{StepOf, OpWithPathOf, op_with_path}
 use Rattle.ir_event.specs.tree_laws.Reads.{ops_at}
 
 -- the operations after one in its block, given its path
@@ -16,13 +16,13 @@ some_ops None = no_ops
 some_ops (Some os) = os
 
 -- an operation with the operations after it
-abbrev pub onward : {N T A : Type 0} → StandOf N T A → OpsOf N T A
+abbrev pub onward : {N T A : Type 0} → OpWithPathOf N T A → OpsOf N T A
 onward s = next s.here (trailing s.path)
 
 -- operation x with the operations after it, if there is an x
 abbrev pub ops_from : {N T A : Type 0} → Option ℕ → OpOf N T A → OpsOf N T A
 ops_from None t = no_ops
-ops_from (Some x) t = some_ops (option_map onward (stand_of x t))
+ops_from (Some x) t = some_ops (option_map onward (op_with_path x t))
 
 -- the operations of the block of region r of operation p
 abbrev pub list_at : {N T A : Type 0} → ℕ → ℕ → OpOf N T A → OpsOf N T A

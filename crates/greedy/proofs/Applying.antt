@@ -15,7 +15,7 @@ use Rattle.ir_event.specs.store.Nodes.{NodeOf, node_of, regions_arguments}
 use Rattle.ir_event.specs.tree_laws.Members.{In}
 use Rattle.ir_event.specs.tree_laws.Reads.{last_id, ops_in}
 use Rattle.ir_event.specs.tree_laws.Values.{region_at, type_of_value, arguments_of}
-use Rattle.ir_event.specs.tree_laws.Stands.{StepOf, StandOf, stands}
+use Rattle.ir_event.specs.tree_laws.Stands.{StepOf, OpWithPathOf, stands}
 use Rattle.ir_event.proofs.of_tree_laws.Members.{stand, found_stands}
 use Rattle.ir_event.specs.declared.event.Event.{Event}
 use Rattle.ir_event.specs.Modules.{Module}
@@ -34,8 +34,8 @@ use Rattle.user_patterns_data.specs.Shapes.{PatternModel}
 use Rattle.user_patterns_data.specs.Alike.{GivesAlike, ShowAlike, Under}
 use Rattle.user_patterns_data.specs.Depth.{is_shallow}
 use Rattle.user_patterns_data.proofs.Plans.{plans_alike}
-use Rattle.user_patterns_apply.specs.Own.{own_edits}
-use Rattle.greedy.proofs.OwnAlike.{defining_op_of, gives_alike, own_same}
+use Rattle.user_patterns_apply.specs.Own.{user_pattern_edits}
+use Rattle.greedy.proofs.UserPatternsAlike.{defining_op_of, gives_alike, own_same}
 use Rattle.greedy.specs.Reached.{ends, any_reaches}
 use Rattle.greedy.specs.LocalContext.{defining_op as defining_op_id, operands_of, Uses, is_listed, last_ids}
 use Rattle.greedy.specs.Near.{Leads}
@@ -191,10 +191,10 @@ module _ (shown : ℕ → List Value) (c : ContextModel) (es : List Event) (m n 
         inside (Result z k) h y e w j = by_found z k h y (find z t) refl e w j
 
     -- ---- which operations end its blocks
-    o_path : (s : StandOf (List ℕ) TypeTerm AttrTerm) × In (stand o s.path) (stands [] t)
+    o_path : (s : OpWithPathOf (List ℕ) TypeTerm AttrTerm) × In (stand o s.path) (stands [] t)
     o_path = let s = found_stands x t o is in (s.0, subst (λ (q : Operation). In (stand q s.0.path) (stands [] t)) s.3 s.1)
 
-    p_path : (s : StandOf (List ℕ) TypeTerm AttrTerm) × In (stand p s.path) (stands [] u)
+    p_path : (s : OpWithPathOf (List ℕ) TypeTerm AttrTerm) × In (stand p s.path) (stands [] u)
     p_path = let s = found_stands x u p was in (s.0, subst (λ (q : Operation). In (stand q s.0.path) (stands [] u)) s.3 s.1)
 
     same_last : (r : ℕ) → last_in r (regions o) ≡ last_in r (regions p)
@@ -317,14 +317,14 @@ module _ (shown : ℕ → List Value) (c : ContextModel) (es : List Event) (m n 
       last = last_typed;
     }
 
-    own_alike : (p : PatternModel) → is_shallow p ≡ true → Same (own_edits p n x) (own_edits p m x)
-    own_alike q h = own_same q n m x o p is was heads precedings (plans_alike q h t u (is_verified t) (is_verified u) n.next m.next x shows)
+    user_patterns_alike : (p : PatternModel) → is_shallow p ≡ true → Same (user_pattern_edits p n x) (user_pattern_edits p m x)
+    user_patterns_alike q h = own_same q n m x o p is was heads precedings (plans_alike q h t u (is_verified t) (is_verified u) n.next m.next x shows)
 
     stayed : Stayed m n x
     stayed = record {
       was = found_there u x p was;
       applies = λ r canonical. (none_from (edits_of r n x) (edits_of r m x) (edits_alike r canonical), none_from (edits_of r m x) (edits_of r n x) (sym (edits_alike r canonical)));
-      own = λ q h. (none_from (own_edits q n x) (own_edits q m x) (own_alike q h), none_from (own_edits q m x) (own_edits q n x) (sym (own_alike q h)));
+      own = λ q h. (none_from (user_pattern_edits q n x) (user_pattern_edits q m x) (user_patterns_alike q h), none_from (user_pattern_edits q m x) (user_pattern_edits q n x) (sym (user_patterns_alike q h)));
     }
 
   pub touched_all : Touched m n listed

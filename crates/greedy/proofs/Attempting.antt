@@ -17,7 +17,7 @@ use Rattle.patterns.specs.rewriter.Moves.{Recorded}
 use Rattle.patterns.specs.runs.Runs.{Noted}
 use Rattle.patterns.proofs.Notified.{notified_through}
 use Rattle.patterns.proofs.of_rewriter.Noted.{recorded_more}
-use Rattle.greedy.specs.PatternSet.{RuleOrPatternModel, attempt_of, attempted, patterns_of, by_or, first_tried, firing_tried, traced_as}
+use Rattle.greedy.specs.PatternSet.{RuleOrPatternModel, rule_or_pattern_of, rewrite_by_entry, patterns_of, by_or, first_applicable_rewrite, first_matching_entry, traced_as}
 use Rattle.greedy.specs.declared.applied_rewrite.AppliedPattern.{AppliedPattern}
 use Rattle.greedy.specs.declared.pattern_set.RuleOrPattern.{RuleOrPattern}
 use Rattle.greedy.proofs.Noting.{noted_left}
@@ -33,21 +33,21 @@ long (t ∷ ts) k n l e =
     omega (arith, e, same)
 
 module _ (ts : List RuleOrPattern) (first d : RuleOrPattern) (l : 1 ≤ length ts) (z : first ≡ get_or ts 0 d) (m : Module) (x : ℕ) where
-  pub comes_here : first_tried (patterns_of ts) m x ≡ or_else (attempted (attempt_of first) m x) (first_tried (patterns_of (tail ts)) m x)
-  unfolding first_tried
-  comes_here = ap (λ (us : List RuleOrPattern). first_tried (patterns_of us) m x) (rest_at ts first d l z)
+  pub comes_here : first_applicable_rewrite (patterns_of ts) m x ≡ or_else (rewrite_by_entry (rule_or_pattern_of first) m x) (first_applicable_rewrite (patterns_of (tail ts)) m x)
+  unfolding first_applicable_rewrite
+  comes_here = ap (λ (us : List RuleOrPattern). first_applicable_rewrite (patterns_of us) m x) (rest_at ts first d l z)
 
-  pub fires_here : (k : ℕ) → firing_tried k (patterns_of ts) m x ≡ by_or (attempted (attempt_of first) m x) (traced_as k (attempt_of first)) (firing_tried (k + 1) (patterns_of (tail ts)) m x)
-  unfolding firing_tried
-  fires_here k = ap (λ (us : List RuleOrPattern). firing_tried k (patterns_of us) m x) (rest_at ts first d l z)
+  pub fires_here : (k : ℕ) → first_matching_entry k (patterns_of ts) m x ≡ by_or (rewrite_by_entry (rule_or_pattern_of first) m x) (traced_as k (rule_or_pattern_of first)) (first_matching_entry (k + 1) (patterns_of (tail ts)) m x)
+  unfolding first_matching_entry
+  fires_here k = ap (λ (us : List RuleOrPattern). first_matching_entry k (patterns_of us) m x) (rest_at ts first d l z)
 
-pub none_comes : (ts : List RuleOrPattern) (m : Module) (x : ℕ) → length ts ≤ 0 → first_tried (patterns_of ts) m x ≡ none
-unfolding first_tried
+pub none_comes : (ts : List RuleOrPattern) (m : Module) (x : ℕ) → length ts ≤ 0 → first_applicable_rewrite (patterns_of ts) m x ≡ none
+unfolding first_applicable_rewrite
 none_comes [] m x l = refl
 none_comes (t ∷ ts) m x l = absurd (omega (arith, l))
 
-pub none_fires : (k : ℕ) (ts : List RuleOrPattern) (m : Module) (x : ℕ) → length ts ≤ 0 → firing_tried k (patterns_of ts) m x ≡ None
-unfolding firing_tried
+pub none_fires : (k : ℕ) (ts : List RuleOrPattern) (m : Module) (x : ℕ) → length ts ≤ 0 → first_matching_entry k (patterns_of ts) m x ≡ None
+unfolding first_matching_entry
 none_fires k [] m x l = refl
 none_fires k (t ∷ ts) m x l = absurd (omega (arith, l))
 

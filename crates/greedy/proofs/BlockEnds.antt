@@ -7,7 +7,7 @@ use Rattle.ir_event.specs.trees.Places.{place_of, first_id}
 use Rattle.ir_event.specs.store.Nodes.{NodeOf, node_of}
 use Rattle.ir_event.specs.tree_laws.Values.{region_at}
 use Rattle.ir_event.specs.tree_laws.Reads.{ops_in, last_id, last_at}
-use Rattle.ir_event.specs.tree_laws.Stands.{StepOf, StandOf, stand_id, stands, stand_of}
+use Rattle.ir_event.specs.tree_laws.Stands.{StepOf, OpWithPathOf, op_with_path_id, stands, op_with_path}
 use Rattle.ir_event.specs.tree_laws.Members.{In}
 use Rattle.ir_event.proofs.of_tree_laws.Members.{stand, member}
 use Rattle.ir_event.proofs.of_tree_laws.Around.{place_of_member}
@@ -29,12 +29,12 @@ module _ {N T A : Type 0} where
     pub parent : (head step.parent).id ≡ p
 
   pub ending : (p y : ℕ) (t : OpOf N T A) → ends p y t ≡ true → Ending p y t
-  ending p y t e = go (stand_of y t) refl
+  ending p y t e = go (op_with_path y t) refl
     where
-      by_end : (s : StandOf N T A) → Option (NodeOf N T A) → Bool
+      by_end : (s : OpWithPathOf N T A) → Option (NodeOf N T A) → Bool
       by_end s z = ends_of p (Some (record { node = node_of s.here; lasts = []; types = []; outer = Some (record { name = (head s.here).name; ended = z }) }))
 
-      by_rest : (s : StandOf N T A) → In s (stands [] t) → stand_id s ≡ y → (a : StepOf N T A) (q : List (StepOf N T A)) → s.path ≡ a ∷ q → (os : OpsOf N T A) → a.rest ≡ os → by_end s (ended_by a.parent os) ≡ true → Ending p y t
+      by_rest : (s : OpWithPathOf N T A) → In s (stands [] t) → op_with_path_id s ≡ y → (a : StepOf N T A) (q : List (StepOf N T A)) → s.path ≡ a ∷ q → (os : OpsOf N T A) → a.rest ≡ os → by_end s (ended_by a.parent os) ≡ true → Ending p y t
       by_rest s h i a q j no_ops k f = record {
         here = s.here;
         step = a;
@@ -46,11 +46,11 @@ module _ {N T A : Type 0} where
       }
       by_rest s h i a q j (next o os) k f = absurd (true≢false (sym f))
 
-      by_path : (s : StandOf N T A) → In s (stands [] t) → stand_id s ≡ y → (l : List (StepOf N T A)) → s.path ≡ l → ends_of p (Some (surround t (stand s.here l))) ≡ true → Ending p y t
+      by_path : (s : OpWithPathOf N T A) → In s (stands [] t) → op_with_path_id s ≡ y → (l : List (StepOf N T A)) → s.path ≡ l → ends_of p (Some (surround t (stand s.here l))) ≡ true → Ending p y t
       by_path s h i [] j f = absurd (true≢false (sym f))
       by_path s h i (a ∷ q) j f = by_rest s h i a q j a.rest refl f
 
-      go : (f : Option (StandOf N T A)) → stand_of y t ≡ f → Ending p y t
+      go : (f : Option (OpWithPathOf N T A)) → op_with_path y t ≡ f → Ending p y t
       go None i = absurd (true≢false (sym e ∙ ap (λ f. ends_of p (option_map (surround t) f)) i))
       go (Some s) i =
           let m = member y (stands [] t) s i in

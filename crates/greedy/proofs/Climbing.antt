@@ -11,7 +11,7 @@ use Rattle.ir_event.specs.trees.Places.{place_of, first_id}
 use Rattle.ir_event.proofs.of_trees.Mapped.{map_find, map_place}
 use Rattle.ir_event.specs.store.Nodes.{Node, node_of}
 use Rattle.ir_event.specs.tree_laws.Reads.{parent_of}
-use Rattle.ir_event.specs.tree_laws.Stands.{StepOf, StandOf, stand_id, stands, stand_of, place_in}
+use Rattle.ir_event.specs.tree_laws.Stands.{StepOf, OpWithPathOf, op_with_path_id, stands, op_with_path, place_in}
 use Rattle.ir_event.specs.tree_laws.Members.{In}
 use Rattle.ir_event.proofs.of_tree_laws.Members.{stand, stand_of_member}
 use Rattle.ir_event.proofs.of_tree_laws.Around.{around_there, member_of_place}
@@ -104,19 +104,19 @@ module _ (w : World) where
       not x (suc k) c = true≢false (sym c.0 ∙ e)
 
 -- ---- the climb ends
-abbrev pub height_of : {N T A : Type 0} → Option (StandOf N T A) → ℕ
+abbrev pub height_of : {N T A : Type 0} → Option (OpWithPathOf N T A) → ℕ
 height_of None = 0
 height_of (Some s) = length s.path
 
-pub higher : {N T A : Type 0} (t : OpOf N T A) → HasDistinctIds t → (x : ℕ) (place : Place) → place_of x t ≡ Some place → height_of (stand_of place.parent t) < height_of (stand_of x t)
+pub higher : {N T A : Type 0} (t : OpOf N T A) → HasDistinctIds t → (x : ℕ) (place : Place) → place_of x t ≡ Some place → height_of (op_with_path place.parent t) < height_of (op_with_path x t)
 higher {N} {T} {A} t d x place e = let w = member_of_place x place t e in go w.0 w.0.path refl w.1 w.2 w.3
   where
-    go : (s : StandOf N T A) (p : List (StepOf N T A)) → s.path ≡ p → In s (stands [] t) → stand_id s ≡ x → place_in s.path ≡ Some place → height_of (stand_of place.parent t) < height_of (stand_of x t)
+    go : (s : OpWithPathOf N T A) (p : List (StepOf N T A)) → s.path ≡ p → In s (stands [] t) → op_with_path_id s ≡ x → place_in s.path ≡ Some place → height_of (op_with_path place.parent t) < height_of (op_with_path x t)
     go s [] q k i u = let no : None ≡ Some place = ap place_in (sym q) ∙ u in absurd cc
     go s (a ∷ p) q k i u =
         let two : Some (record { parent = (head a.parent).id; region = a.region; before = first_id a.rest }) ≡ Some place = ap place_in (sym q) ∙ u in
         let parent : (head a.parent).id ≡ place.parent = same_Some _ _ (ap (option_map (λ (z : Place). z.parent)) two) in
         let around = (around_there t s.here a p (subst (λ l. In (stand s.here l) (stands [] t)) q k)).1 in
-        let outer : height_of (stand_of place.parent t) ≡ length p = ap (λ z. height_of (stand_of z t)) (sym parent) ∙ ap height_of (stand_of_member t d (stand a.parent p) around) in
-        let here : height_of (stand_of x t) ≡ length (a ∷ p) = ap (λ z. height_of (stand_of z t)) (sym i) ∙ ap height_of (stand_of_member t d s k) ∙ ap length q in
+        let outer : height_of (op_with_path place.parent t) ≡ length p = ap (λ z. height_of (op_with_path z t)) (sym parent) ∙ ap height_of (stand_of_member t d (stand a.parent p) around) in
+        let here : height_of (op_with_path x t) ≡ length (a ∷ p) = ap (λ z. height_of (op_with_path z t)) (sym i) ∙ ap height_of (stand_of_member t d s k) ∙ ap length q in
         omega (arith, outer, here)

@@ -12,7 +12,7 @@ use Rattle.patterns_base.specs.declared.rule.Rule.{Rule}
 use Rattle.patterns_base.specs.Makes.{made_by}
 use Rattle.patterns_base.specs.Rewrites.{Rewrite, none, refused, becomes, edits_of, rewrite_by, rewrite_of}
 use Rattle.patterns_base.specs.Canonicalization.{Canonical, or_else, first_rule, greedy_rules, End, converged, limited, stopped, ended, end_of, go_on, most_rewrites}
-use Rattle.greedy.specs.Outcomes.{Applied, Refuses, Tells, IsCanonical, IsReason, IsReasonBy, IsReasonFor, IsRewriting, Stop, count_of, ending_of, is_limit}
+use Rattle.greedy.specs.Outcomes.{Applied, Refuses, MarksRewrite, IsCanonical, IsReason, IsReasonBy, IsReasonFor, IsRewriting, Stop, count_of, ending_of, is_limit}
 use Rattle.greedy.specs.PatternSet.{PatternSetModel, by_rules}
 use Rattle.greedy.specs.Rewriting.{first_by, next_by, rewritten_from, rewriting_of}
 use Rattle.greedy.specs.declared.outcome.Outcome.{Outcome}
@@ -24,11 +24,11 @@ limited_by (refused e) n = refl
 limited_by (becomes p) n = refl
 
 -- ---- what a call reports about the next rewrite
-pub tells : (a : Rewrite) (b : Bool) → b ≡ true → Tells a b → a ≢ none
+pub tells : (a : Rewrite) (b : Bool) → b ≡ true → MarksRewrite a b → a ≢ none
 tells a true t h = h
 tells a false t h = absurd (true≢false (sym t))
 
-pub tells_none : (a : Rewrite) (b : Bool) → b ≡ false → Tells a b → a ≡ none
+pub tells_none : (a : Rewrite) (b : Bool) → b ≡ false → MarksRewrite a b → a ≡ none
 tells_none a false f h = h
 tells_none a true f h = absurd (true≢false f)
 

@@ -10,7 +10,7 @@ use Rattle.ir_event.specs.trees.Places.{each_list, regions_each_list, region_eac
 use Rattle.ir_event.proofs.of_trees.Moves.{Absent, absent_parts, ops_unput, list_id}
 use Rattle.ir_event.proofs.of_trees.Returns.{Present, absent_first, halves, elsewhere}
 use Rattle.ir_event.proofs.of_trees.Left.{left_distinct}
-use Rattle.ir_event.specs.tree_laws.Stands.{StandOf, stand_id, stands, is_gone, left_stand, dropping}
+use Rattle.ir_event.specs.tree_laws.Stands.{OpWithPathOf, op_with_path_id, stands, is_gone, left_stand, dropping}
 use Rattle.ir_event.specs.tree_laws.Members.{In}
 use Rattle.ir_event.proofs.of_tree_laws.Listed.{both}
 use Rattle.ir_event.proofs.of_tree_laws.Members.{stand, within, found_stands, stand_found, found_in}
@@ -159,10 +159,10 @@ module _ {N T A : Type 0} where
       w = part t d o i.step_in i.path i.there
 
       us : List ℕ
-      us = map (λ (z : StandOf N T A). stand_id z) w.preceding
+      us = map (λ (z : OpWithPathOf N T A). op_with_path_id z) w.preceding
 
       vs : List ℕ
-      vs = map (λ (z : StandOf N T A). stand_id z) w.back
+      vs = map (λ (z : OpWithPathOf N T A). op_with_path_id z) w.back
 
       cut : ids t ≡ us ++ (ids o ++ vs)
       cut = parted_ids (head o).id (i.step_in ∷ i.path) o t w
@@ -187,14 +187,14 @@ module _ {N T A : Type 0} where
         let w = gone_within y t s.0.path s.0.here s.1 k in
         let two : Some w.here ≡ Some o = sym (stand_found t d (stand w.here (w.step_in ∷ w.path)) w.there) ∙ ap (λ j. find j t) w.id ∙ e in
         let same : w.here ≡ o = cc in
-        true≢false (sym (subst (λ j. Present j (ids o)) s.2 (subst (λ (q : OpOf N T A). Present (stand_id s.0) (ids q)) same (stand_present (w.step_in ∷ w.path) w.here s.0 w.inner))) ∙ a))
+        true≢false (sym (subst (λ j. Present j (ids o)) s.2 (subst (λ (q : OpOf N T A). Present (op_with_path_id s.0) (ids q)) same (stand_present (w.step_in ∷ w.path) w.here s.0 w.inner))) ∙ a))
     | inr k ↦
         ap (λ j. find j (without y t)) (sym (list_id (dropping y) s.0.here ∙ s.2))
         ∙ stand_found (without y t) (left_distinct y t d) (left_stand y s.0) (left_member y t s.0 s.1 k)
         ∙ ap (λ (q : OpOf N T A). Some (without y q)) s.3
   ]
     where
-      s : (s : StandOf N T A) × In s (stands [] t) × (stand_id s ≡ z) × (s.here ≡ v)
+      s : (s : OpWithPathOf N T A) × In s (stands [] t) × (op_with_path_id s ≡ z) × (s.here ≡ v)
       s = found_stands z t v f
 
   -- an operation that is found inside an operation of a tree is found in the tree

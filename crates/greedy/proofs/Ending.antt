@@ -6,7 +6,7 @@ use Rattle.ir_event.specs.trees.Ids.{HasDistinctIds, first_of, find}
 use Rattle.ir_event.specs.store.Nodes.{node_of}
 use Rattle.ir_event.specs.tree_laws.Values.{region_at}
 use Rattle.ir_event.specs.tree_laws.Reads.{last_id, ops_in, last_at}
-use Rattle.ir_event.specs.tree_laws.Stands.{StepOf, stands, stand_of}
+use Rattle.ir_event.specs.tree_laws.Stands.{StepOf, stands, op_with_path}
 use Rattle.ir_event.specs.tree_laws.Members.{In}
 use Rattle.ir_event.proofs.of_tree_laws.Readings.{step}
 use Rattle.ir_event.proofs.of_tree_laws.Members.{stand, stand_of_member, found_stands}
@@ -21,7 +21,7 @@ module _ {N T A : Type 0} (t : OpOf N T A) (d : HasDistinctIds t) where
   last_ends p path r args os y h f e =
       let s = split_last y os e in
       let z = stand s.last (step p r args s.preceding no_ops ∷ path) in
-      let there : stand_of y t ≡ Some z = ap (λ k. stand_of k t) (sym s.id) ∙ stand_of_member t d z (last_stands t d p path r args os y h f e) in
+      let there : op_with_path y t ≡ Some z = ap (λ k. op_with_path k t) (sym s.id) ∙ stand_of_member t d z (last_stands t d p path r args os y h f e) in
       ap (λ o. ends_of (head p).id (option_map (surround t) o)) there ∙ same p
     where
       same : (p : OpOf N T A) → eqb (node_of p).head.id (head p).id ≡ true

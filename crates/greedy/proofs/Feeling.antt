@@ -5,7 +5,7 @@ use Rattle.ir_event.specs.trees.Ids.{HasDistinctIds}
 use Rattle.ir_event.specs.trees.Places.{each_list, regions_each_list}
 use Rattle.ir_event.specs.trees.Edits.{each_head, regions_each_head, ops_each_head}
 use Rattle.ir_event.specs.tree_laws.Reads.{parent_of}
-use Rattle.ir_event.specs.tree_laws.Stands.{StepOf, StandOf, stands, regions_stands, ops_stands, dropping}
+use Rattle.ir_event.specs.tree_laws.Stands.{StepOf, OpWithPathOf, stands, regions_stands, ops_stands, dropping}
 use Rattle.ir_event.specs.tree_laws.Members.{In}
 use Rattle.ir_event.proofs.of_tree_laws.Listed.{bool_cases, neither, in_left, in_right}
 use Rattle.ir_event.proofs.of_tree_laws.Readings.{step}
@@ -80,13 +80,13 @@ module _ {N T A : Type 0} (own : N → Own) where
     parent_there o a q h = ap (λ z. elim z as (λ _. Option ℕ) [ None ↦ None | Some p ↦ Some p.parent ]) (place_of_member t dist o a q h)
 
     mutual
-      pub climbed : (o : OpOf N T A) (q : List (StepOf N T A)) → In (stand o q) (stands [] t) → ((s : StandOf N T A) → In s (stands q o) → In s (stands [] t)) → feels own x o ≡ true → Climbed (head o).id
+      pub climbed : (o : OpOf N T A) (q : List (StepOf N T A)) → In (stand o q) (stands [] t) → ((s : OpWithPathOf N T A) → In s (stands q o) → In s (stands [] t)) → feels own x o ≡ true → Climbed (head o).id
       climbed (op h rs) q here all f =
           let w = and_parts (is_recursive (own h.name)) (regions_feel own x rs) f in
           let r : recursive_at own h.id t ≡ true = ap (λ z. elim z as (λ _. Bool) [ None ↦ false | Some o ↦ is_recursive (own (head o).name) ]) (stand_found t dist (stand (op h rs) q) here) ∙ w.0 in
           climbed_regions (op h rs) q r 0 rs (λ s k. all s (inr k)) w.1
 
-      climbed_regions : (p : OpOf N T A) (q : List (StepOf N T A)) → recursive_at own (head p).id t ≡ true → (r : ℕ) (rs : RegionsOf N T A) → ((s : StandOf N T A) → In s (regions_stands p q r rs) → In s (stands [] t)) → regions_feel own x rs ≡ true → Climbed (head p).id
+      climbed_regions : (p : OpOf N T A) (q : List (StepOf N T A)) → recursive_at own (head p).id t ≡ true → (r : ℕ) (rs : RegionsOf N T A) → ((s : OpWithPathOf N T A) → In s (regions_stands p q r rs) → In s (stands [] t)) → regions_feel own x rs ≡ true → Climbed (head p).id
       climbed_regions p q rec r no_regions all f = absurd (true≢false (sym f))
       climbed_regions p q rec r (region empty rs) all f = climbed_regions p q rec (r + 1) rs all f
       climbed_regions p q rec r (region (block args os) rs) all f =
@@ -97,7 +97,7 @@ module _ {N T A : Type 0} (own : N → Own) where
             | inr e ↦ climbed_regions p q rec (r + 1) rs (λ s k. all s (in_right s xs ys k)) e
           ]
 
-      climbed_ops : (p : OpOf N T A) (q : List (StepOf N T A)) → recursive_at own (head p).id t ≡ true → (r : ℕ) (args : List T) (preceding : List (OpOf N T A)) (os : OpsOf N T A) → ((s : StandOf N T A) → In s (ops_stands p q r args preceding os) → In s (stands [] t)) → ops_feel own x os ≡ true → Climbed (head p).id
+      climbed_ops : (p : OpOf N T A) (q : List (StepOf N T A)) → recursive_at own (head p).id t ≡ true → (r : ℕ) (args : List T) (preceding : List (OpOf N T A)) (os : OpsOf N T A) → ((s : OpWithPathOf N T A) → In s (ops_stands p q r args preceding os) → In s (stands [] t)) → ops_feel own x os ≡ true → Climbed (head p).id
       climbed_ops p q rec r args preceding no_ops all f = absurd (true≢false (sym f))
       climbed_ops p q rec r args preceding (next o os) all f =
           let a = step p r args preceding os in
@@ -114,5 +114,5 @@ module _ {N T A : Type 0} (own : N → Own) where
           ]
 
     -- an operation of the tree
-    pub climbed_from : (y : ℕ) (o : OpOf N T A) (q : List (StepOf N T A)) → In (stand o q) (stands [] t) → (head o).id ≡ y → ((s : StandOf N T A) → In s (stands q o) → In s (stands [] t)) → feels own x o ≡ true → Climbed y
+    pub climbed_from : (y : ℕ) (o : OpOf N T A) (q : List (StepOf N T A)) → In (stand o q) (stands [] t) → (head o).id ≡ y → ((s : OpWithPathOf N T A) → In s (stands q o) → In s (stands [] t)) → feels own x o ≡ true → Climbed y
     climbed_from y o q here e all f = subst Climbed e (climbed o q here all f)

@@ -13,7 +13,7 @@ use Rattle.ir_event.specs.store.Nodes.{NodeOf, node_of}
 use Rattle.ir_event.specs.tree_laws.Values.{region_at}
 use Rattle.ir_event.specs.trees.Tree.{ops_of}
 use Rattle.ir_event.specs.tree_laws.Reads.{ops_at, ops_in, last_id, id_before, is_among, goes_before, list_of, in_list, is_before, prev_of, parent_of, precedes, comes_after}
-use Rattle.ir_event.specs.tree_laws.Stands.{StepOf, StandOf, stand_id, stand_in, place_in, stands, regions_stands, region_stands, ops_stands, stand_of, dominated_by}
+use Rattle.ir_event.specs.tree_laws.Stands.{StepOf, OpWithPathOf, op_with_path_id, find_op_with_path, place_in, stands, regions_stands, region_stands, ops_stands, op_with_path, dominated_by}
 use Rattle.ir_event.specs.trees.declared.value.Value.TheVariants.{Result}
 use Rattle.ir_event.specs.trees.Sites.{arguments, results_of, shows}
 use Rattle.ir_event.specs.tree_laws.Members.{In}
@@ -63,18 +63,18 @@ module _ {N T A : Type 0} where
   from_more (suc k) g rs (region h os) e = let one : suc (k + 1) ≡ suc k + 1 = omega arith in subst (λ j. regions_from j (region h os) ≡ rs) one (from_more k g rs os e)
 
   -- the ids of a tree, split after the contents of an operation
-  abbrev Cut : List ℕ → StandOf N T A → Type 0
+  abbrev Cut : List ℕ → OpWithPathOf N T A → Type 0
   Cut all s = (preceding : List ℕ) × (all ≡ preceding ++ (ids s.here ++ trailing s.path))
 
-  cut_more : (more xs : List ℕ) (s : StandOf N T A) → Cut xs s → Cut (more ++ xs) s
+  cut_more : (more xs : List ℕ) (s : OpWithPathOf N T A) → Cut xs s → Cut (more ++ xs) s
   cut_more more xs s c = (more ++ c.0, ap (λ l. more ++ l) c.1 ∙ sym (append_assoc more c.0 (ids s.here ++ trailing s.path)))
 
   mutual
-    pub cut_op : (b : List (StepOf N T A)) (t : OpOf N T A) (s : StandOf N T A) → In s (stands b t) → Cut (ids t ++ trailing b) s
-    cut_op b (op h rs) s (inl e) = ([], ap (λ (z : StandOf N T A). ids z.here ++ trailing z.path) (sym e))
+    pub cut_op : (b : List (StepOf N T A)) (t : OpOf N T A) (s : OpWithPathOf N T A) → In s (stands b t) → Cut (ids t ++ trailing b) s
+    cut_op b (op h rs) s (inl e) = ([], ap (λ (z : OpWithPathOf N T A). ids z.here ++ trailing z.path) (sym e))
     cut_op b (op h rs) s (inr k) = cut_more (h.id ∷ []) (regions_ids rs ++ trailing b) s (cut_regions (op h rs) b 0 rs s refl k)
 
-    cut_regions : (p : OpOf N T A) (b : List (StepOf N T A)) (r : ℕ) (rs : RegionsOf N T A) (s : StandOf N T A) → regions_from r (regions p) ≡ rs → In s (regions_stands p b r rs) → Cut (regions_ids rs ++ trailing b) s
+    cut_regions : (p : OpOf N T A) (b : List (StepOf N T A)) (r : ℕ) (rs : RegionsOf N T A) (s : OpWithPathOf N T A) → regions_from r (regions p) ≡ rs → In s (regions_stands p b r rs) → Cut (regions_ids rs ++ trailing b) s
     cut_regions p b r no_regions s e k = absurd k
     cut_regions p b r (region g rs) s e k =
         let later = from_more r g rs (regions p) e in
@@ -85,11 +85,11 @@ module _ {N T A : Type 0} where
               (cut_more (region_ids g) (regions_ids rs ++ trailing b) s (cut_regions p b (r + 1) rs s later l))
         ]
 
-    cut_region : (p : OpOf N T A) (b : List (StepOf N T A)) (r : ℕ) (g : RegionOf N T A) (s : StandOf N T A) → In s (region_stands p b r g) → Cut (region_ids g ++ (regions_ids (regions_from (r + 1) (regions p)) ++ trailing b)) s
+    cut_region : (p : OpOf N T A) (b : List (StepOf N T A)) (r : ℕ) (g : RegionOf N T A) (s : OpWithPathOf N T A) → In s (region_stands p b r g) → Cut (region_ids g ++ (regions_ids (regions_from (r + 1) (regions p)) ++ trailing b)) s
     cut_region p b r empty s k = absurd k
     cut_region p b r (block args os) s k = cut_ops p b r args [] os s k
 
-    cut_ops : (p : OpOf N T A) (b : List (StepOf N T A)) (r : ℕ) (args : List T) (preceding : List (OpOf N T A)) (os : OpsOf N T A) (s : StandOf N T A) → In s (ops_stands p b r args preceding os) → Cut (ops_ids os ++ (regions_ids (regions_from (r + 1) (regions p)) ++ trailing b)) s
+    cut_ops : (p : OpOf N T A) (b : List (StepOf N T A)) (r : ℕ) (args : List T) (preceding : List (OpOf N T A)) (os : OpsOf N T A) (s : OpWithPathOf N T A) → In s (ops_stands p b r args preceding os) → Cut (ops_ids os ++ (regions_ids (regions_from (r + 1) (regions p)) ++ trailing b)) s
     cut_ops p b r args preceding no_ops s k = absurd k
     cut_ops p b r args preceding (next o os) s k =
         let a = step p r args preceding os in
@@ -100,11 +100,11 @@ module _ {N T A : Type 0} where
         ]
 
   -- the operation after an operation: the first one inside it, or else the first one after all its contents
-  pub follows : (t : OpOf N T A) → HasDistinctIds t → (s : StandOf N T A) → In s (stands [] t) → following (stand_id s) t ≡ first_id (regions_ids (regions s.here) ++ trailing s.path)
+  pub follows : (t : OpOf N T A) → HasDistinctIds t → (s : OpWithPathOf N T A) → In s (stands [] t) → following (op_with_path_id s) t ≡ first_id (regions_ids (regions s.here) ++ trailing s.path)
   follows t d s h =
       let c = cut_op [] t s h in
-      let is : ids t ≡ c.0 ++ (stand_id s ∷ (regions_ids (regions s.here) ++ trailing s.path)) = sym (append_none (ids t)) ∙ c.1 ∙ ap (λ l. c.0 ++ (l ++ trailing s.path)) (ids_head s.here) in
-      ap (comes_next (stand_id s)) is ∙ next_at (stand_id s) c.0 (regions_ids (regions s.here) ++ trailing s.path) (subst (IsDistinct eqb) is d)
+      let is : ids t ≡ c.0 ++ (op_with_path_id s ∷ (regions_ids (regions s.here) ++ trailing s.path)) = sym (append_none (ids t)) ∙ c.1 ∙ ap (λ l. c.0 ++ (l ++ trailing s.path)) (ids_head s.here) in
+      ap (comes_next (op_with_path_id s)) is ∙ next_at (op_with_path_id s) c.0 (regions_ids (regions s.here) ++ trailing s.path) (subst (IsDistinct eqb) is d)
 
   -- ---- the regions of an operation, one after another
   first_ops : (os : OpsOf N T A) → first_id (ops_ids os) ≡ first_op os
@@ -147,33 +147,33 @@ module _ {N T A : Type 0} where
 
   -- ---- from an operation to its parents
 
-  find_stand : (x : ℕ) (ss : List (StandOf N T A)) → list_any (λ y. eqb y x) (map (λ (s : StandOf N T A). stand_id s) ss) ≡ true → (s : StandOf N T A) × (stand_in x ss ≡ Some s)
+  find_stand : (x : ℕ) (ss : List (OpWithPathOf N T A)) → list_any (λ y. eqb y x) (map (λ (s : OpWithPathOf N T A). op_with_path_id s) ss) ≡ true → (s : OpWithPathOf N T A) × (find_op_with_path x ss ≡ Some s)
   find_stand x [] h = absurd (true≢false (sym h))
-  find_stand x (s ∷ ss) h = elim (bool_cases (eqb (stand_id s) x)) [
-    | inl e ↦ (s, ap (λ b. cond b (Some s) (stand_in x ss)) e)
-    | inr e ↦ let w = find_stand x ss (sym (ap (λ b. b || list_any (λ y. eqb y x) (map (λ (z : StandOf N T A). stand_id z) ss)) e) ∙ h) in (w.0, ap (λ b. cond b (Some s) (stand_in x ss)) e ∙ w.1)
+  find_stand x (s ∷ ss) h = elim (bool_cases (eqb (op_with_path_id s) x)) [
+    | inl e ↦ (s, ap (λ b. cond b (Some s) (find_op_with_path x ss)) e)
+    | inr e ↦ let w = find_stand x ss (sym (ap (λ b. b || list_any (λ y. eqb y x) (map (λ (z : OpWithPathOf N T A). op_with_path_id z) ss)) e) ∙ h) in (w.0, ap (λ b. cond b (Some s) (find_op_with_path x ss)) e ∙ w.1)
   ]
 
-  in_ids : (s : StandOf N T A) (ss : List (StandOf N T A)) → In s ss → list_any (λ y. eqb y (stand_id s)) (map (λ (z : StandOf N T A). stand_id z) ss) ≡ true
+  in_ids : (s : OpWithPathOf N T A) (ss : List (OpWithPathOf N T A)) → In s ss → list_any (λ y. eqb y (op_with_path_id s)) (map (λ (z : OpWithPathOf N T A). op_with_path_id z) ss) ≡ true
   in_ids s [] h = absurd h
-  in_ids s (u ∷ ss) (inl e) = ap (λ b. b || list_any (λ y. eqb y (stand_id s)) (map (λ (z : StandOf N T A). stand_id z) ss)) (eq-eqb (stand_id u) (stand_id s) (ap (λ (z : StandOf N T A). stand_id z) (sym e)))
-  in_ids s (u ∷ ss) (inr h) = elim (bool_cases (eqb (stand_id u) (stand_id s))) [
-    | inl e ↦ ap (λ b. b || list_any (λ y. eqb y (stand_id s)) (map (λ (z : StandOf N T A). stand_id z) ss)) e
-    | inr e ↦ ap (λ b. b || list_any (λ y. eqb y (stand_id s)) (map (λ (z : StandOf N T A). stand_id z) ss)) e ∙ in_ids s ss h
+  in_ids s (u ∷ ss) (inl e) = ap (λ b. b || list_any (λ y. eqb y (op_with_path_id s)) (map (λ (z : OpWithPathOf N T A). op_with_path_id z) ss)) (eq-eqb (op_with_path_id u) (op_with_path_id s) (ap (λ (z : OpWithPathOf N T A). op_with_path_id z) (sym e)))
+  in_ids s (u ∷ ss) (inr h) = elim (bool_cases (eqb (op_with_path_id u) (op_with_path_id s))) [
+    | inl e ↦ ap (λ b. b || list_any (λ y. eqb y (op_with_path_id s)) (map (λ (z : OpWithPathOf N T A). op_with_path_id z) ss)) e
+    | inr e ↦ ap (λ b. b || list_any (λ y. eqb y (op_with_path_id s)) (map (λ (z : OpWithPathOf N T A). op_with_path_id z) ss)) e ∙ in_ids s ss h
   ]
 
-  stands_there : (t : OpOf N T A) (s : StandOf N T A) → In s (stands [] t) → has_id (stand_id s) t ≡ true
-  stands_there t s h = subst (λ xs. list_any (λ y. eqb y (stand_id s)) xs ≡ true) (stands_ids [] t) (in_ids s (stands [] t) h)
+  stands_there : (t : OpOf N T A) (s : OpWithPathOf N T A) → In s (stands [] t) → has_id (op_with_path_id s) t ≡ true
+  stands_there t s h = subst (λ xs. list_any (λ y. eqb y (op_with_path_id s)) xs ≡ true) (stands_ids [] t) (in_ids s (stands [] t) h)
 
   module _ (t : OpOf N T A) (d : HasDistinctIds t) where
-    located : (x : ℕ) → has_id x t ≡ true → (s : StandOf N T A) × (stand_of x t ≡ Some s) × In s (stands [] t) × (stand_id s ≡ x)
+    located : (x : ℕ) → has_id x t ≡ true → (s : OpWithPathOf N T A) × (op_with_path x t ≡ Some s) × In s (stands [] t) × (op_with_path_id s ≡ x)
     located x h =
         let w = find_stand x (stands [] t) (subst (λ xs. list_any (λ y. eqb y x) xs ≡ true) (sym (stands_ids [] t)) h) in
         let m = member x (stands [] t) w.0 w.1 in
         (w.0, w.1, m.0, m.1)
 
     -- nothing is inside: the next operation is the first one after its contents
-    pub from_after : (x : ℕ) → has_id x t ≡ true → first_inside 0 (find x t) ≡ None → following x t ≡ first_id (after_of (stand_of x t))
+    pub from_after : (x : ℕ) → has_id x t ≡ true → first_inside 0 (find x t) ≡ None → following x t ≡ first_id (after_of (op_with_path x t))
     from_after x h e =
         let s = located x h in
         let found : find x t ≡ Some s.0.here = ap (λ y. find y t) (sym s.3) ∙ stand_found t d s.0 s.2 in
@@ -186,10 +186,10 @@ module _ {N T A : Type 0} where
         ap (λ z. following z t) (sym s.3) ∙ follows t d s.0 s.2 ∙ first_joined (regions_ids (regions s.0.here)) (trailing s.0.path) y (ap (first_inside 0) (sym found) ∙ e)
 
     -- no operation comes after the contents of the root
-    pub after_root : (x : ℕ) → has_id x t ≡ true → place_of x t ≡ None → first_id (after_of (stand_of x t)) ≡ None
+    pub after_root : (x : ℕ) → has_id x t ≡ true → place_of x t ≡ None → first_id (after_of (op_with_path x t)) ≡ None
     after_root x h e = let s = located x h in ap (λ o. first_id (after_of o)) s.1 ∙ go s.0 s.0.path refl s.2 s.3
       where
-        go : (s : StandOf N T A) (p : List (StepOf N T A)) → s.path ≡ p → In s (stands [] t) → stand_id s ≡ x → first_id (trailing s.path) ≡ None
+        go : (s : OpWithPathOf N T A) (p : List (StepOf N T A)) → s.path ≡ p → In s (stands [] t) → op_with_path_id s ≡ x → first_id (trailing s.path) ≡ None
         go s [] q k i = ap (λ l. first_id (trailing l)) q
         go s (a ∷ p) q k i =
             let at = place_of_member t d s.here a p (subst (λ l. In (stand s.here l) (stands [] t)) q k) in
@@ -198,17 +198,17 @@ module _ {N T A : Type 0} where
 
     -- the step from an operation that has a place
     pub record Up (x : ℕ) (place : Place) : Type 0 where
-      pub next : (y : ℕ) → place.before ≡ Some y → first_id (after_of (stand_of x t)) ≡ Some y
-      pub later : (y : ℕ) → place.before ≡ None → first_inside (place.region + 1) (find place.parent t) ≡ Some y → first_id (after_of (stand_of x t)) ≡ Some y
-      pub around : place.before ≡ None → first_inside (place.region + 1) (find place.parent t) ≡ None → first_id (after_of (stand_of x t)) ≡ first_id (after_of (stand_of place.parent t))
+      pub next : (y : ℕ) → place.before ≡ Some y → first_id (after_of (op_with_path x t)) ≡ Some y
+      pub later : (y : ℕ) → place.before ≡ None → first_inside (place.region + 1) (find place.parent t) ≡ Some y → first_id (after_of (op_with_path x t)) ≡ Some y
+      pub around : place.before ≡ None → first_inside (place.region + 1) (find place.parent t) ≡ None → first_id (after_of (op_with_path x t)) ≡ first_id (after_of (op_with_path place.parent t))
       pub there : has_id place.parent t ≡ true
-      pub lower : height_of (stand_of place.parent t) < height_of (stand_of x t)
+      pub lower : height_of (op_with_path place.parent t) < height_of (op_with_path x t)
       pub few : HasFewRegions t → place.region < 16
 
     pub up : (x : ℕ) (place : Place) → has_id x t ≡ true → place_of x t ≡ Some place → Up x place
-    up x place h e = let w = member_of_place x place t e in go w.0 w.0.path refl (ap (λ y. stand_of y t) (sym w.2) ∙ stand_of_member t d w.0 w.1) w.1 w.2 w.3
+    up x place h e = let w = member_of_place x place t e in go w.0 w.0.path refl (ap (λ y. op_with_path y t) (sym w.2) ∙ stand_of_member t d w.0 w.1) w.1 w.2 w.3
       where
-        go : (s : StandOf N T A) (p : List (StepOf N T A)) → s.path ≡ p → stand_of x t ≡ Some s → In s (stands [] t) → stand_id s ≡ x → place_in s.path ≡ Some place → Up x place
+        go : (s : OpWithPathOf N T A) (p : List (StepOf N T A)) → s.path ≡ p → op_with_path x t ≡ Some s → In s (stands [] t) → op_with_path_id s ≡ x → place_in s.path ≡ Some place → Up x place
         go s [] q f k i u = let no : None ≡ Some place = ap place_in (sym q) ∙ u in absurd cc
         go s (a ∷ p) q f k i u =
             let mem = subst (λ l. In (stand s.here l) (stands [] t)) q k in
@@ -217,8 +217,8 @@ module _ {N T A : Type 0} where
             let one : place ≡ record { parent = (head a.parent).id; region = a.region; before = first_op a.rest } = cc in
             let around = (around_there t s.here a p mem).1 in
             let found : find place.parent t ≡ Some a.parent = ap (λ (z : Place). find z.parent t) one ∙ stand_found t d (stand a.parent p) around in
-            let outer : stand_of place.parent t ≡ Some (stand a.parent p) = ap (λ (z : Place). stand_of z.parent t) one ∙ stand_of_member t d (stand a.parent p) around in
-            let here : after_of (stand_of x t) ≡ ops_ids a.rest ++ (regions_ids (regions_from (a.region + 1) (regions a.parent)) ++ trailing p) = ap after_of f ∙ ap trailing q in
+            let outer : op_with_path place.parent t ≡ Some (stand a.parent p) = ap (λ (z : Place). op_with_path z.parent t) one ∙ stand_of_member t d (stand a.parent p) around in
+            let here : after_of (op_with_path x t) ≡ ops_ids a.rest ++ (regions_ids (regions_from (a.region + 1) (regions a.parent)) ++ trailing p) = ap after_of f ∙ ap trailing q in
             let rest : first_id (ops_ids a.rest) ≡ place.before = first_ops a.rest ∙ ap (λ (z : Place). z.before) (sym one) in
             let inside : first_inside (place.region + 1) (find place.parent t) ≡ first_id (regions_ids (regions_from (a.region + 1) (regions a.parent))) = (λ j. first_inside ((one j).region + 1) (found j)) in
             let more = regions_ids (regions_from (a.region + 1) (regions a.parent)) in
@@ -227,7 +227,7 @@ module _ {N T A : Type 0} where
               later = λ y b g. ap first_id here ∙ none_joined (ops_ids a.rest) (more ++ trailing p) (rest ∙ b) ∙ first_joined more (trailing p) y (sym inside ∙ g);
               around = λ b g. ap first_id here ∙ none_joined (ops_ids a.rest) (more ++ trailing p) (rest ∙ b) ∙ none_joined more (trailing p) (sym inside ∙ g) ∙ ap (λ o. first_id (after_of o)) (sym outer);
               there = subst (λ z. has_id z t ≡ true) (ap (λ (z : Place). z.parent) (sym one)) (stands_there t (stand a.parent p) around);
-              lower = let l : height_of (stand_of place.parent t) ≡ length p = ap height_of outer in let g : height_of (stand_of x t) ≡ suc (length p) = ap height_of f ∙ ap length q in omega (arith, l, g);
+              lower = let l : height_of (op_with_path place.parent t) ≡ length p = ap height_of outer in let g : height_of (op_with_path x t) ≡ suc (length p) = ap height_of f ∙ ap length q in omega (arith, l, g);
               few = λ fw. let l = region_below a.region (regions a.parent) (block a.args (joined_ops a.preceding (next s.here a.rest))) (shape t s.here a p mem) in let c = fw place.parent a.parent found in let r : place.region ≡ a.region = ap (λ (z : Place). z.region) one in omega (arith, l, c, r);
             }
 
@@ -306,17 +306,17 @@ module _ {N T A : Type 0} where
 
   module _ (t : OpOf N T A) (d : HasDistinctIds t) where
     -- operations inside or after an operation follow it in pre-order
-    pub comes_later : (s : StandOf N T A) (x : ℕ) → In s (stands [] t) → list_any (λ y. eqb y x) (regions_ids (regions s.here) ++ trailing s.path) ≡ true → precedes (stand_id s) x t ≡ true
+    pub comes_later : (s : OpWithPathOf N T A) (x : ℕ) → In s (stands [] t) → list_any (λ y. eqb y x) (regions_ids (regions s.here) ++ trailing s.path) ≡ true → precedes (op_with_path_id s) x t ≡ true
     comes_later s x h k =
         let c = cut_op [] t s h in
-        let is : ids t ≡ c.0 ++ (stand_id s ∷ (regions_ids (regions s.here) ++ trailing s.path)) = sym (append_none (ids t)) ∙ c.1 ∙ ap (λ l. c.0 ++ (l ++ trailing s.path)) (ids_head s.here) in
-        ap (comes_after (stand_id s) x) is ∙ after_cut (stand_id s) x c.0 (regions_ids (regions s.here) ++ trailing s.path) (subst (IsDistinct eqb) is d) k
+        let is : ids t ≡ c.0 ++ (op_with_path_id s ∷ (regions_ids (regions s.here) ++ trailing s.path)) = sym (append_none (ids t)) ∙ c.1 ∙ ap (λ l. c.0 ++ (l ++ trailing s.path)) (ids_head s.here) in
+        ap (comes_after (op_with_path_id s) x) is ∙ after_cut (op_with_path_id s) x c.0 (regions_ids (regions s.here) ++ trailing s.path) (subst (IsDistinct eqb) is d) k
 
     -- the previous operation in the block comes before it
     pub prev_precedes : (x y : ℕ) → prev_of x t ≡ Some y → precedes y x t ≡ true
     prev_precedes x y e = placed (place_of x t) refl
       where
-        go : (s : StandOf N T A) (place : Place) (p : List (StepOf N T A)) → s.path ≡ p → In s (stands [] t) → stand_id s ≡ x → place_in s.path ≡ Some place → precedes y x t ≡ true
+        go : (s : OpWithPathOf N T A) (place : Place) (p : List (StepOf N T A)) → s.path ≡ p → In s (stands [] t) → op_with_path_id s ≡ x → place_in s.path ≡ Some place → precedes y x t ≡ true
         go s place [] q k i f = let no : None ≡ Some place = ap place_in (sym q) ∙ f in absurd cc
         go s place (a ∷ p) q k i f =
             let mem = subst (λ l. In (stand s.here l) (stands [] t)) q k in
@@ -347,7 +347,7 @@ module _ {N T A : Type 0} where
     pub parent_precedes : (x y : ℕ) → parent_of x t ≡ Some y → precedes y x t ≡ true
     parent_precedes x y e = placed (place_of x t) refl
       where
-        go : (s : StandOf N T A) (place : Place) (p : List (StepOf N T A)) → s.path ≡ p → In s (stands [] t) → stand_id s ≡ x → place_in s.path ≡ Some place → place.parent ≡ y → precedes y x t ≡ true
+        go : (s : OpWithPathOf N T A) (place : Place) (p : List (StepOf N T A)) → s.path ≡ p → In s (stands [] t) → op_with_path_id s ≡ x → place_in s.path ≡ Some place → place.parent ≡ y → precedes y x t ≡ true
         go s place [] q k i f g = let no : None ≡ Some place = ap place_in (sym q) ∙ f in absurd cc
         go s place (a ∷ p) q k i f g =
             let mem = subst (λ l. In (stand s.here l) (stands [] t)) q k in
@@ -370,7 +370,7 @@ module _ {N T A : Type 0} where
     pub before_precedes : (y x : ℕ) → is_before y x t ≡ true → precedes y x t ≡ true
     before_precedes y x e = placed (place_of y t) refl
       where
-        go : (s : StandOf N T A) (place : Place) (p : List (StepOf N T A)) → s.path ≡ p → In s (stands [] t) → stand_id s ≡ y → place_in s.path ≡ Some place → precedes y x t ≡ true
+        go : (s : OpWithPathOf N T A) (place : Place) (p : List (StepOf N T A)) → s.path ≡ p → In s (stands [] t) → op_with_path_id s ≡ y → place_in s.path ≡ Some place → precedes y x t ≡ true
         go s place [] q k i f = let no : None ≡ Some place = ap place_in (sym q) ∙ f in absurd cc
         go s place (a ∷ p) q k i f =
             let mem = subst (λ l. In (stand s.here l) (stands [] t)) q k in
@@ -464,9 +464,9 @@ module _ {N T A : Type 0} where
     pub rootless : (x : ℕ) → has_id x t ≡ true → parent_of x t ≡ None → x ≡ (head t).id
     rootless x h e = let s = located t d x h in go s.0 s.0.path refl s.2 s.3
       where
-        go : (s : StandOf N T A) (p : List (StepOf N T A)) → s.path ≡ p → In s (stands [] t) → stand_id s ≡ x → x ≡ (head t).id
+        go : (s : OpWithPathOf N T A) (p : List (StepOf N T A)) → s.path ≡ p → In s (stands [] t) → op_with_path_id s ≡ x → x ≡ (head t).id
         go s [] q k i = elim (has_around [] t s k) [
-          | inl u ↦ sym i ∙ ap (λ (z : StandOf N T A). stand_id z) u
+          | inl u ↦ sym i ∙ ap (λ (z : OpWithPathOf N T A). op_with_path_id z) u
           | inr w ↦ (let bad : [] ≡ w.0 ∷ w.1 = sym q ∙ w.2 in absurd cc)
         ]
         go s (a ∷ p) q k i =

@@ -11,7 +11,7 @@ use Rattle.ir_event.specs.trees.Edits.{at, put_operand, change_part, change_entr
 use Rattle.ir_event.specs.trees.Meaning.{Operation, key_before}
 use Rattle.ir_event.specs.tree_laws.Reads.{last_id, ops_in}
 use Rattle.ir_event.specs.tree_laws.Values.{region_at}
-use Rattle.ir_event.specs.tree_laws.Stands.{StepOf, StandOf, stand_id, stands}
+use Rattle.ir_event.specs.tree_laws.Stands.{StepOf, OpWithPathOf, op_with_path_id, stands}
 use Rattle.ir_event.specs.tree_laws.Members.{In}
 use Rattle.ir_event.proofs.of_tree_laws.Listed.{neither}
 use Rattle.ir_event.proofs.of_tree_laws.Readings.{step}
@@ -43,14 +43,14 @@ module _ {N T A : Type 0} (t : OpOf N T A) (d : HasDistinctIds t) where
       apart (sym (ap (λ (z : Place). z.before) one)) (ap (λ (z : Place). z.parent) one)
 
   -- an operation that isn't in the tree ends no block
-  unlast_gone : (x : ℕ) → ((s : StandOf N T A) → In s (stands [] t) → stand_id s ≡ x → ⊥) → (p : OpOf N T A) (path : List (StepOf N T A)) → In (stand p path) (stands [] t) → Unlast x p
+  unlast_gone : (x : ℕ) → ((s : OpWithPathOf N T A) → In s (stands [] t) → op_with_path_id s ≡ x → ⊥) → (p : OpOf N T A) (path : List (StepOf N T A)) → In (stand p path) (stands [] t) → Unlast x p
   unlast_gone x none p path h k args os e l =
       let s = split_last x os l in
       none (stand s.last (step p k args s.preceding no_ops ∷ path)) (last_stands t d p path k args os x h e l) s.id
 
 -- by the positions of the operation in both trees
 by_like : (x : ℕ) (t u : Operation) → HasDistinctIds u → Goes (Like own_of x) x t u → (y : ℕ) → (y ≡ x → ⊥)
-    → ((s : StandOf (List ℕ) TypeTerm AttrTerm) → In s (stands [] t) → stand_id s ≡ y → Unlast x s.here) → ((r : StandOf (List ℕ) TypeTerm AttrTerm) → In r (stands [] u) → stand_id r ≡ y → Unlast x r.here)
+    → ((s : OpWithPathOf (List ℕ) TypeTerm AttrTerm) → In s (stands [] t) → op_with_path_id s ≡ y → Unlast x s.here) → ((r : OpWithPathOf (List ℕ) TypeTerm AttrTerm) → In r (stands [] u) → op_with_path_id r ≡ y → Unlast x r.here)
     → (o : Operation) → find y t ≡ Some o → (q : Operation) × (find y u ≡ Some q) × (last_ids (regions q) ≡ last_ids (regions o))
 by_like x t u du goes y apart f g o e =
     let s = found_stands y t o e in

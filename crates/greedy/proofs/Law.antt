@@ -141,5 +141,5 @@ module _ (m : Module) (d : HasDistinctIds m.tree) (below : All (λ y. y < m.next
   pub rewrite_tried : (r : Rule) → is_canonical r ≡ true → (n : Module) → rewrite_of r m x ≡ becomes n → Orderly x m n
   rewrite_tried r h n e = rewrite_orderly r ((facts r).near (lowers_not r h)) n e
 
-  pub lowest_orderly : (n : Module) → highest_priority m x ≡ becomes n → Orderly x m n
-  lowest_orderly n e = first_orderly greedy_rules (filter_passes is_canonical all_rules) n e
+  pub highest_priority_orderly : (n : Module) → highest_priority m x ≡ becomes n → Orderly x m n
+  highest_priority_orderly n e = first_orderly greedy_rules (filter_passes is_canonical all_rules) n e

@@ -10,7 +10,7 @@ use Rattle.ir_event.specs.trees.Edits.{put_operand, change_part, change_entry}
 use Rattle.ir_event.specs.trees.Meaning.{Operation, meaning, key_before}
 use Rattle.ir_event.proofs.of_trees.Mapped.{map_find}
 use Rattle.ir_event.specs.tree_laws.Members.{In}
-use Rattle.ir_event.specs.tree_laws.Stands.{StandOf, stand_id, stands}
+use Rattle.ir_event.specs.tree_laws.Stands.{OpWithPathOf, op_with_path_id, stands}
 use Rattle.ir_event.proofs.of_tree_laws.Listed.{bool_cases}
 use Rattle.ir_event.proofs.of_tree_laws.Around.{stand_present, member_of_place}
 use Rattle.ir_event.proofs.of_tree_laws.Members.{found_stands}
@@ -62,8 +62,8 @@ held_still c (e ∷ es) s j x o l h =
     held_still c es s j.0 x o w.1 w.0
 
 -- an event that assigns newer ids doesn't insert an absent operation with an older id
-one_absent : (c : ContextModel) (e : Event) (p n : Module) → Step c e p n → IsForward e → (x : ℕ) → x < p.next → ((s : StandOf (List ℕ) TypeTerm AttrTerm) → In s (stands [] p.tree) → stand_id s ≡ x → ⊥)
-    → (r : StandOf (List ℕ) TypeTerm AttrTerm) → In r (stands [] n.tree) → stand_id r ≡ x → ⊥
+one_absent : (c : ContextModel) (e : Event) (p n : Module) → Step c e p n → IsForward e → (x : ℕ) → x < p.next → ((s : OpWithPathOf (List ℕ) TypeTerm AttrTerm) → In s (stands [] p.tree) → op_with_path_id s ≡ x → ⊥)
+    → (r : OpWithPathOf (List ℕ) TypeTerm AttrTerm) → In r (stands [] n.tree) → op_with_path_id r ≡ x → ⊥
 one_absent c (Put y place true) p n s f x l none r h i =
     let t = s.changes in
     let w = goes_out own_of y n.tree p.tree s.after.distinct s.before.distinct t.left t.empty r h (λ k. let e = t.next.1 in omega (arith, l, e, i, k)) in
@@ -80,9 +80,9 @@ one_absent c (SetEntry y part key old new) p n s f x l none r h i =
     let g = change_entry key_before (name_term c key) (option_map (attr_term c) old) in
     let w = all_edited own_of y (change_part part g) (part_id y part g) (part_name y part g) n.tree p.tree s.changes.before r h in
     none w.0 w.1 (w.2 ∙ i)
-one_absent c (Shift y old new) p n s f x l none r h i = elim (bool_cases (eqb (stand_id r) y)) [
-  | inl e ↦ (let u = member_of_place y old p.tree s.changes.was in none u.0 u.1 (u.2 ∙ sym (eqb-true (stand_id r) y e) ∙ i))
-  | inr e ↦ (let w = goes_on own_of y n.tree p.tree s.after.distinct s.changes.rest s.changes.same r h (eqb-false (stand_id r) y e) in none w.0 w.1 (w.2 ∙ i))
+one_absent c (Shift y old new) p n s f x l none r h i = elim (bool_cases (eqb (op_with_path_id r) y)) [
+  | inl e ↦ (let u = member_of_place y old p.tree s.changes.was in none u.0 u.1 (u.2 ∙ sym (eqb-true (op_with_path_id r) y e) ∙ i))
+  | inr e ↦ (let w = goes_on own_of y n.tree p.tree s.after.distinct s.changes.rest s.changes.same r h (eqb-false (op_with_path_id r) y e) in none w.0 w.1 (w.2 ∙ i))
 ]
 
 -- the next free id never falls
@@ -95,8 +95,8 @@ one_rises c (SetOperand y k old new) p n s f x l = let a = s.changes.next in ome
 one_rises c (SetEntry y part key old new) p n s f x l = let a = s.changes.next in omega (arith, l, a)
 one_rises c (Shift y old new) p n s f x l = let a = s.changes.next in omega (arith, l, a)
 
-absent_still : (c : ContextModel) (es : List Event) (s : Stored) → IsJournal c es s → (x : ℕ) → x < (before c es s).next → ((z : StandOf (List ℕ) TypeTerm AttrTerm) → In z (stands [] (before c es s).tree) → stand_id z ≡ x → ⊥)
-    → (r : StandOf (List ℕ) TypeTerm AttrTerm) → In r (stands [] (module_meaning c s.module_of).tree) → stand_id r ≡ x → ⊥
+absent_still : (c : ContextModel) (es : List Event) (s : Stored) → IsJournal c es s → (x : ℕ) → x < (before c es s).next → ((z : OpWithPathOf (List ℕ) TypeTerm AttrTerm) → In z (stands [] (before c es s).tree) → op_with_path_id z ≡ x → ⊥)
+    → (r : OpWithPathOf (List ℕ) TypeTerm AttrTerm) → In r (stands [] (module_meaning c s.module_of).tree) → op_with_path_id r ≡ x → ⊥
 absent_still c [] s j x l none = none
 absent_still c (e ∷ es) s j x l none =
     absent_still c es s j.0 x (one_rises c e (before c (e ∷ es) s) (before c es s) j.1.1.step j.1.0 x l) (one_absent c e (before c (e ∷ es) s) (before c es s) j.1.1.step j.1.0 x l none)
@@ -106,7 +106,7 @@ found_meant : (c : ContextModel) (x : ℕ) (t : Op) → find x (meaning c t) ≡
 found_meant c x t = map_find (name_term c) (type_term c) (attr_term c) x t
 
 -- an operation outside the tree is known as the store holds it
-held_known : (c : ContextModel) (x : ℕ) (s : Stored) (q : Op) → ((r : StandOf (List ℕ) TypeTerm AttrTerm) → In r (stands [] (meaning c s.module_of.tree)) → stand_id r ≡ x → ⊥) → finmap.get s.held x ≡ Some q → known x s ≡ Some q
+held_known : (c : ContextModel) (x : ℕ) (s : Stored) (q : Op) → ((r : OpWithPathOf (List ℕ) TypeTerm AttrTerm) → In r (stands [] (meaning c s.module_of.tree)) → op_with_path_id r ≡ x → ⊥) → finmap.get s.held x ≡ Some q → known x s ≡ Some q
 held_known c x s q none h = go (find x s.module_of.tree) refl
   where
     go : (a : Option Op) → find x s.module_of.tree ≡ a → known x s ≡ Some q

@@ -8,7 +8,7 @@ pub mod Tracked
 pub mod Usings
 pub mod Lasting
 pub mod Unlisted
-pub mod OwnAlike
+pub mod UserPatternsAlike
 pub mod Applying
 pub mod Leading
 mod Adding
@@ -36,7 +36,7 @@ pub mod Edits
 pub mod Starts
 pub mod Rootless
 pub mod Law
-pub mod Trials
+pub mod Applications
 pub mod Attempting
 mod Following
 mod Beyond

@@ -8,7 +8,7 @@ use Rattle.ir_event.specs.trees.WellFormed.{ModuleOf}
 use Rattle.ir_event.specs.tree_laws.Changes.{Takes}
 use Rattle.ir_event.specs.tree_laws.Values.{region_at}
 use Rattle.ir_event.specs.tree_laws.Reads.{last_id, last_at}
-use Rattle.ir_event.specs.tree_laws.Stands.{StepOf, StandOf, stand_id, stands, left_step, left_stand}
+use Rattle.ir_event.specs.tree_laws.Stands.{StepOf, OpWithPathOf, op_with_path_id, stands, left_step, left_stand}
 use Rattle.ir_event.specs.tree_laws.Members.{In}
 use Rattle.ir_event.proofs.of_tree_laws.Listed.{neither}
 use Rattle.ir_event.proofs.of_tree_laws.Members.{stand, found_stands}
@@ -70,7 +70,7 @@ module _ {N T A : Type 0} where
           subst (λ q. ends q y t ≡ true) (ap (λ u. (head u).id) (sym s.3) ∙ s.2)
           (last_ends t d o s.0.path w.0 w.1 w.2 y (subst (λ u. In (stand u s.0.path) (stands [] t)) s.3 s.1) w.3 w.4)
 
-  there : (t : OpOf N T A) (s : StandOf N T A) (a : StepOf N T A) (q : List (StepOf N T A)) → In s (stands [] t) → s.path ≡ a ∷ q → In (stand s.here (a ∷ q)) (stands [] t)
+  there : (t : OpOf N T A) (s : OpWithPathOf N T A) (a : StepOf N T A) (q : List (StepOf N T A)) → In s (stands [] t) → s.path ≡ a ∷ q → In (stand s.here (a ∷ q)) (stands [] t)
   there t s a q h p = subst (λ l. In (stand s.here l) (stands [] t)) p h
 
   put_leaves : (x : ℕ) (place : Place) (fresh : Bool) (m n : ModuleOf N T A) → HasDistinctIds m.tree → HasDistinctIds n.tree → Takes x place fresh n m → (y : ℕ) → (eqb x y || is_end place) ≡ false → surroundings y n.tree ≡ surroundings y m.tree
@@ -83,7 +83,7 @@ module _ {N T A : Type 0} where
       let f = neither (eqb x y) (at_end place y n.tree) far in
       taken_leaves x m.tree n.tree dm dn k.left k.empty place k.there k.unused y (unlike x y f.0) (λ e. unlike place.parent y (at_end_parts place y n.tree f.1 e).0)
       (λ s h i e a q o rest g l u none.
-      let apart : stand_id s ≡ x → ⊥ = λ j. unlike x y f.0 (sym i ∙ j) in
+      let apart : op_with_path_id s ≡ x → ⊥ = λ j. unlike x y f.0 (sym i ∙ j) in
       let left = taken x m.tree n.tree dm dn k.left k.empty s h apart in
       let at = placed_there m.tree dm x place k.there o _ q (next_in m.tree dm s.here a q o rest (there m.tree s a q h g) l) u in
       let last = last_is n.tree dn (left_stand x s).here (left_step x a) (map (left_step x) q) (there n.tree (left_stand x s) (left_step x a) (map (left_step x) q) left (ap (map (left_step x)) g)) none in

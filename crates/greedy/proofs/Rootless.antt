@@ -7,7 +7,7 @@ use Rattle.ir_event.specs.trees.Tree.{head}
 use Rattle.ir_event.specs.trees.Ids.{HasDistinctIds, find}
 use Rattle.ir_event.specs.trees.Places.{place_of}
 use Rattle.ir_event.specs.trees.Meaning.{Operation}
-use Rattle.ir_event.specs.tree_laws.Stands.{StandOf, place_in}
+use Rattle.ir_event.specs.tree_laws.Stands.{OpWithPathOf, place_in}
 use Rattle.ir_event.proofs.of_tree_laws.Members.{stand, itself, same_stand}
 use Rattle.ir_event.proofs.of_tree_laws.Around.{member_of_place}
 use Rattle.ir_event.specs.Modules.{Module}
@@ -27,7 +27,7 @@ unplaced t d = go (place_of (head t).id t) refl
     go (Some place) e =
         let u = member_of_place (head t).id place t e in
         let same = same_stand t d u.0 (stand t []) u.1 (itself [] t) u.2 in
-        let no_place : None ≡ Some place = sym (ap (λ (s : StandOf (List ℕ) TypeTerm AttrTerm). place_in s.path) same) ∙ u.3 in
+        let no_place : None ≡ Some place = sym (ap (λ (s : OpWithPathOf (List ℕ) TypeTerm AttrTerm). place_in s.path) same) ∙ u.3 in
         absurd cc
 
 pub no_edits : (r : Rule) (m : Module) → HasDistinctIds m.tree → edits_of r m (head m.tree).id ≡ None

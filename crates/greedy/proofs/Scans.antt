@@ -25,7 +25,7 @@ use Rattle.greedy.specs.LocalContext.{is_listed}
 use Rattle.std.proofs.lemmas.Bool.{false_from_ne_true, or_left}
 use Rattle.greedy.specs.Listing.{TouchedUpTo}
 use Rattle.greedy.specs.PatternSet.{PatternSetModel}
-use Rattle.greedy.specs.Trials.{StaysAway}
+use Rattle.greedy.specs.Applications.{StaysAway}
 use Rattle.greedy.proofs.Listed.{first_there, listed_at, listed_more, listed_past}
 
 -- a rewrite that exists

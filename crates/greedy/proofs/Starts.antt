@@ -2,7 +2,7 @@
 use Rattle.std.proofs.Common.{◌≡◌, refl, ap, sym, ◌∙◌, ℕ, zero, suc, ◌≤◌, false, true≢false, eqb, eq-eqb, List, [], ◌∷◌, ◌++◌, length, map, append_assoc, append-nil, Some, arith}
 use Rattle.ir_event.specs.trees.Tree.{OpOf, RegionsOf, no_regions, region, RegionOf, block, OpsOf, no_ops, next, head, regions}
 use Rattle.ir_event.specs.trees.Ids.{ids, regions_ids, region_ids, ops_ids, HasDistinctIds, find}
-use Rattle.ir_event.specs.tree_laws.Stands.{StandOf, stand_id}
+use Rattle.ir_event.specs.tree_laws.Stands.{OpWithPathOf, op_with_path_id}
 use Rattle.ir_event.specs.tree_laws.Values.{region_at}
 use Rattle.ir_event.proofs.of_tree_laws.Readings.{step}
 use Rattle.ir_event.proofs.of_tree_laws.Members.{stand, joined_ops, ops_child, stand_found}
@@ -31,10 +31,10 @@ module _ {N T A : Type 0} where
       w = part t d o i.step_in i.path i.there
 
       us : List ℕ
-      us = map (λ (z : StandOf N T A). stand_id z) w.preceding
+      us = map (λ (z : OpWithPathOf N T A). op_with_path_id z) w.preceding
 
       vs : List ℕ
-      vs = map (λ (z : StandOf N T A). stand_id z) w.back
+      vs = map (λ (z : OpWithPathOf N T A). op_with_path_id z) w.back
 
       cut : ids t ≡ us ++ (ids o ++ vs)
       cut = parted_ids (head o).id (i.step_in ∷ i.path) o t w

@@ -13,7 +13,7 @@ use Rattle.greedy.specs.Rewriting.{first_by, next_by, rewritten_from}
 use Rattle.greedy.specs.LocalContext.{is_listed}
 use Rattle.greedy.specs.Tracing.{TraceIsCounted, applied_rewrite, applied_next, site_by, site_of, site_or, trace_step, trace_of, trace_on}
 use Rattle.greedy.specs.PatternSet.{PatternSetModel}
-use Rattle.greedy.specs.Trials.{IsApplied}
+use Rattle.greedy.specs.Applications.{IsApplied}
 use Rattle.greedy.specs.Work.{Right, Taken}
 use Rattle.greedy.specs.declared.applied_rewrite.AppliedPattern.{AppliedPattern}
 use Rattle.greedy.specs.declared.applied_rewrite.AppliedRewrite.{AppliedRewrite}

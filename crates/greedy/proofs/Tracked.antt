@@ -13,7 +13,7 @@ use Rattle.ir_event.specs.trees.Places.{place_of, without}
 use Rattle.ir_event.specs.trees.Edits.{at, put_operand, change_part, each_head}
 use Rattle.ir_event.specs.trees.Meaning.{Operation}
 use Rattle.ir_event.specs.tree_laws.Reads.{parent_of}
-use Rattle.ir_event.specs.tree_laws.Stands.{StandOf, stand_id, stands}
+use Rattle.ir_event.specs.tree_laws.Stands.{OpWithPathOf, op_with_path_id, stands}
 use Rattle.ir_event.specs.tree_laws.Members.{In}
 use Rattle.ir_event.proofs.of_tree_laws.Listed.{bool_cases}
 use Rattle.ir_event.proofs.of_tree_laws.Members.{stand_found, found_stands, within}
@@ -49,19 +49,19 @@ part_name x part f h = elim (eqb h.id x) as (λ b. (cond b (change_part part f h
     by Attrs = refl
 
 -- an operation that was taken out isn't in the tree
-pub gone_found : {N T A : Type 0} (x : ℕ) (t w : OpOf N T A) → w ≡ without x t → eqb (head t).id x ≡ false → (s : StandOf N T A) → In s (stands [] w) → stand_id s ≡ x → ⊥
+pub gone_found : {N T A : Type 0} (x : ℕ) (t w : OpOf N T A) → w ≡ without x t → eqb (head t).id x ≡ false → (s : OpWithPathOf N T A) → In s (stands [] w) → op_with_path_id s ≡ x → ⊥
 gone_found {N} {T} {A} x t w is root s h i =
     let b = member_left x t s (subst (λ z. In s (stands [] z)) is h) in
-    left_apart x t b.0 b.1 b.2 root (sym (left_id x b.0) ∙ ap (λ (z : StandOf N T A). stand_id z) (sym b.3) ∙ i)
+    left_apart x t b.0 b.1 b.2 root (sym (left_id x b.0) ∙ ap (λ (z : OpWithPathOf N T A). op_with_path_id z) (sym b.3) ∙ i)
 
-parent_gone : {N T A : Type 0} (x : ℕ) (w : OpOf N T A) → ((s : StandOf N T A) → In s (stands [] w) → stand_id s ≡ x → ⊥) → (p : ℕ) → parent_of x w ≡ Some p → ⊥
+parent_gone : {N T A : Type 0} (x : ℕ) (w : OpOf N T A) → ((s : OpWithPathOf N T A) → In s (stands [] w) → op_with_path_id s ≡ x → ⊥) → (p : ℕ) → parent_of x w ≡ Some p → ⊥
 parent_gone x w none p e = go (place_of x w) refl e
   where
     go : (o : Option Place) → place_of x w ≡ o → option_map (λ (z : Place). z.parent) o ≡ Some p → ⊥
     go None i e = absurd cc
     go (Some place) i e = let s = member_of_place x place w i in none s.0 s.1 s.2
 
-recursive_gone : {N T A : Type 0} (own : N → Own) (x : ℕ) (w : OpOf N T A) → ((s : StandOf N T A) → In s (stands [] w) → stand_id s ≡ x → ⊥) → recursive_at own x w ≡ false
+recursive_gone : {N T A : Type 0} (own : N → Own) (x : ℕ) (w : OpOf N T A) → ((s : OpWithPathOf N T A) → In s (stands [] w) → op_with_path_id s ≡ x → ⊥) → recursive_at own x w ≡ false
 recursive_gone own x w none = go (find x w) refl
   where
     go : (o : Option _) → find x w ≡ o → recursive_at own x w ≡ false
@@ -69,10 +69,10 @@ recursive_gone own x w none = go (find x w) refl
     go (Some o) i = let s = found_stands x w o i in absurd (none s.0 s.1 s.2)
 
 -- no operation of the tree feels it
-unfelt : {N T A : Type 0} (own : N → Own) (x : ℕ) (w : OpOf N T A) → HasDistinctIds w → ((s : StandOf N T A) → In s (stands [] w) → stand_id s ≡ x → ⊥) → (s : StandOf N T A) → In s (stands [] w) → feels own x s.here ≡ false
+unfelt : {N T A : Type 0} (own : N → Own) (x : ℕ) (w : OpOf N T A) → HasDistinctIds w → ((s : OpWithPathOf N T A) → In s (stands [] w) → op_with_path_id s ≡ x → ⊥) → (s : OpWithPathOf N T A) → In s (stands [] w) → feels own x s.here ≡ false
 unfelt own x w d none s h = elim (bool_cases (feels own x s.here)) [
   | inr e ↦ e
-  | inl e ↦ (let c = climbed_from own x w d (stand_id s) s.here s.path h refl (λ r k. within s.here s.path r k [] w h) e in absurd (parent_gone x w none c.0 c.1))
+  | inl e ↦ (let c = climbed_from own x w d (op_with_path_id s) s.here s.path h refl (λ r k. within s.here s.path r k [] w h) e in absurd (parent_gone x w none c.0 c.1))
 ]
 
 -- ---- one event

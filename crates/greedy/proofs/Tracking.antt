@@ -8,7 +8,7 @@ use Rattle.ir_event.specs.trees.Places.{place_of}
 use Rattle.ir_event.specs.trees.Edits.{at}
 use Rattle.ir_event.specs.store.Nodes.{node_of}
 use Rattle.ir_event.specs.tree_laws.Reads.{parent_of}
-use Rattle.ir_event.specs.tree_laws.Stands.{StepOf, StandOf, stand_id, stands, place_in}
+use Rattle.ir_event.specs.tree_laws.Stands.{StepOf, OpWithPathOf, op_with_path_id, stands, place_in}
 use Rattle.ir_event.specs.tree_laws.Members.{In}
 use Rattle.ir_event.proofs.of_tree_laws.Listed.{bool_cases}
 use Rattle.ir_event.proofs.of_tree_laws.Members.{stand, within, stand_found, found_stands}
@@ -49,7 +49,7 @@ module _ {N T A : Type 0} (own : N → Own) where
 
   -- a position corresponds to a position with the same name and the same parent
   pub kept_by : (t u : OpOf N T A) → HasDistinctIds t → HasDistinctIds u → (x : ℕ)
-      → ((s : StandOf N T A) → In s (stands [] t) → stand_id s ≡ x → (r : StandOf N T A) × In r (stands [] u) × (stand_id r ≡ stand_id s) × ((head r.here).name ≡ (head s.here).name) × (around_id s.path ≡ around_id r.path))
+      → ((s : OpWithPathOf N T A) → In s (stands [] t) → op_with_path_id s ≡ x → (r : OpWithPathOf N T A) × In r (stands [] u) × (op_with_path_id r ≡ op_with_path_id s) × ((head r.here).name ≡ (head s.here).name) × (around_id s.path ≡ around_id r.path))
       → Kept x t u
   kept_by t u dt du x goes = record {
     recursive = λ e. still (find x t) refl e;
@@ -64,7 +64,7 @@ module _ {N T A : Type 0} (own : N → Own) where
           let found : find x u ≡ Some w.0.here = ap (λ z. find z u) (sym (w.2 ∙ s.2)) ∙ stand_found u du w.0 w.1 in
           recursive_found u w.0.here x found ∙ ap (λ n. is_recursive (own n)) (w.3 ∙ ap (λ z. (head z).name) s.3) ∙ sym (recursive_found t o x i) ∙ e
 
-      there : (p : ℕ) (r : StandOf N T A) → In r (stands [] u) → stand_id r ≡ x → (q : List (StepOf N T A)) → r.path ≡ q → around_id q ≡ Some p → parent_of x u ≡ Some p
+      there : (p : ℕ) (r : OpWithPathOf N T A) → In r (stands [] u) → op_with_path_id r ≡ x → (q : List (StepOf N T A)) → r.path ≡ q → around_id q ≡ Some p → parent_of x u ≡ Some p
       there p r h i [] j e = absurd cc
       there p r h i (a ∷ q) j e =
           let at : place_of x u ≡ place_in (a ∷ q) = ap (λ z. place_of z u) (sym i) ∙ place_of_member u du r.here a q (subst (λ l. In (stand r.here l) (stands [] u)) j h) in
@@ -123,18 +123,18 @@ module _ {N T A : Type 0} (own : N → Own) where
   effects_at y t = option_map (effects own) (find y t)
 
   -- whether operation y, found in a tree, feels operation x
-  pub feels_up : (x : ℕ) (t : OpOf N T A) → HasDistinctIds t → (w : ℕ) → parent_of x t ≡ Some w → (s : StandOf N T A) → In s (stands [] t) → ((k : ℕ) → Climbs own k (stand_id s) w t → ⊥) → feels own x s.here ≡ false
+  pub feels_up : (x : ℕ) (t : OpOf N T A) → HasDistinctIds t → (w : ℕ) → parent_of x t ≡ Some w → (s : OpWithPathOf N T A) → In s (stands [] t) → ((k : ℕ) → Climbs own k (op_with_path_id s) w t → ⊥) → feels own x s.here ≡ false
   feels_up x t d w at s h away = elim (bool_cases (feels own x s.here)) [
     | inr e ↦ e
     | inl e ↦
-        let c = climbed_from own x t d (stand_id s) s.here s.path h refl (λ r k. within s.here s.path r k [] t h) e in
+        let c = climbed_from own x t d (op_with_path_id s) s.here s.path h refl (λ r k. within s.here s.path r k [] t h) e in
         let same : c.0 ≡ w = same_Some c.0 w (sym c.1 ∙ at) in
-        absurd (away c.2.0 (subst (λ z. Climbs own c.2.0 (stand_id s) z t) same c.2.1))
+        absurd (away c.2.0 (subst (λ z. Climbs own c.2.0 (op_with_path_id s) z t) same c.2.1))
   ]
 
   -- no operation of the tree feels an operation that has no place
   pub same_effects : (x : ℕ) (t u : OpOf N T A) → HasDistinctIds t → HasDistinctIds u → Goes (Like own x) x t u → (y : ℕ) → (y ≡ x → ⊥)
-      → ((s : StandOf N T A) → In s (stands [] t) → stand_id s ≡ y → feels own x s.here ≡ false) → ((r : StandOf N T A) → In r (stands [] u) → stand_id r ≡ y → feels own x r.here ≡ false)
+      → ((s : OpWithPathOf N T A) → In s (stands [] t) → op_with_path_id s ≡ y → feels own x s.here ≡ false) → ((r : OpWithPathOf N T A) → In r (stands [] u) → op_with_path_id r ≡ y → feels own x r.here ≡ false)
       → (o : OpOf N T A) → find y t ≡ Some o → (q : OpOf N T A) × (find y u ≡ Some q) × (effects own q ≡ effects own o)
   same_effects x t u dt du goes y apart f g o e =
       let s = found_stands y t o e in

@@ -15,7 +15,7 @@ use Rattle.ir_event.specs.store.Nodes.{node_of}
 use Rattle.ir_event.specs.tree_laws.Members.{In}
 use Rattle.ir_event.specs.tree_laws.Reads.{last_id, ops_in}
 use Rattle.ir_event.specs.tree_laws.Values.{region_at, type_of_value}
-use Rattle.ir_event.specs.tree_laws.Stands.{StepOf, StandOf, stand_id, stands, stand_of, place_in}
+use Rattle.ir_event.specs.tree_laws.Stands.{StepOf, OpWithPathOf, op_with_path_id, stands, op_with_path, place_in}
 use Rattle.ir_event.proofs.of_tree_laws.Readings.{stands_find}
 use Rattle.ir_event.proofs.of_tree_laws.Members.{stand, joined_ops, member, stand_found, stand_of_member, found_stands, same_stand}
 use Rattle.ir_event.proofs.of_tree_laws.Around.{place_of_member, member_of_place, present_stand, stand_present}
@@ -35,21 +35,21 @@ use Rattle.greedy.proofs.Lasting.{last_in}
 -- ---- surroundings, from the operation that is found
 module _ (t : Operation) where
   pub found_surroundings : (y : ℕ) (o : Operation) → find y t ≡ Some o → (s : SurroundingsOf (List ℕ) TypeTerm AttrTerm) × (surroundings y t ≡ Some s) × (s.node ≡ node_of o) × (s.types ≡ map (λ v. type_of_value v t) (head o).operands)
-  found_surroundings y o e = go (stand_of y t) refl
+  found_surroundings y o e = go (op_with_path y t) refl
     where
-      go : (a : Option (StandOf (List ℕ) TypeTerm AttrTerm)) → stand_of y t ≡ a → (s : SurroundingsOf (List ℕ) TypeTerm AttrTerm) × (surroundings y t ≡ Some s) × (s.node ≡ node_of o) × (s.types ≡ map (λ v. type_of_value v t) (head o).operands)
-      go None i = let none : None ≡ Some o = sym (ap (option_map (λ (z : StandOf (List ℕ) TypeTerm AttrTerm). z.here)) i) ∙ stands_find y [] t ∙ e in absurd cc
+      go : (a : Option (OpWithPathOf (List ℕ) TypeTerm AttrTerm)) → op_with_path y t ≡ a → (s : SurroundingsOf (List ℕ) TypeTerm AttrTerm) × (surroundings y t ≡ Some s) × (s.node ≡ node_of o) × (s.types ≡ map (λ v. type_of_value v t) (head o).operands)
+      go None i = let none : None ≡ Some o = sym (ap (option_map (λ (z : OpWithPathOf (List ℕ) TypeTerm AttrTerm). z.here)) i) ∙ stands_find y [] t ∙ e in absurd cc
       go (Some z) i =
-          let some : Some z.here ≡ Some o = sym (ap (option_map (λ (z : StandOf (List ℕ) TypeTerm AttrTerm). z.here)) i) ∙ stands_find y [] t ∙ e in
+          let some : Some z.here ≡ Some o = sym (ap (option_map (λ (z : OpWithPathOf (List ℕ) TypeTerm AttrTerm). z.here)) i) ∙ stands_find y [] t ∙ e in
           let same : z.here ≡ o = cc in
           (surround t z, ap (option_map (surround t)) i, ap (λ q. node_of q) same, ap (λ (q : Operation). map (λ v. type_of_value v t) (head q).operands) same)
 
   pub surroundings_found : (y : ℕ) (s : SurroundingsOf (List ℕ) TypeTerm AttrTerm) → surroundings y t ≡ Some s → (o : Operation) × (find y t ≡ Some o)
-  surroundings_found y s e = go (stand_of y t) refl
+  surroundings_found y s e = go (op_with_path y t) refl
     where
-      go : (a : Option (StandOf (List ℕ) TypeTerm AttrTerm)) → stand_of y t ≡ a → (o : Operation) × (find y t ≡ Some o)
+      go : (a : Option (OpWithPathOf (List ℕ) TypeTerm AttrTerm)) → op_with_path y t ≡ a → (o : Operation) × (find y t ≡ Some o)
       go None i = let none : None ≡ Some s = sym (ap (option_map (surround t)) i) ∙ e in absurd cc
-      go (Some z) i = (z.here, sym (stands_find y [] t) ∙ ap (option_map (λ (z : StandOf (List ℕ) TypeTerm AttrTerm). z.here)) i)
+      go (Some z) i = (z.here, sym (stands_find y [] t) ∙ ap (option_map (λ (z : OpWithPathOf (List ℕ) TypeTerm AttrTerm). z.here)) i)
 
   pub there_found : HasDistinctIds t → (x : ℕ) → has_id x t ≡ true → (o : Operation) × (find x t ≡ Some o)
   there_found d x h = let s = present_stand [] t x h in (s.0.here, ap (λ z. find z t) (sym s.2) ∙ stand_found t d s.0 s.1)
@@ -59,27 +59,27 @@ module _ (t : Operation) where
 
   -- an operation has an insertion point before it exactly if it has a parent
   pub outer_some : HasDistinctIds t → (x : ℕ) → is_some (insertion_of x t) ≡ is_some (option_and_then (λ (s : SurroundingsOf (List ℕ) TypeTerm AttrTerm). s.outer) (surroundings x t))
-  outer_some d x = go (stand_of x t) refl
+  outer_some d x = go (op_with_path x t) refl
     where
-      unplaced : ((s : StandOf (List ℕ) TypeTerm AttrTerm) → In s (stands [] t) → stand_id s ≡ x → (place : Place) → place_in s.path ≡ Some place → ⊥) → is_some (insertion_of x t) ≡ false
+      unplaced : ((s : OpWithPathOf (List ℕ) TypeTerm AttrTerm) → In s (stands [] t) → op_with_path_id s ≡ x → (place : Place) → place_in s.path ≡ Some place → ⊥) → is_some (insertion_of x t) ≡ false
       unplaced none = by (place_of x t) refl
         where
           by : (a : Option Place) → place_of x t ≡ a → is_some (insertion_of x t) ≡ false
           by None e = ap (λ z. is_some (option_map (insertion_point x) z)) e
           by (Some place) e = let u = member_of_place x place t e in absurd (none u.0 u.1 u.2 place u.3)
 
-      root_unplaced : (s z : StandOf (List ℕ) TypeTerm AttrTerm) → z.path ≡ [] → s ≡ z → (place : Place) → place_in s.path ≡ Some place → ⊥
-      root_unplaced s z j same place e = let none : None ≡ Some place = sym (ap place_in (ap (λ (w : StandOf (List ℕ) TypeTerm AttrTerm). w.path) same ∙ j)) ∙ e in absurd cc
+      root_unplaced : (s z : OpWithPathOf (List ℕ) TypeTerm AttrTerm) → z.path ≡ [] → s ≡ z → (place : Place) → place_in s.path ≡ Some place → ⊥
+      root_unplaced s z j same place e = let none : None ≡ Some place = sym (ap place_in (ap (λ (w : OpWithPathOf (List ℕ) TypeTerm AttrTerm). w.path) same ∙ j)) ∙ e in absurd cc
 
-      by_path : (z : StandOf (List ℕ) TypeTerm AttrTerm) → In z (stands [] t) → stand_id z ≡ x → (q : List (StepOf (List ℕ) TypeTerm AttrTerm)) → z.path ≡ q → is_some (insertion_of x t) ≡ is_some (outer_of q)
+      by_path : (z : OpWithPathOf (List ℕ) TypeTerm AttrTerm) → In z (stands [] t) → op_with_path_id z ≡ x → (q : List (StepOf (List ℕ) TypeTerm AttrTerm)) → z.path ≡ q → is_some (insertion_of x t) ≡ is_some (outer_of q)
       by_path z h i [] j = unplaced (λ s k l place e. root_unplaced s z j (same_stand t d s z k h (l ∙ sym i)) place e)
       by_path z h i (a ∷ q) j =
           let at : place_of x t ≡ place_in (a ∷ q) = ap (λ k. place_of k t) (sym i) ∙ place_of_member t d z.here a q (subst (λ l. In (stand z.here l) (stands [] t)) j h) in
           ap (λ k. is_some (option_map (insertion_point x) k)) at
 
-      go : (a : Option (StandOf (List ℕ) TypeTerm AttrTerm)) → stand_of x t ≡ a → is_some (insertion_of x t) ≡ is_some (option_and_then (λ (s : SurroundingsOf (List ℕ) TypeTerm AttrTerm). s.outer) (surroundings x t))
+      go : (a : Option (OpWithPathOf (List ℕ) TypeTerm AttrTerm)) → op_with_path x t ≡ a → is_some (insertion_of x t) ≡ is_some (option_and_then (λ (s : SurroundingsOf (List ℕ) TypeTerm AttrTerm). s.outer) (surroundings x t))
       go None i =
-          unplaced (λ s k l place e. let no_stand : None ≡ Some s = sym i ∙ ap (λ z. stand_of z t) (sym l) ∙ stand_of_member t d s k in absurd cc)
+          unplaced (λ s k l place e. let no_stand : None ≡ Some s = sym i ∙ ap (λ z. op_with_path z t) (sym l) ∙ stand_of_member t d s k in absurd cc)
           ∙ sym (ap (λ a. is_some (option_and_then (λ (s : SurroundingsOf (List ℕ) TypeTerm AttrTerm). s.outer) (option_map (surround t) a))) i)
       go (Some z) i =
           let m = member x (stands [] t) z i in
@@ -119,14 +119,14 @@ module _ (t : Operation) where
 
 -- ---- what two trees with the same surroundings have in common
 heads_of : (y : ℕ) (t : Operation) → option_map head (find y t) ≡ option_map (λ (s : SurroundingsOf (List ℕ) TypeTerm AttrTerm). s.node.head) (surroundings y t)
-heads_of y t = go (stand_of y t) refl
+heads_of y t = go (op_with_path y t) refl
   where
     node_head : (o : Operation) → head o ≡ (node_of o).head
     node_head (op h rs) = refl
 
-    go : (a : Option (StandOf (List ℕ) TypeTerm AttrTerm)) → stand_of y t ≡ a → option_map head (find y t) ≡ option_map (λ (s : SurroundingsOf (List ℕ) TypeTerm AttrTerm). s.node.head) (surroundings y t)
-    go None i = ap (option_map head) (sym (stands_find y [] t) ∙ ap (option_map (λ (z : StandOf (List ℕ) TypeTerm AttrTerm). z.here)) i) ∙ sym (ap (λ a. option_map (λ (s : SurroundingsOf (List ℕ) TypeTerm AttrTerm). s.node.head) (option_map (surround t) a)) i)
-    go (Some z) i = ap (option_map head) (sym (stands_find y [] t) ∙ ap (option_map (λ (z : StandOf (List ℕ) TypeTerm AttrTerm). z.here)) i) ∙ ap Some (node_head z.here) ∙ sym (ap (λ a. option_map (λ (s : SurroundingsOf (List ℕ) TypeTerm AttrTerm). s.node.head) (option_map (surround t) a)) i)
+    go : (a : Option (OpWithPathOf (List ℕ) TypeTerm AttrTerm)) → op_with_path y t ≡ a → option_map head (find y t) ≡ option_map (λ (s : SurroundingsOf (List ℕ) TypeTerm AttrTerm). s.node.head) (surroundings y t)
+    go None i = ap (option_map head) (sym (stands_find y [] t) ∙ ap (option_map (λ (z : OpWithPathOf (List ℕ) TypeTerm AttrTerm). z.here)) i) ∙ sym (ap (λ a. option_map (λ (s : SurroundingsOf (List ℕ) TypeTerm AttrTerm). s.node.head) (option_map (surround t) a)) i)
+    go (Some z) i = ap (option_map head) (sym (stands_find y [] t) ∙ ap (option_map (λ (z : OpWithPathOf (List ℕ) TypeTerm AttrTerm). z.here)) i) ∙ ap Some (node_head z.here) ∙ sym (ap (λ a. option_map (λ (s : SurroundingsOf (List ℕ) TypeTerm AttrTerm). s.node.head) (option_map (surround t) a)) i)
 
 module _ (t u : Operation) where
   pub verified_alike : (h : Header) → surroundings h.id t ≡ surroundings h.id u → is_verified t h ≡ is_verified u h

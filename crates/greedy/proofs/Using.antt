@@ -10,7 +10,7 @@ use Rattle.ir_event.specs.trees.Uses.{same_value, operand_uses, uses_of}
 use Rattle.ir_event.specs.store.Nodes.{Node, node_of}
 use Rattle.ir_event.specs.store.Using.{is_use, same_use, AreUses}
 use Rattle.ir_event.specs.tree_laws.Values.{has_value}
-use Rattle.ir_event.specs.tree_laws.Stands.{StandOf, stand_id, stands, stand_of, dominated_by}
+use Rattle.ir_event.specs.tree_laws.Stands.{OpWithPathOf, op_with_path_id, stands, op_with_path, dominated_by}
 use Rattle.ir_event.specs.tree_laws.Members.{In}
 use Rattle.ir_event.proofs.of_tree_laws.Listed.{any_one, both_hold, bool_cases, all_each}
 use Rattle.ir_event.proofs.of_tree_laws.Readings.{stands_uses}
@@ -76,14 +76,14 @@ module _ (w : World) where
     value : has_value (Result y number) w.store.module_of.tree ≡ true
 
   used : (x y : ℕ) → Uses x y w.store.module_of.tree → Used x y
-  used x y u = go (stand_of x w.store.module_of.tree) refl
+  used x y u = go (op_with_path x w.store.module_of.tree) refl
     where
-      by_stand : (s : StandOf ℕ ℕ ℕ) → In s (stands [] w.store.module_of.tree) → stand_id s ≡ x → (v : Value) → In v (head s.here).operands → (k : ℕ) → v ≡ Result y k → Used x y
+      by_stand : (s : OpWithPathOf ℕ ℕ ℕ) → In s (stands [] w.store.module_of.tree) → op_with_path_id s ≡ x → (v : Value) → In v (head s.here).operands → (k : ℕ) → v ≡ Result y k → Used x y
       by_stand s h i v k n e =
-          let l = listed_use v (stand_id s) 0 (head s.here).operands k in
-          let g : In (stand_id s, l.0) (uses_of v w.store.module_of.tree) =
-          subst (In (stand_id s, l.0)) (stands_uses v [] w.store.module_of.tree)
-          (in_gather (λ (u : StandOf ℕ ℕ ℕ). operand_uses v (stand_id u) 0 (head u.here).operands) (stand_id s, l.0) s (stands [] w.store.module_of.tree) h l.1) in
+          let l = listed_use v (op_with_path_id s) 0 (head s.here).operands k in
+          let g : In (op_with_path_id s, l.0) (uses_of v w.store.module_of.tree) =
+          subst (In (op_with_path_id s, l.0)) (stands_uses v [] w.store.module_of.tree)
+          (in_gather (λ (u : OpWithPathOf ℕ ℕ ℕ). operand_uses v (op_with_path_id u) 0 (head u.here).operands) (op_with_path_id s, l.0) s (stands [] w.store.module_of.tree) h l.1) in
           let each = (from_wellformed (isolated_in w.ctx) w.store.module_of.tree w.wellformed.wellformed).dominated_by_own s h in
           let is = (seen_by (isolated_in w.ctx) w.store.module_of.tree w.wellformed.distinct s h v (all_each (dominated_by (isolated_in w.ctx) s.path) (head s.here).operands each v k)).is in
           record {
@@ -91,12 +91,12 @@ module _ (w : World) where
             user = (
               l.0,
               subst (λ q. is_use q l.0 (uses_of (Result y n) w.store.module_of.tree) ≡ true) i
-                  (ap (λ q. is_use (stand_id s) l.0 (uses_of q w.store.module_of.tree)) (sym e) ∙ in_is_use (stand_id s) l.0 (uses_of v w.store.module_of.tree) g),
+                  (ap (λ q. is_use (op_with_path_id s) l.0 (uses_of q w.store.module_of.tree)) (sym e) ∙ in_is_use (op_with_path_id s) l.0 (uses_of v w.store.module_of.tree) g),
             );
             value = ap (λ q. has_value q w.store.module_of.tree) (sym e) ∙ is;
           }
 
-      go : (f : Option (StandOf ℕ ℕ ℕ)) → stand_of x w.store.module_of.tree ≡ f → Used x y
+      go : (f : Option (OpWithPathOf ℕ ℕ ℕ)) → op_with_path x w.store.module_of.tree ≡ f → Used x y
       go None i = absurd (subst (λ f. In u.0 (operands_of (option_map (surround w.store.module_of.tree) f))) i u.1)
       go (Some s) i =
           let m = member x (stands [] w.store.module_of.tree) s i in
@@ -106,16 +106,16 @@ module _ (w : World) where
 
   -- the operand of a user, with the path to the user
   record Operand (x y : ℕ) : Type 0 where
-    at : StandOf ℕ ℕ ℕ
+    at : OpWithPathOf ℕ ℕ ℕ
     there : In at (stands [] w.store.module_of.tree)
-    id : stand_id at ≡ x
+    id : op_with_path_id at ≡ x
     number : ℕ
     visible : dominated_by (isolated_in w.ctx) at.path (Result y number) ≡ true
 
   operand : (x y : ℕ) → Uses x y w.store.module_of.tree → Operand x y
-  operand x y u = go (stand_of x w.store.module_of.tree) refl
+  operand x y u = go (op_with_path x w.store.module_of.tree) refl
     where
-      go : (f : Option (StandOf ℕ ℕ ℕ)) → stand_of x w.store.module_of.tree ≡ f → Operand x y
+      go : (f : Option (OpWithPathOf ℕ ℕ ℕ)) → op_with_path x w.store.module_of.tree ≡ f → Operand x y
       go None i = absurd (subst (λ f. In u.0 (operands_of (option_map (surround w.store.module_of.tree) f))) i u.1)
       go (Some s) i =
           let m = member x (stands [] w.store.module_of.tree) s i in
@@ -132,13 +132,13 @@ module _ (w : World) where
 
   -- a user by its node
   user_found : (x y : ℕ) → Uses x y w.store.module_of.tree → (o : Op) × (find x w.store.module_of.tree ≡ Some o) × (list_any (is_result_of y) (head o).operands ≡ true)
-  user_found x y u = go (stand_of x w.store.module_of.tree) refl
+  user_found x y u = go (op_with_path x w.store.module_of.tree) refl
     where
       own : (v : Value) → defining_op v ≡ Some y → is_result_of y v ≡ true
       own (Result z k) e = let same : z ≡ y = cc in eq-eqb z y same
       own (Arg z r k) e = absurd cc
 
-      go : (f : Option (StandOf ℕ ℕ ℕ)) → stand_of x w.store.module_of.tree ≡ f → (o : Op) × (find x w.store.module_of.tree ≡ Some o) × (list_any (is_result_of y) (head o).operands ≡ true)
+      go : (f : Option (OpWithPathOf ℕ ℕ ℕ)) → op_with_path x w.store.module_of.tree ≡ f → (o : Op) × (find x w.store.module_of.tree ≡ Some o) × (list_any (is_result_of y) (head o).operands ≡ true)
       go None i = absurd (subst (λ f. In u.0 (operands_of (option_map (surround w.store.module_of.tree) f))) i u.1)
       go (Some s) i =
           let m = member x (stands [] w.store.module_of.tree) s i in
@@ -172,7 +172,7 @@ module _ (w : World) where
       let o = operand l y u in
       let z = ending x l w.store.module_of.tree k in
       let one : o.at ≡ stand z.here (z.step ∷ z.path) = same_stand w.store.module_of.tree w.wellformed.distinct o.at (stand z.here (z.step ∷ z.path)) o.there z.there (o.id ∙ sym z.id) in
-      let paths : o.at.path ≡ z.step ∷ z.path = ap (λ (s : StandOf ℕ ℕ ℕ). s.path) one in
+      let paths : o.at.path ≡ z.step ∷ z.path = ap (λ (s : OpWithPathOf ℕ ℕ ℕ). s.path) one in
       elim (dominates_parent w.store.module_of.tree w.wellformed.distinct (isolated_in w.ctx) y o.number z.here z.step z.path z.there (subst (λ p. dominated_by (isolated_in w.ctx) p (Result y o.number) ≡ true) paths o.visible)) [
         | inl b ↦ inl (subst (λ p. precedes y p w.store.module_of.tree ≡ true) z.parent b)
         | inr e ↦ inr (

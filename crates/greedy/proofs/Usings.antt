@@ -15,7 +15,7 @@ use Rattle.ir_event.specs.trees.Edits.{at, put_operand, change_part, change_entr
 use Rattle.ir_event.specs.trees.Meaning.{Operation, key_before}
 use Rattle.ir_event.specs.store.Nodes.{node_of}
 use Rattle.ir_event.specs.tree_laws.Changes.{operand_at}
-use Rattle.ir_event.specs.tree_laws.Stands.{StandOf, stand_id, stands, edit_stand}
+use Rattle.ir_event.specs.tree_laws.Stands.{OpWithPathOf, op_with_path_id, stands, edit_stand}
 use Rattle.ir_event.specs.tree_laws.Members.{In}
 use Rattle.ir_event.proofs.of_tree_laws.Listed.{bool_cases, each_all, all_each}
 use Rattle.ir_event.proofs.of_tree_laws.Readings.{stands_every}
@@ -63,12 +63,12 @@ module _ {N T A : Type 0} where
   abbrev free_of : ℕ → OpOf N T A → Bool
   free_of x o = list_all (λ v. not (is_result_of x v)) (head o).operands
 
-  implied : (x : ℕ) (t u : OpOf N T A) → ((s : StandOf N T A) → In s (stands [] t) → (free_of x s.here ≡ true) ⊎ ((r : StandOf N T A) × In r (stands [] u) × (free_of x r.here ≡ free_of x s.here))) → is_unused x u ≡ true → is_unused x t ≡ true
+  implied : (x : ℕ) (t u : OpOf N T A) → ((s : OpWithPathOf N T A) → In s (stands [] t) → (free_of x s.here ≡ true) ⊎ ((r : OpWithPathOf N T A) × In r (stands [] u) × (free_of x r.here ≡ free_of x s.here))) → is_unused x u ≡ true → is_unused x t ≡ true
   implied x t u f e =
       sym (stands_every (free_of x) [] t)
-      ∙ each_all (λ (s : StandOf N T A). free_of x s.here) (stands [] t) (λ s h. elim (f s h) [
+      ∙ each_all (λ (s : OpWithPathOf N T A). free_of x s.here) (stands [] t) (λ s h. elim (f s h) [
         | inl k ↦ k
-        | inr r ↦ sym r.2 ∙ all_each (λ (z : StandOf N T A). free_of x z.here) (stands [] u) (stands_every (free_of x) [] u ∙ e) r.0 r.1
+        | inr r ↦ sym r.2 ∙ all_each (λ (z : OpWithPathOf N T A). free_of x z.here) (stands [] u) (stands_every (free_of x) [] u ∙ e) r.0 r.1
       ])
 
   shown_operands : (o : OpOf N T A) → (node_of o).head.operands ≡ (head o).operands
@@ -93,18 +93,18 @@ module _ {N T A : Type 0} where
 -- ---- one event
 module _ (c : ContextModel) (y : ℕ) where
   -- all operations but the event's operation keep their operands
-  others : (x : ℕ) (t u : Operation) → Goes (Like own_of x) x t u → (s : StandOf (List ℕ) TypeTerm AttrTerm) → In s (stands [] t) → (stand_id s ≡ x → ⊥) → (r : StandOf (List ℕ) TypeTerm AttrTerm) × In r (stands [] u) × (free_of y r.here ≡ free_of y s.here)
+  others : (x : ℕ) (t u : Operation) → Goes (Like own_of x) x t u → (s : OpWithPathOf (List ℕ) TypeTerm AttrTerm) → In s (stands [] t) → (op_with_path_id s ≡ x → ⊥) → (r : OpWithPathOf (List ℕ) TypeTerm AttrTerm) × In r (stands [] u) × (free_of y r.here ≡ free_of y s.here)
   others x t u goes s h apart = let w = goes s h apart in (w.0, w.1, same_free y w.0.here s.here (node_operands w.0.here s.here (sym w.3.node)))
 
-  by_subject : (x : ℕ) (t u : Operation) → Goes (Like own_of x) x t u → ((s : StandOf (List ℕ) TypeTerm AttrTerm) → In s (stands [] t) → stand_id s ≡ x → (free_of y s.here ≡ true) ⊎ ((r : StandOf (List ℕ) TypeTerm AttrTerm) × In r (stands [] u) × (free_of y r.here ≡ free_of y s.here)))
+  by_subject : (x : ℕ) (t u : Operation) → Goes (Like own_of x) x t u → ((s : OpWithPathOf (List ℕ) TypeTerm AttrTerm) → In s (stands [] t) → op_with_path_id s ≡ x → (free_of y s.here ≡ true) ⊎ ((r : OpWithPathOf (List ℕ) TypeTerm AttrTerm) × In r (stands [] u) × (free_of y r.here ≡ free_of y s.here)))
       → is_unused y u ≡ true → is_unused y t ≡ true
-  by_subject x t u goes own = implied y t u (λ s h. elim (bool_cases (eqb (stand_id s) x)) [
-    | inl e ↦ own s h (eqb-true (stand_id s) x e)
-    | inr e ↦ inr (others x t u goes s h (λ i. true≢false (sym (eq-eqb (stand_id s) x i) ∙ e)))
+  by_subject x t u goes own = implied y t u (λ s h. elim (bool_cases (eqb (op_with_path_id s) x)) [
+    | inl e ↦ own s h (eqb-true (op_with_path_id s) x e)
+    | inr e ↦ inr (others x t u goes s h (λ i. true≢false (sym (eq-eqb (op_with_path_id s) x i) ∙ e)))
   ])
 
   -- an event changes the use of a value only if its operation has that value as an operand
-  pub put_unused : (x : ℕ) (t w : Operation) → HasDistinctIds t → Goes (Like own_of x) x t w → Goes (Like own_of x) x w t → ((s : StandOf (List ℕ) TypeTerm AttrTerm) → In s (stands [] w) → stand_id s ≡ x → ⊥)
+  pub put_unused : (x : ℕ) (t w : Operation) → HasDistinctIds t → Goes (Like own_of x) x t w → Goes (Like own_of x) x w t → ((s : OpWithPathOf (List ℕ) TypeTerm AttrTerm) → In s (stands [] w) → op_with_path_id s ≡ x → ⊥)
       → ((o : Operation) → find x t ≡ Some o → (v : Value) → In v (head o).operands → defining_op v ≡ Some y → ⊥) → is_unused y w ≡ is_unused y t
   put_unused x t w d out back none free = same_bool (is_unused y w) (is_unused y t)
       (by_subject x t w out (λ s h i. inl (freed y (head s.here).operands (free s.here (ap (λ z. find z t) (sym i) ∙ stand_found t d s h)))))
@@ -160,7 +160,7 @@ module _ (c : ContextModel) (y : ℕ) where
       (by_subject x m.tree n.tree (goes_on own_of x m.tree n.tree s.before.distinct (sym t.rest) (sym t.same)) (λ z h i. inr (itself x m.tree n.tree s.before.distinct t.same z h i)))
       (by_subject x n.tree m.tree (goes_on own_of x n.tree m.tree s.after.distinct t.rest t.same) (λ z h i. inr (itself x n.tree m.tree s.after.distinct (sym t.same) z h i)))
     where
-      itself : (x : ℕ) (t u : Operation) → HasDistinctIds t → find x u ≡ find x t → (z : StandOf (List ℕ) TypeTerm AttrTerm) → In z (stands [] t) → stand_id z ≡ x → (r : StandOf (List ℕ) TypeTerm AttrTerm) × In r (stands [] u) × (free_of y r.here ≡ free_of y z.here)
+      itself : (x : ℕ) (t u : Operation) → HasDistinctIds t → find x u ≡ find x t → (z : OpWithPathOf (List ℕ) TypeTerm AttrTerm) → In z (stands [] t) → op_with_path_id z ≡ x → (r : OpWithPathOf (List ℕ) TypeTerm AttrTerm) × In r (stands [] u) × (free_of y r.here ≡ free_of y z.here)
       itself x t u d same z h i =
           let r = found_stands x u z.here (same ∙ ap (λ j. find j t) (sym i) ∙ stand_found t d z h) in
           (r.0, r.1, ap (free_of y) r.3)
@@ -327,12 +327,12 @@ none_gained : (shown : ℕ → List Value) (c : ContextModel) (es : List Event) 
     → is_unused y m.tree ≡ true → is_unused y n.tree ≡ true
 none_gained shown c es m n s d y away u =
     sym (stands_every (free_of y) [] n.tree)
-    ∙ each_all (λ (z : StandOf (List ℕ) TypeTerm AttrTerm). free_of y z.here) (stands [] n.tree) (λ z h. freed y (head z.here).operands (λ v k g.
+    ∙ each_all (λ (z : OpWithPathOf (List ℕ) TypeTerm AttrTerm). free_of y z.here) (stands [] n.tree) (λ z h. freed y (head z.here).operands (λ v k g.
     let found = stand_found n.tree d z h in
-    elim (came shown c es m n s (stand_id z) v (subst (λ vs. In v vs) (last_shown shown c es m n s (stand_id z) z.here found) k) (z.here, found, k)) [
+    elim (came shown c es m n s (op_with_path_id z) v (subst (λ vs. In v vs) (last_shown shown c es m n s (op_with_path_id z) z.here found) k) (z.here, found, k)) [
       | inl w ↦ not_free v g (
-          let r = found_stands (stand_id z) m.tree w.0 w.1 in
-          all_each (λ v. not (is_result_of y v)) (head w.0).operands (subst (λ (q : Operation). free_of y q ≡ true) r.3 (all_each (λ (z : StandOf (List ℕ) TypeTerm AttrTerm). free_of y z.here) (stands [] m.tree) (stands_every (free_of y) [] m.tree ∙ u) r.0 r.1)) v w.2)
+          let r = found_stands (op_with_path_id z) m.tree w.0 w.1 in
+          all_each (λ v. not (is_result_of y v)) (head w.0).operands (subst (λ (q : Operation). free_of y q ≡ true) r.3 (all_each (λ (z : OpWithPathOf (List ℕ) TypeTerm AttrTerm). free_of y z.here) (stands [] m.tree) (stands_every (free_of y) [] m.tree ∙ u) r.0 r.1)) v w.2)
       | inr w ↦ away w.0 w.1 v w.2 g
     ]))
   where

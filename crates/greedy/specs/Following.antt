@@ -3,7 +3,7 @@ use Rattle.std.specs.Prelude.{◌≡◌, ◌≤◌, ℕ, zero, suc, ◌+◌, Lis
 use Rattle.std.specs.Prelude.{Some, None}
 use Rattle.ir_event.specs.trees.Tree.{OpOf, RegionsOf, no_regions, region, regions, region_count}
 use Rattle.ir_event.specs.trees.Ids.{ids, find, regions_ids, ops_ids}
-use Rattle.ir_event.specs.tree_laws.Stands.{StepOf, StandOf}
+use Rattle.ir_event.specs.tree_laws.Stands.{StepOf, OpWithPathOf}
 
 -- the first entry of a list
 abbrev pub first_id : List ℕ → Option ℕ
@@ -39,12 +39,12 @@ module _ {N T A : Type 0} where
   trailing [] = []
   trailing (a ∷ q) = ops_ids a.rest ++ (regions_ids (regions_from (a.region + 1) (regions a.parent)) ++ trailing q)
 
-  abbrev pub after_of : Option (StandOf N T A) → List ℕ
+  abbrev pub after_of : Option (OpWithPathOf N T A) → List ℕ
   after_of None = []
   after_of (Some s) = trailing s.path
 
   -- the number of parents of an optional operation
-  abbrev pub height_of : Option (StandOf N T A) → ℕ
+  abbrev pub height_of : Option (OpWithPathOf N T A) → ℕ
   height_of None = 0
   height_of (Some s) = length s.path
 

@@ -17,7 +17,7 @@ pub mod Orders
 pub mod Rewriting
 pub mod Ruled
 pub mod PatternSet
-pub mod Trials
+pub mod Applications
 pub mod Tracing
 pub mod Traced
 pub use Rattle.user_patterns_apply.specs as own

@@ -14,7 +14,7 @@ use Rattle.patterns_base.specs.RuleNames.{is_canonical}
 use Rattle.patterns_base.specs.Rewrites.{edits_of}
 use Rattle.user_patterns_data.specs.Shapes.{PatternModel}
 use Rattle.user_patterns_data.specs.Depth.{is_shallow}
-use Rattle.user_patterns_apply.specs.Own.{own_edits}
+use Rattle.user_patterns_apply.specs.Own.{user_pattern_edits}
 use Rattle.greedy.specs.Reached.{any_reaches}
 use Rattle.greedy.specs.LocalContext.{defining_op, is_listed, ListsSeers, ListsAround}
 use Rattle.greedy.specs.Climbs.{Climbs}
@@ -25,7 +25,7 @@ use Rattle.greedy.specs.Near.{gained_values, lost_values, outer_ids}
 pub record Stayed (before held : Module) (x : ℕ) : Type 0 where
   pub was : has_id x before.tree ≡ true
   pub applies : (r : Rule) → is_canonical r ≡ true → (edits_of r held x ≡ None) ↔ (edits_of r before x ≡ None)
-  pub own : (p : PatternModel) → is_shallow p ≡ true → (own_edits p held x ≡ None) ↔ (own_edits p before x ≡ None)
+  pub own : (p : PatternModel) → is_shallow p ≡ true → (user_pattern_edits p held x ≡ None) ↔ (user_pattern_edits p before x ≡ None)
 
 abbrev pub Touched : Module → Module → List ℕ → Type 0
 Touched before held listed = (x : ℕ) → has_id x held.tree ≡ true → is_listed x listed ≡ false → Stayed before held x

@@ -23,9 +23,9 @@ abbrev pub Refuses : Rewrite → Type 0 → Refusal → Type 0
 Refuses a is_full e = (e ≡ Memory) ⊎ ((a ≡ refused e) ⊎ ((e ≡ Full) × ((a ≢ none) × is_full)))
 
 -- the flag is true only if there is a rewrite
-abbrev pub Tells : Rewrite → Bool → Type 0
-Tells a true = a ≢ none
-Tells a false = a ≡ none
+abbrev pub MarksRewrite : Rewrite → Bool → Type 0
+MarksRewrite a true = a ≢ none
+MarksRewrite a false = a ≡ none
 
 -- the number of rewrites of an outcome, and how the run ended
 abbrev pub count_of : Outcome → ℕ

@@ -3,7 +3,7 @@ use Rattle.std.specs.Prelude.{List, ⊤}
 use Rattle.patterns_base.specs.Canonicalization.{greedy_rules}
 use Rattle.patterns_base.specs.declared.rule.Rule.{Rule}
 use Rattle.patterns.specs.Rows.{IsRuleTable}
-use Rattle.greedy.specs.PatternSet.{AreAttempts, PatternSetModel, patterns_of, by_attempts, by_rules}
+use Rattle.greedy.specs.PatternSet.{MayUseAll, PatternSetModel, patterns_of, pattern_set_from, by_rules}
 use Rattle.greedy.specs.declared.rules.RuleSet.{RuleSet}
 use Rattle.greedy.specs.declared.rules.RuleSet.TheVariants.{Canonicalization, List as OfList}
 use Rattle.greedy.specs.declared.pattern_set.PatternSet.{PatternSet}
@@ -22,8 +22,8 @@ MayRun (OfList rows) = IsRuleTable rows.now
 -- the pattern set of a run
 abbrev pub pattern_set_of : PatternSet → PatternSetModel
 pattern_set_of (Rules rules) = by_rules (rules_in rules)
-pattern_set_of (Patterns list) = by_attempts (patterns_of list.now)
+pattern_set_of (Patterns list) = pattern_set_from (patterns_of list.now)
 
 abbrev pub MayTry : PatternSet → Type 0
 MayTry (Rules rules) = MayRun rules
-MayTry (Patterns list) = AreAttempts (patterns_of list.now)
+MayTry (Patterns list) = MayUseAll (patterns_of list.now)

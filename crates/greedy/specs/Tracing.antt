@@ -7,7 +7,7 @@ use Rattle.patterns_base.specs.Rewrites.{Rewrite, none, refused, becomes}
 use Rattle.patterns_base.specs.Canonicalization.{End, ended}
 use Rattle.greedy.specs.Rewriting.{next_by, rewritten_from}
 use Rattle.greedy.specs.PatternSet.{PatternSetModel}
-use Rattle.greedy.specs.Trials.{IsApplied}
+use Rattle.greedy.specs.Applications.{IsApplied}
 use Rattle.greedy.specs.declared.applied_rewrite.AppliedPattern.{AppliedPattern}
 use Rattle.greedy.specs.declared.applied_rewrite.AppliedRewrite.{AppliedRewrite}
 

@@ -2,7 +2,7 @@
 ghost use Rattle.std.specs.Prelude.{◌≡◌, [], is_some, IfErr, IfOk, MatchResult, OnErr, OnOk};
 ghost use Rattle.ir_event.specs.types.Things.{IsExtendedBy};
 ghost use Rattle.patterns_base.specs.Canonicalization.{first_rule, greedy_rules};
-ghost use Rattle.patterns.specs.Firing.{firing};
+ghost use Rattle.patterns.specs.FirstMatching.{first_matching_rule};
 ghost use Rattle.patterns.specs.Rows.{AreCanonical};
 ghost use Rattle.rewriter_machine.specs.Machine.{Change, IsFullSo};
 ghost use Rattle.patterns.specs.rewriter.Moves.{Recorded};
@@ -15,7 +15,7 @@ ghost use Rattle.greedy.specs.Changes.{canonical_reply, canonicalizing, rewritin
 ghost use Rattle.greedy.specs.Outcomes.{IsReason, IsReasonBy};
 ghost use Rattle.greedy.specs.Ruled.{MayRun, rules_in};
 ghost use Rattle.greedy.specs.Tracing.{trace_of};
-ghost use Rattle.greedy.specs.PatternSet.{AreAttempts, patterns_of, by_attempts, by_rules};
+ghost use Rattle.greedy.specs.PatternSet.{MayUseAll, patterns_of, pattern_set_from, by_rules};
 
 use crate::applied_rewrite::AppliedPattern;
 use crate::first_pattern::apply_first_pattern;
@@ -53,7 +53,7 @@ fn first_of<L: Analysis>(
     requires { MayRun rules.now }
     ensures ok { IfOk result (λ r. RewriteOutcome (first_rule (rules_in rules.now) (module_held bench.old.transaction) op) (is_some r)
         (module_held bench.old.transaction) (module_held bench.new.transaction)) }
-    ensures applied { IfOk result (λ r. r ≡ firing (rules_in rules.now) (module_held bench.old.transaction) op) }
+    ensures applied { IfOk result (λ r. r ≡ first_matching_rule (rules_in rules.now) (module_held bench.old.transaction) op) }
     ensures err { OnErr result (module_held bench.new.transaction ≡ module_held bench.old.transaction) }
     ensures refused { IfErr result (λ e. IsFailure (first_rule (rules_in rules.now) (module_held bench.old.transaction) op) op
         (module_held bench.old.transaction) bench.new.transaction.ctx e) }
@@ -313,15 +313,15 @@ pub fn rewrite_with_patterns_traced<L: Analysis, T: Tracer>(
     limit: u32,
     trace: &mut T,
 ) -> Result<Outcome, Refusal>
-    requires { AreAttempts (patterns_of candidates.now) }
-    ensures does { Does L.meaning (Change (rewriting (by_attempts (patterns_of candidates.now)) limit))
+    requires { MayUseAll (patterns_of candidates.now) }
+    ensures does { Does L.meaning (Change (rewriting (pattern_set_from (patterns_of candidates.now)) limit))
         (canonical_reply result) bench.old bench.new }
     ensures trace { OnOk result (T.traced
-        (trace_of (by_attempts (patterns_of candidates.now)) limit (module_held bench.old.transaction)) trace.old trace.new) }
-    ensures refused { IfErr result (λ e. IsReasonBy (by_attempts (patterns_of candidates.now)) limit
+        (trace_of (pattern_set_from (patterns_of candidates.now)) limit (module_held bench.old.transaction)) trace.old trace.new) }
+    ensures refused { IfErr result (λ e. IsReasonBy (pattern_set_from (patterns_of candidates.now)) limit
         (module_held bench.old.transaction) (IsFull bench.new.transaction.ctx) e) }
     ensures headroom { IsFullSo (IsFull bench.new.transaction.ctx) (state_of L.meaning bench.old)
-        (rewriting (by_attempts (patterns_of candidates.now)) limit) (canonical_reply result) }
+        (rewriting (pattern_set_from (patterns_of candidates.now)) limit) (canonical_reply result) }
     ensures led { Led L.meaning bench.old bench.new }
     ensures grows { IsExtendedBy bench.old.transaction.ctx bench.new.transaction.ctx }
     ensures journal { MatchResult result (λ _. Noted bench.old.transaction bench.new.transaction)
@@ -341,13 +341,13 @@ pub fn rewrite_with_patterns<L: Analysis>(
     candidates: &[RuleOrPattern<'_>],
     limit: u32,
 ) -> Result<Outcome, Refusal>
-    requires { AreAttempts (patterns_of candidates.now) }
-    ensures does { Does L.meaning (Change (rewriting (by_attempts (patterns_of candidates.now)) limit))
+    requires { MayUseAll (patterns_of candidates.now) }
+    ensures does { Does L.meaning (Change (rewriting (pattern_set_from (patterns_of candidates.now)) limit))
         (canonical_reply result) bench.old bench.new }
-    ensures refused { IfErr result (λ e. IsReasonBy (by_attempts (patterns_of candidates.now)) limit
+    ensures refused { IfErr result (λ e. IsReasonBy (pattern_set_from (patterns_of candidates.now)) limit
         (module_held bench.old.transaction) (IsFull bench.new.transaction.ctx) e) }
     ensures headroom { IsFullSo (IsFull bench.new.transaction.ctx) (state_of L.meaning bench.old)
-        (rewriting (by_attempts (patterns_of candidates.now)) limit) (canonical_reply result) }
+        (rewriting (pattern_set_from (patterns_of candidates.now)) limit) (canonical_reply result) }
     ensures led { Led L.meaning bench.old bench.new }
     ensures grows { IsExtendedBy bench.old.transaction.ctx bench.new.transaction.ctx }
     ensures journal { MatchResult result (λ _. Noted bench.old.transaction bench.new.transaction)

@@ -15,7 +15,7 @@ use patterns_base::rule::Rule;
 use std::alloc::Global;
 
 /// Converts a rule to the `AppliedPattern` that a trace records.
-fn told_rule(rule: Option<Rule>) -> Option<AppliedPattern>
+fn applied_pattern_of_rule(rule: Option<Rule>) -> Option<AppliedPattern>
     ensures told { result ≡ option_map by.Rule rule }
     ensures some { is_some result ≡ is_some rule }
 {
@@ -51,7 +51,7 @@ pub(crate) fn apply_first<R: GreedyRewriter>(
 {
     match pattern_set {
         PatternSet::Rules(rules) => match bench.first(alloc, rules, op) {
-            Ok(rule) => Ok(told_rule(rule)),
+            Ok(rule) => Ok(applied_pattern_of_rule(rule)),
             Err(refusal) => Err(refusal),
         },
         PatternSet::Patterns(candidates) => match bench.apply_first_pattern(alloc, candidates, op) {

@@ -4,7 +4,7 @@ ghost use Rattle.patterns.specs.Applied.{Applied as IsApplied, RewriteOutcome, I
 ghost use Rattle.patterns.specs.RewriterCalls.{Journaled, JournalAfter};
 ghost use Rattle.patterns.specs.Held.{module_held};
 ghost use Rattle.patterns.specs.runs.Runs.{Noted};
-ghost use Rattle.greedy.specs.PatternSet.{OfOwn, attempt_of, attempted, patterns_of, firing_tried, first_tried, traced_as};
+ghost use Rattle.greedy.specs.PatternSet.{OfUserPattern, rule_or_pattern_of, rewrite_by_entry, patterns_of, first_matching_entry, first_applicable_rewrite, traced_as};
 ghost use Rattle.user_patterns_data.specs.Shapes.{pattern_model};
 
 use crate::applied_rewrite::AppliedPattern;
@@ -19,17 +19,17 @@ use user_patterns_data::pattern::Pattern;
 
 /// Applies a user pattern at `op`, if the pattern is shallow. A shallow pattern reads no operation further from `op`
 /// than the rules do. Returns whether the pattern applied. If it didn't, the module stays the same.
-fn attempt_own<L: Analysis>(
+fn try_user_pattern<L: Analysis>(
     alloc: Global,
     bench: &mut Bench<L>,
     pattern: &Pattern,
     op: OpId,
 ) -> Result<bool, Refusal>
-    ensures ok { IfOk result (λ done. RewriteOutcome (attempted (OfOwn (pattern_model pattern.now)) (module_held bench.old.transaction) op) done
+    ensures ok { IfOk result (λ done. RewriteOutcome (rewrite_by_entry (OfUserPattern (pattern_model pattern.now)) (module_held bench.old.transaction) op) done
         (module_held bench.old.transaction) (module_held bench.new.transaction)) }
     ensures err { OnErr result (module_held bench.new.transaction ≡ module_held bench.old.transaction) }
     ensures refused { IfErr result (λ e. IsFailure
-        (attempted (OfOwn (pattern_model pattern.now)) (module_held bench.old.transaction) op) op
+        (rewrite_by_entry (OfUserPattern (pattern_model pattern.now)) (module_held bench.old.transaction) op) op
         (module_held bench.old.transaction) bench.new.transaction.ctx e) }
     ensures stays { IsApplied L.meaning bench.old bench.new }
     ensures journal { JournalAfter L.meaning result bench.old bench.new }
@@ -48,23 +48,23 @@ fn apply_pattern<L: Analysis>(
     candidates: &RuleOrPattern<'_>,
     op: OpId,
 ) -> Result<bool, Refusal>
-    ensures ok { IfOk result (λ done. RewriteOutcome (attempted (attempt_of candidates.now) (module_held bench.old.transaction) op) done
+    ensures ok { IfOk result (λ done. RewriteOutcome (rewrite_by_entry (rule_or_pattern_of candidates.now) (module_held bench.old.transaction) op) done
         (module_held bench.old.transaction) (module_held bench.new.transaction)) }
     ensures err { OnErr result (module_held bench.new.transaction ≡ module_held bench.old.transaction) }
-    ensures refused { IfErr result (λ e. IsFailure (attempted (attempt_of candidates.now) (module_held bench.old.transaction) op) op
+    ensures refused { IfErr result (λ e. IsFailure (rewrite_by_entry (rule_or_pattern_of candidates.now) (module_held bench.old.transaction) op) op
         (module_held bench.old.transaction) bench.new.transaction.ctx e) }
     ensures stays { IsApplied L.meaning bench.old bench.new }
     ensures journal { JournalAfter L.meaning result bench.old bench.new }
 {
     match candidates {
         RuleOrPattern::Rule(rule) => patterns::apply::apply(alloc, bench, *rule, op),
-        RuleOrPattern::UserPattern(pattern) => attempt_own(alloc, bench, pattern, op),
+        RuleOrPattern::UserPattern(pattern) => try_user_pattern(alloc, bench, pattern, op),
     }
 }
 
 /// Returns the `AppliedPattern` that a trace records for the rule or user pattern at index `place`.
 fn applied_pattern(place: usize, candidates: &RuleOrPattern<'_>) -> AppliedPattern
-    ensures { result ≡ traced_as place (attempt_of candidates.now) }
+    ensures { result ≡ traced_as place (rule_or_pattern_of candidates.now) }
 {
     match candidates {
         RuleOrPattern::Rule(rule) => AppliedPattern::Rule(*rule),
@@ -84,13 +84,13 @@ pub(crate) fn apply_first_pattern<L: Analysis>(
     candidates: &[RuleOrPattern<'_>],
     op: OpId,
 ) -> Result<Option<AppliedPattern>, Refusal>
-    ensures ok { IfOk result (λ r. RewriteOutcome (first_tried (patterns_of candidates.now) (module_held bench.old.transaction) op) (is_some r)
+    ensures ok { IfOk result (λ r. RewriteOutcome (first_applicable_rewrite (patterns_of candidates.now) (module_held bench.old.transaction) op) (is_some r)
         (module_held bench.old.transaction) (module_held bench.new.transaction)) }
     ensures applied { IfOk result
-        (λ r. r ≡ firing_tried 0 (patterns_of candidates.now) (module_held bench.old.transaction) op) }
+        (λ r. r ≡ first_matching_entry 0 (patterns_of candidates.now) (module_held bench.old.transaction) op) }
     ensures err { OnErr result (module_held bench.new.transaction ≡ module_held bench.old.transaction) }
     ensures refused { IfErr result (λ e. IsFailure
-        (first_tried (patterns_of candidates.now) (module_held bench.old.transaction) op) op
+        (first_applicable_rewrite (patterns_of candidates.now) (module_held bench.old.transaction) op) op
         (module_held bench.old.transaction) bench.new.transaction.ctx e) }
     ensures stays { IsApplied L.meaning bench.old bench.new }
     ensures journal { OnOk result (Journaled L.meaning bench.old bench.new) }

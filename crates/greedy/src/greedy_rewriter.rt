@@ -7,7 +7,7 @@ ghost use Rattle.ir_event.specs.trees.Tree.{head};
 ghost use Rattle.ir_event.specs.tree_laws.Reads.{precedes};
 ghost use Rattle.ir_event.specs.Modules.{Module};
 ghost use Rattle.rewriter_machine.specs.Machine.{OpenMark};
-ghost use Rattle.patterns.specs.Firing.{firing};
+ghost use Rattle.patterns.specs.FirstMatching.{first_matching_rule};
 ghost use Rattle.patterns.specs.rewriter.Held.{TransactionModel};
 ghost use Rattle.patterns.specs.rewriter.Rolling.{Dropped};
 ghost use Rattle.patterns.specs.runs.Runs.{Noted};
@@ -18,7 +18,7 @@ ghost use Rattle.greedy.specs.Following.{following};
 ghost use Rattle.greedy.specs.Orders.{IsBeyond};
 ghost use Rattle.greedy.specs.Listing.{TouchedUpTo};
 ghost use Rattle.greedy.specs.Ruled.{MayRun, rules_in};
-ghost use Rattle.greedy.specs.PatternSet.{patterns_of, firing_tried, first_tried};
+ghost use Rattle.greedy.specs.PatternSet.{patterns_of, first_matching_entry, first_applicable_rewrite};
 
 use crate::applied_rewrite::AppliedPattern;
 use crate::pattern_set::RuleOrPattern;
@@ -116,7 +116,7 @@ pub trait GreedyRewriter {
         ensures ok { IfOk result
             (λ r. Applied (first_rule (rules_in rules.now) (held self.old) op) (is_some r) (held self.old)
             (held self.new)) }
-        ensures applied { IfOk result (λ r. r ≡ firing (rules_in rules.now) (held self.old) op) }
+        ensures applied { IfOk result (λ r. r ≡ first_matching_rule (rules_in rules.now) (held self.old) op) }
         ensures err { OnErr result (held self.new ≡ held self.old) }
         ensures refused { IfErr result
             (λ e. Refuses (first_rule (rules_in rules.now) (held self.old) op) (full self.new) e) }
@@ -137,12 +137,12 @@ pub trait GreedyRewriter {
     ) -> Result<Option<AppliedPattern>, Refusal>
         requires { has_id op (held self.old).tree ≡ true }
         ensures ok { IfOk result
-            (λ r. Applied (first_tried (patterns_of candidates.now) (held self.old) op) (is_some r) (held self.old)
+            (λ r. Applied (first_applicable_rewrite (patterns_of candidates.now) (held self.old) op) (is_some r) (held self.old)
             (held self.new)) }
-        ensures applied { IfOk result (λ r. r ≡ firing_tried 0 (patterns_of candidates.now) (held self.old) op) }
+        ensures applied { IfOk result (λ r. r ≡ first_matching_entry 0 (patterns_of candidates.now) (held self.old) op) }
         ensures err { OnErr result (held self.new ≡ held self.old) }
         ensures refused { IfErr result
-            (λ e. Refuses (first_tried (patterns_of candidates.now) (held self.old) op) (full self.new) e) }
+            (λ e. Refuses (first_applicable_rewrite (patterns_of candidates.now) (held self.old) op) (full self.new) e) }
         ensures noted { OnOk result
             (marks self.old ≢ [] → (events self.old ≤ events self.new)
             × (before self.new (events self.old) ≡ held self.old)) }

@@ -8,11 +8,11 @@ ghost use Rattle.ir_event.specs.tree_laws.Reads.{precedes};
 ghost use Rattle.patterns_base.specs.Canonicalization.{greedy_rules};
 ghost use Rattle.patterns.specs.Rows.{AreCanonical};
 ghost use Rattle.greedy.specs.Outcomes.{Applied, ComeTo, IsCanonical, IsReason, IsReasonBy, IsRewriting, Refuses, Stop};
-ghost use Rattle.greedy.specs.Outcomes.{Tells};
+ghost use Rattle.greedy.specs.Outcomes.{MarksRewrite};
 ghost use Rattle.greedy.specs.Rewriting.{next_by};
 ghost use Rattle.greedy.specs.Ruled.{MayTry, pattern_set_of};
-ghost use Rattle.greedy.specs.PatternSet.{AreAttempts, PatternSetModel, patterns_of, by_attempts, by_rules};
-ghost use Rattle.greedy.specs.Trials.{StaysAway};
+ghost use Rattle.greedy.specs.PatternSet.{MayUseAll, PatternSetModel, patterns_of, pattern_set_from, by_rules};
+ghost use Rattle.greedy.specs.Applications.{StaysAway};
 ghost use Rattle.patterns.specs.rewriter.Moves.{Recorded};
 ghost use Rattle.patterns.specs.runs.Runs.{Noted};
 ghost use Rattle.greedy.specs.Work.{AreApart, IsWork, Right, CoversBut, Rewritten, StillWaits, waits};
@@ -180,7 +180,7 @@ fn applies<R: GreedyRewriter>(
 ) -> Result<bool, Refusal>
     requires ruled { MayTry pattern_set.now }
     requires right { Right (pattern_set_of pattern_set.now) work.old.passed work.old.again.items (R.held bench.old) }
-    ensures ok { IfOk result (λ any. Tells (next_by (pattern_set_of pattern_set.now) (R.held bench.old)) any) }
+    ensures ok { IfOk result (λ any. MarksRewrite (next_by (pattern_set_of pattern_set.now) (R.held bench.old)) any) }
     ensures held { R.held bench.new ≡ R.held bench.old }
     ensures marks { R.marks bench.new ≡ R.marks bench.old }
     ensures left { Recorded [] (R.transaction bench.old) (R.transaction bench.new) }
@@ -399,14 +399,14 @@ pub fn run_list_of_patterns_traced<R: GreedyRewriter, T: Tracer>(
     limit: u32,
     trace: &mut T,
 ) -> Result<Outcome, Refusal>
-    requires { AreAttempts (patterns_of candidates.now) }
+    requires { MayUseAll (patterns_of candidates.now) }
     ensures ok { IfOk result
-        (λ o. IsRewriting (by_attempts (patterns_of candidates.now)) limit (R.held bench.old) o (R.held bench.new)) }
+        (λ o. IsRewriting (pattern_set_from (patterns_of candidates.now)) limit (R.held bench.old) o (R.held bench.new)) }
     ensures trace { OnOk result
-        (T.traced (trace_of (by_attempts (patterns_of candidates.now)) limit (R.held bench.old)) trace.old trace.new) }
+        (T.traced (trace_of (pattern_set_from (patterns_of candidates.now)) limit (R.held bench.old)) trace.old trace.new) }
     ensures err { OnErr result (R.held bench.new ≡ R.held bench.old) }
     ensures refused { IfErr result
-        (λ e. IsReasonBy (by_attempts (patterns_of candidates.now)) limit (R.held bench.old) (R.full bench.new) e) }
+        (λ e. IsReasonBy (pattern_set_from (patterns_of candidates.now)) limit (R.held bench.old) (R.full bench.new) e) }
     ensures marks { R.marks bench.new ≡ R.marks bench.old }
     ensures journal { MatchResult result (λ _. Noted (R.transaction bench.old) (R.transaction bench.new))
         (λ _. Recorded [] (R.transaction bench.old) (R.transaction bench.new)) }

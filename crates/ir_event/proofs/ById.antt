@@ -2,7 +2,7 @@
 use Rattle.std.proofs.Common.{◌≡◌, ℕ, ◌<◌, ◌≤◌, List, [], ◌∷◌, Bool, true, false, Option, Some, None, ◌⊎◌, inl, inr, refl, sym, ap, ◌∙◌, arith, cond, eqb, ltb-true, ltb-false}
 use Rattle.std.specs.Prelude.{nat_lt}
 use Rattle.std.proofs.lemmas.Bool.{eq-eqb, ne_eqb, cases_eq}
-use Rattle.ir_event.specs.Rows.{put_by_id, by_id}
+use Rattle.ir_event.specs.Rows.{insert_by_id, by_id}
 
 module _ {V : Type 0} where
   -- the second component for an id
@@ -63,31 +63,31 @@ module _ {V : Type 0} where
           go false t = let l = ltb-false m n t in inr (elim (cases_eq n m) [ inl e ↦ absurd (ne (sym e)) | inr q ↦ omega (arith, l, q) ])
 
   -- insertion into a sorted list
-  put_not_in : (x : ℕ) (p : ℕ × V) (ps : List (ℕ × V)) → (x ≡ p.0 → ⊥) → NotIn x ps → NotIn x (put_by_id p ps)
+  put_not_in : (x : ℕ) (p : ℕ × V) (ps : List (ℕ × V)) → (x ≡ p.0 → ⊥) → NotIn x ps → NotIn x (insert_by_id p ps)
   put_not_in x p [] ne n = (ne, tt)
-  put_not_in x p (q ∷ qs) ne n = elim (nat_lt q.0 p.0) as (λ b. NotIn x (cond b (q ∷ put_by_id p qs) (p ∷ q ∷ qs))) [ true ↦ (n.0, put_not_in x p qs ne n.1) | false ↦ (ne, n) ]
+  put_not_in x p (q ∷ qs) ne n = elim (nat_lt q.0 p.0) as (λ b. NotIn x (cond b (q ∷ insert_by_id p qs) (p ∷ q ∷ qs))) [ true ↦ (n.0, put_not_in x p qs ne n.1) | false ↦ (ne, n) ]
 
-  put_above : (k : ℕ) (p : ℕ × V) (ps : List (ℕ × V)) → k < p.0 → Above k ps → Above k (put_by_id p ps)
+  put_above : (k : ℕ) (p : ℕ × V) (ps : List (ℕ × V)) → k < p.0 → Above k ps → Above k (insert_by_id p ps)
   put_above k p [] l a = (l, tt)
-  put_above k p (q ∷ qs) l a = elim (nat_lt q.0 p.0) as (λ b. Above k (cond b (q ∷ put_by_id p qs) (p ∷ q ∷ qs))) [ true ↦ (a.0, put_above k p qs l a.1) | false ↦ (l, a) ]
+  put_above k p (q ∷ qs) l a = elim (nat_lt q.0 p.0) as (λ b. Above k (cond b (q ∷ insert_by_id p qs) (p ∷ q ∷ qs))) [ true ↦ (a.0, put_above k p qs l a.1) | false ↦ (l, a) ]
 
-  put_rising : (p : ℕ × V) (ps : List (ℕ × V)) → NotIn p.0 ps → Rising ps → Rising (put_by_id p ps)
+  put_rising : (p : ℕ × V) (ps : List (ℕ × V)) → NotIn p.0 ps → Rising ps → Rising (insert_by_id p ps)
   put_rising p [] n r = (tt, tt)
   put_rising p (q ∷ qs) n r = go (put_rising p qs n.1 r.1) (nat_lt q.0 p.0) refl
     where
-      go : Rising (put_by_id p qs) → (b : Bool) → nat_lt q.0 p.0 ≡ b → Rising (cond b (q ∷ put_by_id p qs) (p ∷ q ∷ qs))
+      go : Rising (insert_by_id p qs) → (b : Bool) → nat_lt q.0 p.0 ≡ b → Rising (cond b (q ∷ insert_by_id p qs) (p ∷ q ∷ qs))
       go later true t = (put_above q.0 p qs (ltb-true q.0 p.0 t) r.0, later)
       go later false t =
           let l = ltb-false q.0 p.0 t in
           let less : p.0 < q.0 = (let ne = n.0 in elim (cases_eq p.0 q.0) [ inl e ↦ absurd (ne e) | inr d ↦ omega (arith, l, d) ]) in
           ((less, above_less p.0 q.0 qs (omega (arith, less)) r.0), r)
 
-  put_look : (x : ℕ) (p : ℕ × V) (ps : List (ℕ × V)) → NotIn p.0 ps → look x (put_by_id p ps) ≡ look x (p ∷ ps)
+  put_look : (x : ℕ) (p : ℕ × V) (ps : List (ℕ × V)) → NotIn p.0 ps → look x (insert_by_id p ps) ≡ look x (p ∷ ps)
   put_look x p [] n = refl
-  put_look x p (q ∷ qs) n = elim (nat_lt q.0 p.0) as (λ b. look x (cond b (q ∷ put_by_id p qs) (p ∷ q ∷ qs)) ≡ look x (p ∷ q ∷ qs)) [
+  put_look x p (q ∷ qs) n = elim (nat_lt q.0 p.0) as (λ b. look x (cond b (q ∷ insert_by_id p qs) (p ∷ q ∷ qs)) ≡ look x (p ∷ q ∷ qs)) [
     | true ↦ elim (cases_eq x q.0) [
-      | inl e ↦ look_at q (put_by_id p qs) e ∙ sym (look_past x p (q ∷ qs) (λ z. n.0 (sym z ∙ e)) ∙ look_at q qs e)
-      | inr ne ↦ look_past x q (put_by_id p qs) ne ∙ put_look x p qs n.1 ∙ ap (λ o. cond (eqb x p.0) (Some p.1) o) (sym (look_past x q qs ne))
+      | inl e ↦ look_at q (insert_by_id p qs) e ∙ sym (look_past x p (q ∷ qs) (λ z. n.0 (sym z ∙ e)) ∙ look_at q qs e)
+      | inr ne ↦ look_past x q (insert_by_id p qs) ne ∙ put_look x p qs n.1 ∙ ap (λ o. cond (eqb x p.0) (Some p.1) o) (sym (look_past x q qs ne))
     ]
     | false ↦ refl
   ]

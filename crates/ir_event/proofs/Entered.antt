@@ -19,7 +19,7 @@ use Rattle.ir_store.proofs.of_trees.MappedEdits.{map_with_entry}
 use Rattle.ir_store.proofs.of_trees.SoundEdits.{entry_sound}
 use Rattle.ir_store.specs.tree_laws.Changes.{SetsEntry, entry_in}
 use Rattle.ir_store.specs.tree_laws.Reasons.{set_entry_reason}
-use Rattle.ir_store.specs.tree_laws.Stands.{StandOf, stands}
+use Rattle.ir_store.specs.tree_laws.Stands.{OpWithPathOf, stands}
 use Rattle.ir_store.proofs.of_tree_laws.Contents.{map_dictionaries, map_entry_in, map_set_entry_reason}
 use Rattle.ir_store.proofs.of_tree_laws.Entries.{entry_changes}
 use Rattle.ir_store.proofs.of_tree_laws.HeadForm.{entry_keeps}
@@ -65,7 +65,7 @@ attr_there : (c : ContextModel) (x : ℕ) (part : Part) (k : ℕ) (t o : Op) →
 attr_there c x part k t o sound f None e = tt
 attr_there c x part k t o sound f (Some a) e =
     let w = found_stands x t o f in
-    let p = all_each (λ (s : StandOf ℕ ℕ ℕ). op_passes (is_name c) (is_type c) (is_attr c) s.here) (stands [] t) (stands_every (op_passes (is_name c) (is_type c) (is_attr c)) [] t ∙ sound.known) w.0 w.1 in
+    let p = all_each (λ (s : OpWithPathOf ℕ ℕ ℕ). op_passes (is_name c) (is_type c) (is_attr c) s.here) (stands [] t) (stands_every (op_passes (is_name c) (is_type c) (is_attr c)) [] t ∙ sound.known) w.0 w.1 in
     ltb-true a (length c.attrs) (entry_passed (is_name c) (is_attr c) (key_before_in c) k a (part_of part (head o)) (part_passes c part o (ap (op_passes (is_name c) (is_type c) (is_attr c)) (sym w.3) ∙ p)) e)
 
 key_is : (c : ContextModel) (k : ℕ) → IsName c k → is_name c k ≡ true

@@ -75,10 +75,10 @@ pub record Shows (c : ContextModel) (rows : List Row) (terms : List RowTerm) : T
   pub known : All (RowIsOf c) rows
 
 -- pairs sorted by their first components
-abbrev pub put_by_id : {V : Type 0} → ℕ × V → List (ℕ × V) → List (ℕ × V)
-put_by_id p [] = p ∷ []
-put_by_id p (q ∷ qs) = if nat_lt q.0 p.0 then q ∷ put_by_id p qs else p ∷ q ∷ qs
+abbrev pub insert_by_id : {V : Type 0} → ℕ × V → List (ℕ × V) → List (ℕ × V)
+insert_by_id p [] = p ∷ []
+insert_by_id p (q ∷ qs) = if nat_lt q.0 p.0 then q ∷ insert_by_id p qs else p ∷ q ∷ qs
 
 abbrev pub by_id : {V : Type 0} → List (ℕ × V) → List (ℕ × V)
 by_id [] = []
-by_id (p ∷ ps) = put_by_id p (by_id ps)
+by_id (p ∷ ps) = insert_by_id p (by_id ps)

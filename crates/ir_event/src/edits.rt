@@ -10,7 +10,7 @@ ghost use Rattle.ir_store.specs.trees.Meaning.{IsSoundIn, isolated_in, key_befor
 ghost use Rattle.ir_store.specs.trees.WellFormed.{IsWellFormed};
 ghost use Rattle.ir_store.specs.tree_laws.Changes.{entry_in};
 ghost use Rattle.ir_store.specs.tree_laws.Reasons.{holds_none, put_reason, set_entry_reason, set_operand_reason, shift_reason, take_reason};
-ghost use Rattle.ir_store.specs.Calls.{WantsNoSlot, after_entry, after_operand, after_put, after_shift, after_take};
+ghost use Rattle.ir_store.specs.Calls.{NeedsNoSlot, after_entry, after_operand, after_put, after_shift, after_take};
 ghost use Rattle.ir_event.specs.declared.event.Event.TheVariants.{Put};
 ghost use Rattle.ir_event.specs.Modules.{context_model, module_in, node_of_op};
 ghost use Rattle.ir_event.specs.Listener.{ShowsTaken};
@@ -109,7 +109,7 @@ impl World {
         ensures ctx { self.new.ctx ≡ self.old.ctx }
         ensures refused { MatchResult result (λ _. set_entry_reason (key_before_in self.old.ctx) op part key value self.old.store.module_of.tree ≡ None)
             (λ e. IsRefusedFor {A = Unit {0}} (set_entry_reason (key_before_in self.old.ctx) op part key value self.old.store.module_of.tree) (Err e)) }
-        ensures slot { WantsNoSlot op part key value self.old.store → IfErr result (λ e. set_entry_reason (key_before_in self.old.ctx) op part key value self.old.store.module_of.tree ≡ Some e) }
+        ensures slot { NeedsNoSlot op part key value self.old.store → IfErr result (λ e. set_entry_reason (key_before_in self.old.ctx) op part key value self.old.store.module_of.tree ≡ Some e) }
         ensures err { OnErr result (self.new.store ≡ self.old.store) }
     {
         enter_in(&self.ctx, &mut self.store, op, &part, key, &value)
@@ -174,7 +174,7 @@ fn enter_in(
     ensures store { OnOk result (store.new ≡ after_entry (key_before_in ctx.now) op part.now key value.now store.old) }
     ensures refused { MatchResult result (λ _. set_entry_reason (key_before_in ctx.now) op part.now key value.now store.old.module_of.tree ≡ None)
         (λ e. IsRefusedFor {A = Unit {0}} (set_entry_reason (key_before_in ctx.now) op part.now key value.now store.old.module_of.tree) (Err e)) }
-    ensures slot { WantsNoSlot op part.now key value.now store.old → IfErr result (λ e. set_entry_reason (key_before_in ctx.now) op part.now key value.now store.old.module_of.tree ≡ Some e) }
+    ensures slot { NeedsNoSlot op part.now key value.now store.old → IfErr result (λ e. set_entry_reason (key_before_in ctx.now) op part.now key value.now store.old.module_of.tree ≡ Some e) }
     ensures sound { IsSoundIn ctx.now store.new.module_of.tree }
     ensures wellformed { IsWellFormed (isolated_in ctx.now) store.old.module_of → IsWellFormed (isolated_in ctx.now) store.new.module_of }
     ensures err { OnErr result (store.new ≡ store.old) }

@@ -166,9 +166,9 @@ module _ (q : Parts) (even : IsEven q) (few : length q.sibs.homes < free) (keys 
           let l = ix.linked y j v (used_was y n u) (sym (operand_was y n j) ∙ e) (sym (ap (λ z. z.live) (same y n)) ∙ o) in
           subst (λ z. LinkedTo rows' keys' q.homes z v) (sym (node_was y n j)) (record { item = l.item; home = old_head v (owner_not v (home_at q.homes (use_at q.rows y j)) l.home) ∙ l.home }))
           (cases_eq y k);
-      loose = λ y j v u e o. ⊎_elim
-          (λ z. (own_use y j v z e).loose)
-          (λ n. ap (home_at q.homes) (node_was y n j) ∙ ix.loose y j v (used_was y n u) (sym (operand_was y n j) ∙ e) (sym (ap (λ z. z.live) (same y n)) ∙ o))
+      unlinked_home = λ y j v u e o. ⊎_elim
+          (λ z. (own_use y j v z e).unlinked_home)
+          (λ n. ap (home_at q.homes) (node_was y n j) ∙ ix.unlinked_home y j v (used_was y n u) (sym (operand_was y n j) ∙ e) (sym (ap (λ z. z.live) (same y n)) ∙ o))
           (cases_eq y k);
       users = λ u it.
           let st = ix.users u it in

@@ -16,7 +16,7 @@ use Rattle.ir_store_reads.specs.trees.Places.{without}
 use Rattle.ir_store_reads.specs.tree_laws.Members.{In}
 use Rattle.ir_store_reads.specs.tree_laws.Reads.{is_within}
 use Rattle.ir_store_reads.specs.tree_laws.Reasons.{leaves_within, unused_outside}
-use Rattle.ir_store_reads.specs.tree_laws.Stands.{StandOf, stand_id, stands, is_gone}
+use Rattle.ir_store_reads.specs.tree_laws.Stands.{OpWithPathOf, op_with_path_id, stands, is_gone}
 use Rattle.ir_store_reads.proofs.of_tree_laws.Listed.{any_one, bool_cases, both, each_all}
 use Rattle.ir_store_reads.proofs.of_tree_laws.Members.{stand_found}
 use Rattle.ir_store_reads.proofs.of_tree_laws.Around.{stand_present}
@@ -221,21 +221,21 @@ module _ (a : Inside) (w : Whole a) (laws : Laws a.uses.lists a.uses.homes) (x k
   spelt_head q (op h rs) s = s.1.0
 
   -- the slot of an operation of the tree
-  head_of : (s : StandOf ℕ ℕ ℕ) → In s (stands [] a.represented.0) → (q : ℕ) → Live (rows_in a) q → (row_at (rows_in a) q).head.id ≡ stand_id s → (row_at (rows_in a) q).head ≡ head s.here
+  head_of : (s : OpWithPathOf ℕ ℕ ℕ) → In s (stands [] a.represented.0) → (q : ℕ) → Live (rows_in a) q → (row_at (rows_in a) q).head.id ≡ op_with_path_id s → (row_at (rows_in a) q).head ≡ head s.here
   head_of s h q l e =
-      let f = found_op (rows_in a) (keys_in a) a.sibs a.root t w.right a.represented.1 (stand_id s) q (found (rows_in a) (keys_in a) a.sibs a.root t w.right a.represented.1 (stand_id s) q (slot_of_live (rows_in a) (keys_in a) a.sibs a.root t w.right a.represented.1 (stand_id s) q l e)) in
+      let f = found_op (rows_in a) (keys_in a) a.sibs a.root t w.right a.represented.1 (op_with_path_id s) q (found (rows_in a) (keys_in a) a.sibs a.root t w.right a.represented.1 (op_with_path_id s) q (slot_of_live (rows_in a) (keys_in a) a.sibs a.root t w.right a.represented.1 (op_with_path_id s) q l e)) in
       let one : f.0 ≡ s.here = same_Some f.0 s.here (sym f.1.0 ∙ stand_found t w.distinct s h) in
       spelt_head q f.0 f.1.1 ∙ ap (λ (z : Op). head z) one
 
-  slot_of : (s : StandOf ℕ ℕ ℕ) → In s (stands [] a.represented.0) → (q : ℕ) × Live (rows_in a) q × ((row_at (rows_in a) q).head.id ≡ stand_id s)
-  slot_of s h = go (live_slot (rows_in a) (keys_in a) (stand_id s)) refl
+  slot_of : (s : OpWithPathOf ℕ ℕ ℕ) → In s (stands [] a.represented.0) → (q : ℕ) × Live (rows_in a) q × ((row_at (rows_in a) q).head.id ≡ op_with_path_id s)
+  slot_of s h = go (live_slot (rows_in a) (keys_in a) (op_with_path_id s)) refl
     where
-      go : (o : Option ℕ) → live_slot (rows_in a) (keys_in a) (stand_id s) ≡ o → (q : ℕ) × Live (rows_in a) q × ((row_at (rows_in a) q).head.id ≡ stand_id s)
-      go None e = absurd (true≢false (sym (sym (ap is_some e) ∙ in_tree_is (rows_in a) (keys_in a) a.sibs a.root t w.right a.represented.1 (stand_id s) ∙ stand_present [] t s h)))
-      go (Some q) e = let f = found (rows_in a) (keys_in a) a.sibs a.root t w.right a.represented.1 (stand_id s) q e in (q, f.live, f.id)
+      go : (o : Option ℕ) → live_slot (rows_in a) (keys_in a) (op_with_path_id s) ≡ o → (q : ℕ) × Live (rows_in a) q × ((row_at (rows_in a) q).head.id ≡ op_with_path_id s)
+      go None e = absurd (true≢false (sym (sym (ap is_some e) ∙ in_tree_is (rows_in a) (keys_in a) a.sibs a.root t w.right a.represented.1 (op_with_path_id s) ∙ stand_present [] t s h)))
+      go (Some q) e = let f = found (rows_in a) (keys_in a) a.sibs a.root t w.right a.represented.1 (op_with_path_id s) q e in (q, f.live, f.id)
 
   -- if the walk passes, no remaining operation uses a value defined inside the operation
-  spared : list_all tested (ids own.0) ≡ true → (s : StandOf ℕ ℕ ℕ) → In s (stands [] a.represented.0) → is_gone x s ≡ false → (j : ℕ) (v : Value) → slice_get (head s.here).operands j ≡ Some v → is_within (owner_of v).0 (Some own.0) ≡ true → ⊥
+  spared : list_all tested (ids own.0) ≡ true → (s : OpWithPathOf ℕ ℕ ℕ) → In s (stands [] a.represented.0) → is_gone x s ≡ false → (j : ℕ) (v : Value) → slice_get (head s.here).operands j ≡ Some v → is_within (owner_of v).0 (Some own.0) ≡ true → ⊥
   spared e s h g j v m i =
       let q = slot_of s h in
       let heads = head_of s h q.0 q.1 q.2 in
@@ -244,7 +244,7 @@ module _ (a : Inside) (w : Whole a) (laws : Laws a.uses.lists a.uses.homes) (x k
       let link = w.index.linked q.0 j v used at q.1.live in
       let u = use_at (rows_in a) q.0 j in
       let cell : cell_at cells u ≡ (q.0, j) = (w.index.cell q.0 j v used at).cell in
-      let user : (use_in (rows_in a) cells u).0 ≡ stand_id s = ap (λ (z : ℕ × ℕ). (row_at (rows_in a) z.0).head.id) cell ∙ q.2 in
+      let user : (use_in (rows_in a) cells u).0 ≡ op_with_path_id s = ap (λ (z : ℕ × ℕ). (row_at (rows_in a) z.0).head.id) cell ∙ q.2 in
       let passes = all_any tested (owner_of v).0 (ids own.0) e i in
       let all = go v (home_at a.uses.homes u) (keys_in a (owner_of v).0) passes link.home in
       let one : leaves_use (rows_in a) cells x t u ≡ false = not-true (leaves_use (rows_in a) cells x t u) (all_has p u (list_at a.uses.lists (home_at a.uses.homes u)) all (laws.covers u link.item)) in
@@ -257,7 +257,7 @@ module _ (a : Inside) (w : Whole a) (laws : Laws a.uses.lists a.uses.homes) (x k
   unused_where : list_all tested (ids own.0) ≡ true → unused_outside x a.represented.0 ≡ true
   unused_where e = none_outside t w.distinct x (λ s h g. ap (λ f. leaves_within f (head s.here)) own.1.0 ∙ all_at (λ v. not (is_within (owner_of v).0 (Some own.0))) (head s.here).operands (λ j v m. one s h g j v m (is_within (owner_of v).0 (Some own.0)) refl))
     where
-      one : (s : StandOf ℕ ℕ ℕ) → In s (stands [] a.represented.0) → is_gone x s ≡ false → (j : ℕ) (v : Value) → slice_get (head s.here).operands j ≡ Some v → (b : Bool) → is_within (owner_of v).0 (Some own.0) ≡ b → not (is_within (owner_of v).0 (Some own.0)) ≡ true
+      one : (s : OpWithPathOf ℕ ℕ ℕ) → In s (stands [] a.represented.0) → is_gone x s ≡ false → (j : ℕ) (v : Value) → slice_get (head s.here).operands j ≡ Some v → (b : Bool) → is_within (owner_of v).0 (Some own.0) ≡ b → not (is_within (owner_of v).0 (Some own.0)) ≡ true
       one s h g j v m true i = absurd (spared e s h g j v m i)
       one s h g j v m false i = ap not i
 

@@ -7,7 +7,7 @@ use Rattle.ir_store_reads.specs.trees.Places.{without}
 use Rattle.ir_store_reads.specs.tree_laws.Members.{In}
 use Rattle.ir_store_reads.specs.tree_laws.Reads.{is_within}
 use Rattle.ir_store_reads.specs.tree_laws.Reasons.{leaves_within, unused_outside}
-use Rattle.ir_store_reads.specs.tree_laws.Stands.{StepOf, StandOf, stand_id, stands, dropping, is_gone, left_stand}
+use Rattle.ir_store_reads.specs.tree_laws.Stands.{StepOf, OpWithPathOf, op_with_path_id, stands, dropping, is_gone, left_stand}
 use Rattle.ir_store_reads.proofs.of_tree_laws.Listed.{all_each, each_all, bool_cases}
 use Rattle.ir_store_reads.proofs.of_tree_laws.Readings.{stands_every}
 use Rattle.ir_store_reads.proofs.of_tree_laws.Members.{stand, itself, same_stand, stand_found}
@@ -45,36 +45,36 @@ module _ {N T A : Type 0} (t : OpOf N T A) (d : HasDistinctIds t) (x : ℕ) wher
     | inr e ↦ (let l = depth_below o in let c = taken_op_count x t o d f e in omega (arith, l, c))
   ]
 
-  same_id : (s : StandOf N T A) → stand_id (left_stand x s) ≡ stand_id s
+  same_id : (s : OpWithPathOf N T A) → op_with_path_id (left_stand x s) ≡ op_with_path_id s
   same_id s = ap (λ h. h.id) (same_head x (dropping x) s.here)
 
   -- an operation that isn't removed remains
-  pub kept_stays : (s : StandOf N T A) → In s (stands [] t) → is_gone x s ≡ false → has_id (stand_id s) (without x t) ≡ true
+  pub kept_stays : (s : OpWithPathOf N T A) → In s (stands [] t) → is_gone x s ≡ false → has_id (op_with_path_id s) (without x t) ≡ true
   kept_stays s h g = subst (λ y. has_id y (without x t) ≡ true) (same_id s) (stand_present [] (without x t) (left_stand x s) (left_member x t s h g))
 
   -- an operation that remains was in the tree, and isn't removed
   abbrev pub Stays : ℕ → Type 0
-  Stays y = (s : StandOf N T A) × In s (stands [] t) × (is_gone x s ≡ false) × (stand_id s ≡ y)
+  Stays y = (s : OpWithPathOf N T A) × In s (stands [] t) × (is_gone x s ≡ false) × (op_with_path_id s ≡ y)
 
   pub stays_kept : (y : ℕ) → has_id y (without x t) ≡ true → Stays y
   stays_kept y e =
       let u = present_stand [] (without x t) y e in
       let m = member_left x t u.0 u.1 in
-      (m.0, m.1, m.2, sym (same_id m.0) ∙ ap (λ (z : StandOf N T A). stand_id z) (sym m.3) ∙ u.2)
+      (m.0, m.1, m.2, sym (same_id m.0) ∙ ap (λ (z : OpWithPathOf N T A). op_with_path_id z) (sym m.3) ∙ u.2)
 
   was_there : (y : ℕ) → has_id y (without x t) ≡ true → has_id y t ≡ true
   was_there y e = let w = stays_kept y e in subst (λ z. has_id z t ≡ true) w.3 (stand_present [] t w.0 w.1)
 
-  no_path : (s : StandOf N T A) → In s (stands [] t) → (a : StepOf N T A) (q : List (StepOf N T A)) → s.path ≡ a ∷ q → eqb (head t).id x ≡ true → stand_id s ≡ x → ⊥
+  no_path : (s : OpWithPathOf N T A) → In s (stands [] t) → (a : StepOf N T A) (q : List (StepOf N T A)) → s.path ≡ a ∷ q → eqb (head t).id x ≡ true → op_with_path_id s ≡ x → ⊥
   no_path s h a q p e i =
       let one : stand t [] ≡ s = same_stand t d (stand t []) s (itself [] t) h (eqb_is (head t).id x e ∙ sym i) in
-      let bad : ◌≡◌ {A = List (StepOf N T A)} [] (a ∷ q) = ap (λ (z : StandOf N T A). z.path) one ∙ p in
+      let bad : ◌≡◌ {A = List (StepOf N T A)} [] (a ∷ q) = ap (λ (z : OpWithPathOf N T A). z.path) one ∙ p in
       absurd cc
     where
       eqb_is : (a b : ℕ) → eqb a b ≡ true → a ≡ b
       eqb_is a b e = eqb-true a b e
 
-  stays_where : (y : ℕ) → ((s : StandOf N T A) → In s (stands [] t) → stand_id s ≡ y → is_gone x s ≡ false) → has_id y (without x t) ≡ has_id y t
+  stays_where : (y : ℕ) → ((s : OpWithPathOf N T A) → In s (stands [] t) → op_with_path_id s ≡ y → is_gone x s ≡ false) → has_id y (without x t) ≡ has_id y t
   stays_where y f = same_bool (has_id y (without x t)) (has_id y t) (was_there y)
       (λ e. let w = present_stand [] t y e in subst (λ z. has_id z (without x t) ≡ true) w.2 (kept_stays w.0 w.1 (f w.0 w.1 w.2)))
 
@@ -91,7 +91,7 @@ module _ {N T A : Type 0} (t : OpOf N T A) (d : HasDistinctIds t) (x : ℕ) wher
     | inr g ↦ g
     | inl g ↦ (let w = gone_within x t s.path s.here h g in
         let f : find x t ≡ Some w.here = ap (λ z. find z t) (sym w.id) ∙ stand_found t d (stand w.here (w.step_in ∷ w.path)) w.there in
-        let present : is_within (stand_id s) (Some w.here) ≡ true = stand_present (w.step_in ∷ w.path) w.here s w.inner in
+        let present : is_within (op_with_path_id s) (Some w.here) ≡ true = stand_present (w.step_in ∷ w.path) w.here s w.inner in
         absurd (true≢false (sym present ∙ ap (λ z. is_within z (Some w.here)) i ∙ sym (ap (is_within y) f) ∙ n)))
   ])
 
@@ -109,17 +109,17 @@ module _ {N T A : Type 0} (t : OpOf N T A) (d : HasDistinctIds t) (x : ℕ) wher
           ]
 
   -- whether a remaining operation uses the values
-  pub none_outside : ((s : StandOf N T A) → In s (stands [] t) → is_gone x s ≡ false → leaves_within (find x t) (head s.here) ≡ true) → unused_outside x t ≡ true
+  pub none_outside : ((s : OpWithPathOf N T A) → In s (stands [] t) → is_gone x s ≡ false → leaves_within (find x t) (head s.here) ≡ true) → unused_outside x t ≡ true
   none_outside f =
       sym (stands_every (λ o. leaves_within (find x t) (head o)) [] (without x t))
-      ∙ each_all (λ (s : StandOf N T A). leaves_within (find x t) (head s.here)) (stands [] (without x t)) (λ u h.
+      ∙ each_all (λ (s : OpWithPathOf N T A). leaves_within (find x t) (head s.here)) (stands [] (without x t)) (λ u h.
       let m = member_left x t u h in
-      ap (λ (z : StandOf N T A). leaves_within (find x t) (head z.here)) m.3 ∙ ap (leaves_within (find x t)) (same_head x (dropping x) m.0.here) ∙ f m.0 m.1 m.2)
+      ap (λ (z : OpWithPathOf N T A). leaves_within (find x t) (head z.here)) m.3 ∙ ap (leaves_within (find x t)) (same_head x (dropping x) m.0.here) ∙ f m.0 m.1 m.2)
 
-  pub each_outside : unused_outside x t ≡ true → (s : StandOf N T A) → In s (stands [] t) → is_gone x s ≡ false → leaves_within (find x t) (head s.here) ≡ true
+  pub each_outside : unused_outside x t ≡ true → (s : OpWithPathOf N T A) → In s (stands [] t) → is_gone x s ≡ false → leaves_within (find x t) (head s.here) ≡ true
   each_outside e s h g =
       ap (leaves_within (find x t)) (sym (same_head x (dropping x) s.here))
-      ∙ all_each (λ (s : StandOf N T A). leaves_within (find x t) (head s.here)) (stands [] (without x t)) (stands_every (λ o. leaves_within (find x t) (head o)) [] (without x t) ∙ e) (left_stand x s) (left_member x t s h g)
+      ∙ all_each (λ (s : OpWithPathOf N T A). leaves_within (find x t) (head s.here)) (stands [] (without x t)) (stands_every (λ o. leaves_within (find x t) (head o)) [] (without x t) ∙ e) (left_stand x s) (left_member x t s h g)
 
   -- the values of a missing operation aren't used
   pub absent_unused : find x t ≡ None → unused_outside x t ≡ true

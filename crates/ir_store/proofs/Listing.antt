@@ -11,7 +11,7 @@ use Rattle.ir_store_reads.specs.trees.Ids.{HasDistinctIds, first_of}
 use Rattle.ir_store_reads.specs.trees.Places.{place_of, first_id}
 use Rattle.ir_store_reads.specs.tree_laws.Members.{In}
 use Rattle.ir_store_reads.specs.tree_laws.Values.{region_at}
-use Rattle.ir_store_reads.specs.tree_laws.Stands.{StepOf, StandOf, stand_id, stands, place_in}
+use Rattle.ir_store_reads.specs.tree_laws.Stands.{StepOf, OpWithPathOf, op_with_path_id, stands, place_in}
 use Rattle.ir_store_reads.specs.tree_laws.Reads.{ops_in, ops_at, last_id, is_among, goes_before, id_before, list_of, in_list, is_before}
 use Rattle.ir_store_reads.proofs.of_tree_laws.Members.{stand}
 use Rattle.ir_store_reads.proofs.of_tree_laws.Around.{member_of_place}
@@ -20,7 +20,7 @@ use Rattle.ir_store_reads.specs.Rows.{Row, Shape, row_at, live_slot, head_in}
 use Rattle.ir_store_reads.specs.Spells.{SpellsOp, SpellsRegions, SpellsOps}
 use Rattle.ir_store_reads.specs.Points.{id_in, slot_place}
 use Rattle.ir_store_reads.specs.Right.{Live, Right}
-use Rattle.ir_store_reads.specs.Heading.{block_in, CanStand}
+use Rattle.ir_store_reads.specs.Heading.{block_in, CanBeItem}
 use Rattle.ir_store_reads.proofs.SlotLaws.{Found, found, found_op, none_found, only, slot_of_live}
 use Rattle.ir_store.proofs.Cut.{head_id, live_of}
 use Rattle.ir_store.proofs.Standing.{some_place, root_placeless, place_missing}
@@ -154,7 +154,7 @@ module _ (rows : List Row) (keys : ℕ → Option ℕ) (sibs : Lists) (root : �
   alone_there : (x k : ℕ) → Found rows x k → (q : ℕ) → Live rows q → (row_at rows q).head.id ≡ x → q ≡ k
   alone_there x k f q l e = only rows keys sibs root t r s x k f.live f.id q l e
 
-  pub stands_alone : (k : ℕ) → Live rows k → CanStand sibs.homes k
+  pub stands_alone : (k : ℕ) → Live rows k → CanBeItem sibs.homes k
   stands_alone k l = ⊎_elim
       (λ e. record { inside = subst (λ z. z < length sibs.homes) (sym e) r.top.inside; other = λ z. (let i = r.top.inside in let u = r.top.unlinked in let few = r.few in let h : free ≡ root = sym u ∙ ap (home_at sibs.homes) (sym e) ∙ z ∙ e in absurd (omega (arith, i, h, few))) })
       (λ n. let p = (r.items k l n).item in record { inside = p.inside; other = p.other })
@@ -200,7 +200,7 @@ module _ (rows : List Row) (keys : ℕ → Option ℕ) (sibs : Lists) (root : �
                 go None e w = absurd cc
                 go (Some q) e w = let fd = found rows keys sibs root t r s place.parent q e in in_shapes q fd.live (slice_get (row_at rows q).shapes place.region) refl w
 
-        at_path : (u : StandOf ℕ ℕ ℕ) → In u (stands [] t) → stand_id u ≡ x → (path : List (StepOf ℕ ℕ ℕ)) → u.path ≡ path → place_in u.path ≡ Some place → NextTo x k
+        at_path : (u : OpWithPathOf ℕ ℕ ℕ) → In u (stands [] t) → op_with_path_id u ≡ x → (path : List (StepOf ℕ ℕ ℕ)) → u.path ≡ path → place_in u.path ≡ Some place → NextTo x k
         at_path u h id [] e w = (let bad : None ≡ Some place = sym (ap place_in e) ∙ w in absurd cc)
         at_path u h id (a ∷ q) e w =
             let there : In (stand u.here (a ∷ q)) (stands [] t) = subst (λ l. In (stand u.here l) (stands [] t)) e h in

@@ -11,7 +11,7 @@ use Rattle.ir_store.specs.Calls.{after_shift}
 use Rattle.ir_store_reads.specs.Rows.{live_slot, held_in, gone_in}
 use Rattle.ir_store_reads.specs.Spells.{SpellsOp, Represented, rendered_is}
 use Rattle.ir_store.specs.Holds.{HoldsOf, GoneOf, map_is}
-use Rattle.ir_store_reads.specs.Points.{point_in, joined, StandsIn}
+use Rattle.ir_store_reads.specs.Points.{point_in, joined, IsNodeIn}
 use Rattle.ir_store.specs.Shifting.{CanRelink}
 use Rattle.ir_store_reads.specs.Index.{Fits, cells_of}
 use Rattle.ir_store_reads.proofs.SlotLaws.{Found, found, in_tree_is}
@@ -49,8 +49,8 @@ module _ (a : Inside) (w : Whole a) (laws : Laws a.sibs.lists a.sibs.homes) (x :
       pub move_head : IsHead mid.homes h
       move_head = subst (IsHead mid.homes) at_point.1.0 (shift_head (rows_in a) (keys_in a) a.sibs a.root a.represented.0 w.right a.represented.1 w.distinct x k here place c at at_point.1.1 can mid el1 eh1 laws1)
 
-      pub move_before : IfSome at (λ q. StandsIn mid.homes h q)
-      move_before = subst (λ z. IfSome at (λ q. StandsIn mid.homes z q)) at_point.1.0 (shift_before (rows_in a) (keys_in a) a.sibs a.root a.represented.0 w.right a.represented.1 w.distinct x k here place c at at_point.1.1 can mid el1 eh1 laws1)
+      pub move_before : IfSome at (λ q. IsNodeIn mid.homes h q)
+      move_before = subst (λ z. IfSome at (λ q. IsNodeIn mid.homes z q)) at_point.1.0 (shift_before (rows_in a) (keys_in a) a.sibs a.root a.represented.0 w.right a.represented.1 w.distinct x k here place c at at_point.1.1 can mid el1 eh1 laws1)
 
       module _ (sibs' : Lists) (el : sibs'.lists ≡ joined k h at mid.lists) (eh : sibs'.homes ≡ set mid.homes k h) where
         el' : sibs'.lists ≡ joined k c.1 at mid.lists

@@ -21,7 +21,7 @@ use Rattle.ir_store_reads.proofs.of_tree_laws.Wellformed.{from_wellformed}
 use Rattle.ir_store_reads.proofs.of_tree_laws.Members.{found_stands}
 use Rattle.ir_store_reads.proofs.of_tree_laws.Reasoned.{no_unless}
 use Rattle.ir_store.specs.Shifting.{CanRelink, relink_reason, unseen_reason}
-use Rattle.ir_store.specs.Looks.{CanLook, is_seen, results_in}
+use Rattle.ir_store.specs.Looks.{CanLook, is_dominated, results_in}
 use Rattle.ir_store.proofs.Relinked.{can_relink, parent_there}
 use Rattle.ir_store.proofs.Rising.{around_some, the_op}
 use Rattle.ir_store.proofs.Back.{after_found}
@@ -98,11 +98,11 @@ module _ (isolated is_table : ℕ → Bool) (x : ℕ) (place : Place) (m : Modul
     results = subst (λ z. results_in z ≤ most_items) (sym after) (few_results own.0 own_fits);
   }
 
-  dominance : is_seen isolated x (shifted x place t) ≡ operands_visible isolated (shifted x place t)
+  dominance : is_dominated isolated x (shifted x place t) ≡ operands_visible isolated (shifted x place t)
   dominance = seen_is x place t own.0 w.distinct own.1 may_relink.inner may_relink.point out isolated (w.wellformed.visible)
 
-  pub seen_reason : is_seen isolated x (shifted x place m.tree) ≡ true → shift_reason isolated is_table x place m.tree ≡ None
+  pub seen_reason : is_dominated isolated x (shifted x place m.tree) ≡ true → shift_reason isolated is_table x place m.tree ≡ None
   seen_reason k = by_dominance isolated is_table x place t e ∙ ap (λ b. unless b NotVisible None) (sym dominance ∙ k)
 
-  pub unseen_refused : is_seen isolated x (shifted x place m.tree) ≡ false → shift_reason isolated is_table x place m.tree ≡ Some NotVisible
+  pub unseen_refused : is_dominated isolated x (shifted x place m.tree) ≡ false → shift_reason isolated is_table x place m.tree ≡ Some NotVisible
   unseen_refused k = by_dominance isolated is_table x place t e ∙ ap (λ b. unless b NotVisible None) (sym dominance ∙ k)

@@ -13,7 +13,7 @@ use Rattle.ir_store_reads.proofs.of_trees.Returns.{Present, halves}
 use Rattle.ir_store_reads.specs.tree_laws.Members.{In}
 use Rattle.ir_store_reads.specs.tree_laws.Values.{region_at}
 use Rattle.ir_store_reads.specs.tree_laws.Reads.{parent_of, ops_in, ops_at, is_among, goes_before, list_of, in_list, is_before, comes_after, precedes}
-use Rattle.ir_store_reads.specs.tree_laws.Stands.{StepOf, StandOf, stand_id, stands, stand_in}
+use Rattle.ir_store_reads.specs.tree_laws.Stands.{StepOf, OpWithPathOf, op_with_path_id, stands, find_op_with_path}
 use Rattle.ir_store_reads.proofs.of_tree_laws.Listed.{bool_cases, or_left, or_right}
 use Rattle.ir_store_reads.proofs.of_tree_laws.Members.{stand, itself, within, has_around, member, stand_found}
 use Rattle.ir_store_reads.proofs.of_tree_laws.Around.{around_there, stand_present, present_stand, place_of_member, stands_around}
@@ -40,14 +40,14 @@ module _ {N T A : Type 0} where
     | inr w ↦ (let same : a ∷ q ≡ w.0 ∷ w.1 = w.2 in
         let first : w.0 ≡ a = cc in
         let later : w.1 ≡ q = cc in
-        inr (up (deep b o q a.parent (subst (λ (z : StandOf N T A). In z (stands b o)) (λ i. stand ((first i).parent) (later i)) w.4))))
+        inr (up (deep b o q a.parent (subst (λ (z : OpWithPathOf N T A). In z (stands b o)) (λ i. stand ((first i).parent) (later i)) w.4))))
   ]
     where
       up : Deeper b o q a.parent → (length b < length (a ∷ q)) × (length (a ∷ q) ≡ suc (length b) → (c : StepOf N T A) × (a ∷ q ≡ c ∷ b) × (c.parent ≡ o))
       up (inl e) =
-          let path : q ≡ b = ap (λ (z : StandOf N T A). z.path) e in
+          let path : q ≡ b = ap (λ (z : OpWithPathOf N T A). z.path) e in
           let l = ap length path in
-          (omega (arith, l), λ _. (a, ap (λ z. a ∷ z) path, ap (λ (z : StandOf N T A). z.here) e))
+          (omega (arith, l), λ _. (a, ap (λ z. a ∷ z) path, ap (λ (z : OpWithPathOf N T A). z.here) e))
       up (inr r) = let n = r.0 in (omega (arith, n), λ e. absurd (omega (arith, n, e)))
 
   among_there : (x : ℕ) (preceding : List (OpOf N T A)) (o : OpOf N T A) (rest : List (OpOf N T A)) → (head o).id ≡ x → is_among x (ops_of (preceding ++ o ∷ rest)) ≡ true
@@ -57,16 +57,16 @@ module _ {N T A : Type 0} where
 -- if ids are distinct
 module _ {N T A : Type 0} (t : OpOf N T A) (d : HasDistinctIds t) where
   pub placeless_level : (x : ℕ) → place_of x t ≡ None → level_of x t ≡ 0
-  placeless_level x n = ap level (sym (stands_around x [] t)) ∙ go (stand_in x (stands [] t)) refl
+  placeless_level x n = ap level (sym (stands_around x [] t)) ∙ go (find_op_with_path x (stands [] t)) refl
     where
-      at : (s : StandOf N T A) → In s (stands [] t) → stand_id s ≡ x → (path : List (StepOf N T A)) → s.path ≡ path → length s.path ≡ 0
+      at : (s : OpWithPathOf N T A) → In s (stands [] t) → op_with_path_id s ≡ x → (path : List (StepOf N T A)) → s.path ≡ path → length s.path ≡ 0
       at s h id [] e = ap length e
       at s h id (a ∷ q) e =
           let m : In (stand s.here (a ∷ q)) (stands [] t) = subst (λ l. In (stand s.here l) (stands [] t)) e h in
           let bad : ◌≡◌ {A = Option Place} None (Some (record { parent = (head a.parent).id; region = a.region; before = first_id a.rest })) = sym n ∙ ap (λ y. place_of y t) (sym id) ∙ place_of_member t d s.here a q m in
           absurd cc
 
-      go : (f : Option (StandOf N T A)) → stand_in x (stands [] t) ≡ f → level (option_map (λ (z : StandOf N T A). length z.path) f) ≡ 0
+      go : (f : Option (OpWithPathOf N T A)) → find_op_with_path x (stands [] t) ≡ f → level (option_map (λ (z : OpWithPathOf N T A). length z.path) f) ≡ 0
       go None e = refl
       go (Some s) e = let m = member x (stands [] t) s e in at s m.0 m.1 s.path refl
 
@@ -79,7 +79,7 @@ module _ {N T A : Type 0} (t : OpOf N T A) (d : HasDistinctIds t) where
       let ly : level_of y t ≡ length s.0.path = ap (λ z. level_of z t) (sym s.2) ∙ ap level (level_there t d s.0 m) in
       let lp : level_of (head p).id t ≡ length q = ap level (level_there t d (stand p q) h) in
       elim (deep q p s.0.path s.0.here s.1) [
-        | inl k ↦ inl (sym s.2 ∙ ap (λ (z : StandOf N T A). stand_id z) k)
+        | inl k ↦ inl (sym s.2 ∙ ap (λ (z : OpWithPathOf N T A). op_with_path_id z) k)
         | inr r ↦ (let n = r.0 in inr (
           omega (arith, n, ly, lp),
           λ k.

@@ -328,8 +328,8 @@ module _ (from : ℕ) (rows : List Row) (keys : ℕ → Option ℕ) (sibs : List
           let w = some_live rows keys (owner_of v).0 (owned q j v l f) in
           subst (λ z. LinkedTo rows' keys' homes (z + j) v) (sym (uses_same q))
           (record { item = old.item; home = head_still v w.0 w.1.0 w.1.1 ∙ old.home });
-      loose = λ q j v u e o.
-          ap (λ z. home_at homes (z + j)) (uses_same q) ∙ ix.loose q j v (left_in q u).1 (sym (operand_same q j (left_in q u).0) ∙ e) (sym (kept (λ z. z.live) (λ b. refl) (λ b. refl) q) ∙ o);
+      unlinked_home = λ q j v u e o.
+          ap (λ z. home_at homes (z + j)) (uses_same q) ∙ ix.unlinked_home q j v (left_in q u).1 (sym (operand_same q j (left_in q u).0) ∙ e) (sym (kept (λ z. z.live) (λ b. refl) (λ b. refl) q) ∙ o);
       users = λ u i.
           let s = ix.users u i in
           let n = live_not_given from (row_at rows s.row) s.put in

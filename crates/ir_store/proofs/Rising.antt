@@ -11,7 +11,7 @@ use Rattle.ir_store_reads.specs.trees.Ids.{HasDistinctIds, find, has_id, ids}
 use Rattle.ir_store_reads.specs.trees.Places.{place_of}
 use Rattle.ir_store_reads.specs.tree_laws.Members.{In}
 use Rattle.ir_store_reads.specs.tree_laws.Reads.{is_within, around}
-use Rattle.ir_store_reads.specs.tree_laws.Stands.{StepOf, StandOf, stand_id, stand_in, stand_of, stands, place_in}
+use Rattle.ir_store_reads.specs.tree_laws.Stands.{StepOf, OpWithPathOf, op_with_path_id, find_op_with_path, op_with_path, stands, place_in}
 use Rattle.ir_store_reads.proofs.of_tree_laws.Listed.{bool_cases}
 use Rattle.ir_store_reads.proofs.of_tree_laws.Members.{stand, itself, within, has_around, same_stand, found_stands, stand_found, member, stand_of_member}
 use Rattle.ir_store_reads.proofs.of_tree_laws.Around.{stands_around, stand_present, present_stand, around_there, place_of_member}
@@ -48,7 +48,7 @@ module _ {N T A : Type 0} (t : OpOf N T A) (d : HasDistinctIds t) (x : ℕ) wher
         let there : In (stand o w.0.path) (stands [] t) = subst (λ (u : OpOf N T A). In (stand u w.0.path) (stands [] t)) w.3 w.1 in
         let u = present_stand w.0.path o y e in
         elim (has_around w.0.path o u.0 u.1) [
-          | inl k ↦ absurd (ne (sym u.2 ∙ ap (λ (z : StandOf N T A). stand_id z) k ∙ ap (λ (z : OpOf N T A). (head z).id) (sym w.3) ∙ w.2))
+          | inl k ↦ absurd (ne (sym u.2 ∙ ap (λ (z : OpWithPathOf N T A). op_with_path_id z) k ∙ ap (λ (z : OpOf N T A). (head z).id) (sym w.3) ∙ w.2))
           | inr v ↦ (let here : In (stand u.0.here (v.0 ∷ v.1)) (stands [] t) = within o w.0.path (stand u.0.here (v.0 ∷ v.1)) (subst (λ (l : List (StepOf N T A)). In (stand u.0.here l) (stands w.0.path o)) v.2 u.1) [] t there in (
             record { parent = (head v.0.parent).id; region = v.0.region; before = _ },
             ap (λ z. place_of z t) (sym u.2) ∙ place_of_member t d u.0.here v.0 v.1 here,
@@ -71,7 +71,7 @@ module _ {N T A : Type 0} (t : OpOf N T A) (d : HasDistinctIds t) (x : ℕ) wher
         let there : In (stand o w.0.path) (stands [] t) = subst (λ (u : OpOf N T A). In (stand u w.0.path) (stands [] t)) w.3 w.1 in
         let u = present_stand w.0.path o place.parent i in
         let same = same_stand t d u.0 (stand p.step.parent p.path) (within o w.0.path u.0 u.1 [] t there) p.up (u.2 ∙ sym p.parent) in
-        let inside : In (stand p.step.parent p.path) (stands w.0.path o) = subst (λ (z : StandOf N T A). In z (stands w.0.path o)) same u.1 in
+        let inside : In (stand p.step.parent p.path) (stands w.0.path o) = subst (λ (z : OpWithPathOf N T A). In z (stands w.0.path o)) same u.1 in
         subst (λ z. list_any (λ q. eqb q z) (ids o) ≡ true) p.id
         (stand_present w.0.path o (stand p.here (p.step ∷ p.path))
         (within p.step.parent p.path (stand p.here (p.step ∷ p.path)) (around_there t p.here p.step p.path p.there).0 w.0.path o inside)))
@@ -100,22 +100,22 @@ module _ {N T A : Type 0} (t : OpOf N T A) (d : HasDistinctIds t) where
   around_up x place e = sym (same_level (around x t)) ∙ level_up t d x place e ∙ ap suc (same_level (around place.parent t))
 
   pub around_none : (x : ℕ) → place_of x t ≡ None → level (around x t) ≡ 0
-  around_none x n = ap level (sym (stands_around x [] t)) ∙ go (stand_in x (stands [] t)) refl
+  around_none x n = ap level (sym (stands_around x [] t)) ∙ go (find_op_with_path x (stands [] t)) refl
     where
-      top : (s : StandOf N T A) → In s (stands [] t) → stand_id s ≡ x → (path : List (StepOf N T A)) → s.path ≡ path → length s.path ≡ 0
+      top : (s : OpWithPathOf N T A) → In s (stands [] t) → op_with_path_id s ≡ x → (path : List (StepOf N T A)) → s.path ≡ path → length s.path ≡ 0
       top s h id [] r = ap length r
       top s h id (a ∷ q) r =
           let bad : ◌≡◌ {A = Option Place} None (place_in (a ∷ q)) = sym n ∙ ap (λ y. place_of y t) (sym id) ∙ place_of_member t d s.here a q (subst (λ l. In (stand s.here l) (stands [] t)) r h) in
           absurd cc
 
-      go : (f : Option (StandOf N T A)) → stand_in x (stands [] t) ≡ f → level (option_map (λ (s : StandOf N T A). length s.path) f) ≡ 0
+      go : (f : Option (OpWithPathOf N T A)) → find_op_with_path x (stands [] t) ≡ f → level (option_map (λ (s : OpWithPathOf N T A). length s.path) f) ≡ 0
       go None e = refl
       go (Some s) e = let m = member x (stands [] t) s e in top s m.0 m.1 s.path refl
 
   pub around_some : (x : ℕ) → has_id x t ≡ true → is_some (around x t) ≡ true
   around_some x there =
       let w = present_stand [] t x there in
-      ap is_some (sym (stands_around x [] t) ∙ ap (option_map (λ (s : StandOf N T A). length s.path)) (ap (λ z. stand_of z t) (sym w.2) ∙ stand_of_member t d w.0 w.1))
+      ap is_some (sym (stands_around x [] t) ∙ ap (option_map (λ (s : OpWithPathOf N T A). length s.path)) (ap (λ z. op_with_path z t) (sym w.2) ∙ stand_of_member t d w.0 w.1))
 
 pub headroom_is : (n : ℕ) (o : Option ℕ) → is_some o ≡ true → nat_lt n (most_around - level o) ≡ fits_around n o
 headroom_is n None e = absurd (true≢false (sym e))

@@ -49,7 +49,7 @@ nothing_index = record {
   counted = refl;
   cell = λ k j v u e. absurd (no_used k u);
   linked = λ k j v u e o. absurd (no_used k u);
-  loose = λ k j v u e o. absurd (no_used k u);
+  unlinked_home = λ k j v u e o. absurd (no_used k u);
   users = λ u i. (let z : u < 0 = i.inside in absurd (omega arith));
   heads = λ v h e. absurd cc;
   one = λ v w h e f. absurd cc;

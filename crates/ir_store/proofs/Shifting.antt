@@ -18,7 +18,7 @@ use Rattle.ir_store_reads.proofs.of_tree_laws.Shift.{own_distinct, is_put, may_s
 use Rattle.ir_store_reads.proofs.of_tree_laws.Edited.{taken_order, taken_op_count, put_op_count}
 use Rattle.ir_store_reads.specs.Rows.{Row, Shape, row_at}
 use Rattle.ir_store_reads.specs.Spells.{SpellsOp, SpellsRegions, SpellsRegion, SpellsOps}
-use Rattle.ir_store_reads.specs.Points.{joined, StandsIn}
+use Rattle.ir_store_reads.specs.Points.{joined, IsNodeIn}
 use Rattle.ir_store.specs.Shifting.{CanRelink}
 use Rattle.ir_store_reads.specs.Right.{Live, Used, Placed, BlockOf, Right}
 use Rattle.ir_store_reads.proofs.Mapped.{has_op, has_regions, has_region, has_ops, neither, lists_spells}
@@ -137,7 +137,7 @@ module _ (rows : List Row) (keys : ℕ → Option ℕ) (sibs : Lists) (root : �
     pub shift_head : IsHead mid.homes a.1
     shift_head = head_mid a.1 block_of.head
 
-    stands_mid : (c b : Option ℕ) → Before rows sibs.homes a.1 c b → ((q : ℕ) → c ≡ Some q → q ≡ k → ⊥) → IfSome c (λ q. StandsIn mid.homes a.1 q)
+    stands_mid : (c b : Option ℕ) → Before rows sibs.homes a.1 c b → ((q : ℕ) → c ≡ Some q → q ≡ k → ⊥) → IfSome c (λ q. IsNodeIn mid.homes a.1 q)
     stands_mid None b z n = tt
     stands_mid (Some q) None z n = absurd z
     stands_mid (Some q) (Some b) z n =
@@ -145,7 +145,7 @@ module _ (rows : List Row) (keys : ℕ → Option ℕ) (sibs : Lists) (root : �
         let i = z.1.0 in
         record { item = record { inside = omega (arith, i.inside, long1); linked = λ g. i.linked (sym h ∙ g); other = λ g. i.other (sym h ∙ g) }; home = h ∙ z.1.1 }
 
-    pub shift_before : IfSome at (λ q. StandsIn mid.homes a.1 q)
+    pub shift_before : IfSome at (λ q. IsNodeIn mid.homes a.1 q)
     shift_before = stands_mid at place.before point.before other_slot
 
     at_home : (c b : Option ℕ) → Before rows sibs.homes a.1 c b → ((q : ℕ) → c ≡ Some q → q ≡ k → ⊥) → AtHome mid.lists a.1 c

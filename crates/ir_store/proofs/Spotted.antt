@@ -13,7 +13,7 @@ use Rattle.ir_store.specs.Calls.{after_restore, put_held}
 use Rattle.ir_store_reads.specs.Rows.{Row, Shape, row_at, live_slot, held_slot, if_held, head_in, held_in, gone_in, bare}
 use Rattle.ir_store_reads.specs.Spells.{SpellsOp, Represented, rendered_is}
 use Rattle.ir_store.specs.Holds.{HoldsOf, GoneOf, map_is}
-use Rattle.ir_store_reads.specs.Points.{point_in, before_in, at_slot, stands, joined, StandsIn}
+use Rattle.ir_store_reads.specs.Points.{point_in, before_in, at_slot, stands, joined, IsNodeIn}
 use Rattle.ir_store_reads.specs.Right.{Live, Right}
 use Rattle.ir_store_reads.proofs.SlotLaws.{found, used_inside}
 use Rattle.ir_store.proofs.OneRow.{put_long, put_own, put_other}
@@ -112,10 +112,10 @@ module _ (a : Inside) (r : IsRight a) (laws : Laws a.sibs.lists a.sibs.homes) (x
   pub joint_free : IsFree a.sibs.homes k
   joint_free = slot_free (rows_in a) (keys_in a) a.sibs a.root a.represented.0 r a.represented.1 laws x k fk place sp.0 at sp.1.1
 
-  pub joint_before : (t : ℕ) → at ≡ Some t → StandsIn a.sibs.homes h t
+  pub joint_before : (t : ℕ) → at ≡ Some t → IsNodeIn a.sibs.homes h t
   joint_before t e = go place.before (subst (λ z. Before (rows_in a) a.sibs.homes sp.0.1 z place.before) e sp.1.1.before)
     where
-      go : (b : Option ℕ) → Before (rows_in a) a.sibs.homes sp.0.1 (Some t) b → StandsIn a.sibs.homes h t
+      go : (b : Option ℕ) → Before (rows_in a) a.sibs.homes sp.0.1 (Some t) b → IsNodeIn a.sibs.homes h t
       go None z = absurd z
       go (Some b) z = record { item = z.1.0; home = z.1.1 ∙ sp.1.0 }
 

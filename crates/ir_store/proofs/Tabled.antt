@@ -8,7 +8,7 @@ use Rattle.ir_store_reads.specs.trees.Ids.{HasDistinctIds, find, has_id}
 use Rattle.ir_store_reads.specs.trees.Places.{place_of, put, without, shifted}
 use Rattle.ir_store_reads.specs.tree_laws.Tables.{table_of}
 use Rattle.ir_store_reads.specs.tree_laws.Reasons.{has_place, leads_inside, same_table}
-use Rattle.ir_store_reads.specs.tree_laws.Stands.{StepOf, StandOf, stand_id, stands, table_in, place_in}
+use Rattle.ir_store_reads.specs.tree_laws.Stands.{StepOf, OpWithPathOf, op_with_path_id, stands, table_in, place_in}
 use Rattle.ir_store_reads.specs.tree_laws.Members.{In}
 use Rattle.ir_store_reads.proofs.of_tree_laws.Readings.{stands_table}
 use Rattle.ir_store_reads.proofs.of_tree_laws.Members.{stand, stand_found, stand_of_member, found_stands}
@@ -26,10 +26,10 @@ found_there x t o f = let w = found_stands x t o f in subst (λ z. has_id z t �
 
 module _ {N T A : Type 0} (is_table : N → Bool) where
   module _ (t : OpOf N T A) (d : HasDistinctIds t) where
-    table_there : (s : StandOf N T A) → In s (stands [] t) → table_of is_table (stand_id s) t ≡ Some (table_in is_table s.path)
-    table_there s h = sym (stands_table is_table (stand_id s) [] t) ∙ ap (option_map (λ (z : StandOf N T A). table_in is_table z.path)) (stand_of_member t d s h)
+    table_there : (s : OpWithPathOf N T A) → In s (stands [] t) → table_of is_table (op_with_path_id s) t ≡ Some (table_in is_table s.path)
+    table_there s h = sym (stands_table is_table (op_with_path_id s) [] t) ∙ ap (option_map (λ (z : OpWithPathOf N T A). table_in is_table z.path)) (stand_of_member t d s h)
 
-    at_there : (s : StandOf N T A) → In s (stands [] t) → table_at is_table (stand_id s) t ≡ cond (is_table (head s.here).name) (Some (head s.here).id) (table_in is_table s.path)
+    at_there : (s : OpWithPathOf N T A) → In s (stands [] t) → table_at is_table (op_with_path_id s) t ≡ cond (is_table (head s.here).name) (Some (head s.here).id) (table_in is_table s.path)
     at_there s h = λ i. near_table is_table (table_there s h i) (option_map head (stand_found t d s h i))
 
     -- the nearest table around an operation is the nearest one from its parent up
@@ -56,7 +56,7 @@ module _ {N T A : Type 0} (is_table : N → Bool) where
           let w = found_stands x t o f in
           table_past e ∙ ap (option_and_then (λ z. z)) (ap (λ z. table_of is_table z t) (sym w.2) ∙ table_there w.0 w.1) ∙ go w.0 w.1 w.2 w.0.path refl
         where
-          go : (s : StandOf N T A) → In s (stands [] t) → stand_id s ≡ x → (path : List (StepOf N T A)) → s.path ≡ path → table_in is_table s.path ≡ None
+          go : (s : OpWithPathOf N T A) → In s (stands [] t) → op_with_path_id s ≡ x → (path : List (StepOf N T A)) → s.path ≡ path → table_in is_table s.path ≡ None
           go s h id [] r = ap (table_in is_table) r
           go s h id (a ∷ q) r =
               let bad : ◌≡◌ {A = Option Place} None (place_in (a ∷ q)) = sym n ∙ ap (λ y. place_of y t) (sym id) ∙ place_of_member t d s.here a q (subst (λ l. In (stand s.here l) (stands [] t)) r h) in

@@ -48,7 +48,7 @@ use Rattle.ir_store.proofs.Used.{can_lead, join_index, use_item, write_index}
 use Rattle.ir_store.proofs.Valued.{value_is, place_is}
 use Rattle.ir_store_reads.proofs.Heads.{live_head}
 use Rattle.ir_store.proofs.Spotted.{joint_distinct, joint_tree, joint_out, held_found, joint_right, joint_done, joint_inside, joint_before}
-use Rattle.ir_store_reads.specs.Points.{StandsIn}
+use Rattle.ir_store_reads.specs.Points.{IsNodeIn}
 use Rattle.std.specs.Prelude.{IfSome}
 use Rattle.std.proofs.lemmas.List.{get_or-set_same, get_or-set_other}
 use Rattle.ir_store_reads.specs.Lists.{home_at}
@@ -182,10 +182,10 @@ module _ (a : Inside) (w : Whole a) (laws : Laws a.sibs.lists a.sibs.homes) (x :
     pub restore_lead : CanLead (value_head (rows_in a) (keys_in a)) (row_at (rows_in a) k).uses (row_at (rows_in a) k).head.operands a.uses.homes
     restore_lead = can_lead (rows_in a) (keys_in a) a.uses.homes (cells_of a.cells.items) w.few w.index k fk.used fk.out heads_there
 
-    pub restore_before : (h : ℕ) (at : Option ℕ) → Some (h, at) ≡ point_in (rows_in a) (keys_in a) a.sibs.homes place → IfSome at (λ t. StandsIn a.sibs.homes h t)
+    pub restore_before : (h : ℕ) (at : Option ℕ) → Some (h, at) ≡ point_in (rows_in a) (keys_in a) a.sibs.homes place → IfSome at (λ t. IsNodeIn a.sibs.homes h t)
     restore_before h at es = go at refl
       where
-        go : (o : Option ℕ) → at ≡ o → IfSome o (λ t. StandsIn a.sibs.homes h t)
+        go : (o : Option ℕ) → at ≡ o → IfSome o (λ t. IsNodeIn a.sibs.homes h t)
         go None e = tt
         go (Some t) e = joint_before a w.right laws x k ek place h at es t e
 

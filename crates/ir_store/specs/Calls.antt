@@ -125,8 +125,8 @@ pub record CanRetract (x : ℕ) (fresh : Bool) (s : Stored) : Type 0 where
   pub newest : fresh ≡ true → s.module_of.next ≡ x + 1
 
 -- setting key k of operation x to a, or removing k, needs no new slot: k is removed, or has a slot
-abbrev pub WantsNoSlot : ℕ → Part → ℕ → Option ℕ → Stored → Type 0
-WantsNoSlot x part k a s = (a ≡ None) ⊎ (has_slot x part k s ≡ true)
+abbrev pub NeedsNoSlot : ℕ → Part → ℕ → Option ℕ → Stored → Type 0
+NeedsNoSlot x part k a s = (a ≡ None) ⊎ (has_slot x part k s ≡ true)
 
 -- operation x is in the module and has a slot for key k; a key to remove is present
 pub record CanRevert (x : ℕ) (part : Part) (k : ℕ) (a : Option ℕ) (s : Stored) : Type 0 where

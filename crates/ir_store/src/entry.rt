@@ -6,7 +6,7 @@ ghost use Rattle.ir_store_reads.specs.trees.Meaning.{isolated_in, key_before_in,
 ghost use Rattle.ir_store_reads.specs.trees.WellFormed.{IsWellFormed};
 ghost use Rattle.ir_store_reads.specs.tree_laws.Reasons.{set_entry_reason};
 ghost use Rattle.ir_store_reads.specs.Stored.{has_slot};
-ghost use Rattle.ir_store.specs.Calls.{after_entry, CanRevert, WantsNoSlot};
+ghost use Rattle.ir_store.specs.Calls.{after_entry, CanRevert, NeedsNoSlot};
 
 use crate::store::Store;
 use ir_store_reads::entry::{find_entry, has_slot_at};
@@ -51,7 +51,7 @@ impl Store {
         ensures sound { IsSoundIn ctx.now self.new.module_of.tree }
         ensures wellformed { IsWellFormed (isolated_in ctx.now) self.old.module_of → IsWellFormed (isolated_in ctx.now) self.new.module_of }
         ensures err { OnErr result (self.new ≡ self.old) }
-        ensures slot { WantsNoSlot op part key value self.old → IfErr result (λ e. set_entry_reason (key_before_in ctx.now) op part key value self.old.module_of.tree ≡ Some e) }
+        ensures slot { NeedsNoSlot op part key value self.old → IfErr result (λ e. set_entry_reason (key_before_in ctx.now) op part key value self.old.module_of.tree ≡ Some e) }
     {
         self.enter(ctx, op, part, key, value)
     }
@@ -70,7 +70,7 @@ impl Store {
         ensures done { MatchResult result
             (λ _. (set_entry_reason (key_before_in ctx.now) op part key value self.old.module_of.tree ≡ None) × (self.new ≡ after_entry (key_before_in ctx.now) op part key value self.old))
             (λ e. IsRefusedFor {A = Unit {0}} (set_entry_reason (key_before_in ctx.now) op part key value self.old.module_of.tree) (Err e) × (self.new ≡ self.old)) }
-        ensures slot { IsSoundIn ctx.now self.old.module_of.tree → WantsNoSlot op part key value self.old → IfErr result (λ e. set_entry_reason (key_before_in ctx.now) op part key value self.old.module_of.tree ≡ Some e) }
+        ensures slot { IsSoundIn ctx.now self.old.module_of.tree → NeedsNoSlot op part key value self.old → IfErr result (λ e. set_entry_reason (key_before_in ctx.now) op part key value self.old.module_of.tree ≡ Some e) }
     {
         let at = match find_entry(ctx, &self.rows, &self.keys, op, part, key, &value) {
             Ok(at) => at,

@@ -37,8 +37,8 @@ abbrev pub has_slot : ℕ → Slots → Bool
 has_slot k s = has_key k s.present || is_gone k s.gone
 
 -- setting key k to a, or removing k, needs no new slot: k is removed, or has a slot
-abbrev pub WantsNoSlot : ℕ → Option ℕ → Slots → Type 0
-WantsNoSlot k a s = (a ≡ None) ⊎ (has_slot k s ≡ true)
+abbrev pub NeedsNoSlot : ℕ → Option ℕ → Slots → Type 0
+NeedsNoSlot k a s = (a ≡ None) ⊎ (has_slot k s ≡ true)
 
 -- the removed keys without the first that is k
 abbrev pub keep_gone : ℕ → List ℕ → List ℕ

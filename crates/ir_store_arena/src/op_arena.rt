@@ -5,7 +5,7 @@ ghost use Rattle.std.specs.Option.{option_copied_mut};
 ghost use Rattle.slab.specs.Slab.{get, HasRoomFor, Updates};
 ghost use Rattle.ir_store_arena.specs.trees.Edits.{entry_at};
 ghost use Rattle.ir_store_arena.specs.trees.Meaning.{key_before_in, rises};
-ghost use Rattle.ir_store_arena.specs.Slots.{has_key, has_slot as is_slot, with_change, WantsNoSlot};
+ghost use Rattle.ir_store_arena.specs.Slots.{has_key, has_slot as is_slot, with_change, NeedsNoSlot};
 ghost use Rattle.ir_store_arena.specs.Shapes.{shape_of};
 ghost use Rattle.ir_store_arena.specs.Contents.{no_slots, with_operand, dictionary_in, with_dictionary, without_gone, HasNoEntries};
 ghost use Rattle.ir_store_arena.specs.Made.{short_contents, plain_contents, made_contents};
@@ -202,7 +202,7 @@ impl OpArena {
         ensures swaps { MatchResult result
             (λ _. Swaps self.old self.new held.old held.new (with_dictionary part (with_change (key_before_in ctx.now) key value (dictionary_in part (contents_at self.old held.old))) (contents_at self.old held.old)))
             (λ _. Swaps self.old self.new held.old held.new (contents_at self.old held.old)) }
-        ensures slot { rises (key_before_in ctx.now) (dictionary_in part (contents_at self.old held.old)).present ≡ true → WantsNoSlot key value (dictionary_in part (contents_at self.old held.old)) → IsOk result }
+        ensures slot { rises (key_before_in ctx.now) (dictionary_in part (contents_at self.old held.old)).present ≡ true → NeedsNoSlot key value (dictionary_in part (contents_at self.old held.old)) → IsOk result }
     {
         match self.widen(alloc, held) {
             Ok(()) => {}
@@ -226,7 +226,7 @@ impl OpArena {
         ensures swaps { MatchResult result
             (λ _. Swaps self.old self.new held.now held.now (with_dictionary part (with_change (key_before_in ctx.now) key value (dictionary_in part (contents_at self.old held.now))) (contents_at self.old held.now)))
             (λ _. Swaps self.old self.new held.now held.now (contents_at self.old held.now)) }
-        ensures slot { rises (key_before_in ctx.now) (dictionary_in part (contents_at self.old held.now)).present ≡ true → WantsNoSlot key value (dictionary_in part (contents_at self.old held.now)) → IsOk result }
+        ensures slot { rises (key_before_in ctx.now) (dictionary_in part (contents_at self.old held.now)).present ≡ true → NeedsNoSlot key value (dictionary_in part (contents_at self.old held.now)) → IsOk result }
     {
         match self.entries_mut(held) {
             None => Err(AllocError),

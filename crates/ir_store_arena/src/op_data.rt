@@ -3,7 +3,7 @@ ghost use Rattle.std.specs.Prelude.{◌≡◌, ◌<◌, [], ◌||◌, true, nat_
 ghost use Rattle.ir_tree_laws.specs.trees.Edits.{entry_at};
 ghost use Rattle.ir_tree_laws.specs.trees.Meaning.{key_before_in, rises};
 ghost use Rattle.ir_tree_laws.specs.trees.Tree.{head};
-ghost use Rattle.ir_store_arena.specs.Slots.{has_key, has_slot as is_slot, with_change, WantsNoSlot};
+ghost use Rattle.ir_store_arena.specs.Slots.{has_key, has_slot as is_slot, with_change, NeedsNoSlot};
 ghost use Rattle.ir_store_arena.specs.Shapes.{shape_of};
 ghost use Rattle.ir_store_arena.specs.Contents.{contents_with, with_operand, no_entries, entries_with, entries_at, with_part, entries_kept};
 ghost use Rattle.ir_store_arena.specs.Made.{short_contents, plain_contents, made_contents};
@@ -175,7 +175,7 @@ impl Entries {
         requires { value ≡ None → is_some (entry_at (key_before_in ctx.now) key (entries_at part self.old).present) ≡ true }
         ensures ok { OnOk result (self.new ≡ with_part part (with_change (key_before_in ctx.now) key value (entries_at part self.old)) self.old) }
         ensures err { OnErr result (self.new ≡ self.old) }
-        ensures slot { rises (key_before_in ctx.now) (entries_at part self.old).present ≡ true → WantsNoSlot key value (entries_at part self.old) → IsOk result }
+        ensures slot { rises (key_before_in ctx.now) (entries_at part self.old).present ≡ true → NeedsNoSlot key value (entries_at part self.old) → IsOk result }
     {
         match part {
             Part::Props => change(ctx, &mut self.props, key, value),
@@ -270,7 +270,7 @@ fn change(
     requires { value ≡ None → is_some (entry_at (key_before_in ctx.now) key entries.old.present) ≡ true }
     ensures ok { OnOk result (entries.new ≡ with_change (key_before_in ctx.now) key value entries.old) }
     ensures err { OnErr result (entries.new ≡ entries.old) }
-    ensures slot { rises (key_before_in ctx.now) entries.old.present ≡ true → WantsNoSlot key value entries.old → IsOk result }
+    ensures slot { rises (key_before_in ctx.now) entries.old.present ≡ true → NeedsNoSlot key value entries.old → IsOk result }
 {
     match value {
         None => {

@@ -2,7 +2,7 @@
 ghost use Rattle.std.specs.Prelude.{◌≡◌, List, ◌<◌, ◌≤◌, ◌++◌, ◌∷◌, [], ◌||◌, true, false, nat_lt, map, length, slice_get, slice_set, Some, None, is_some, IfOk, IsOk, OnOk, OnErr, MatchOption};
 ghost use Rattle.ir_store_arena.specs.trees.Edits.{entry_at, part_of as the_part};
 ghost use Rattle.ir_store_arena.specs.trees.Meaning.{key_before_in, rises};
-ghost use Rattle.ir_store_arena.specs.Slots.{has_key, has_slot as is_slot, WantsNoSlot};
+ghost use Rattle.ir_store_arena.specs.Slots.{has_key, has_slot as is_slot, NeedsNoSlot};
 ghost use Rattle.ir_store_arena.specs.Contents.{no_slots};
 ghost use Rattle.ir_store_arena.specs.Gone.{none_gone};
 ghost use Rattle.ir_store_arena.specs.Shapes.{shape_of};
@@ -307,7 +307,7 @@ impl Slots {
         requires entry { value ≡ None → is_some (entry_at (key_before_in ctx.now) key (the_part part (row_at self.old slot).head)) ≡ true }
         ensures ok { OnOk result (self.new ≡ slice_set self.old slot (row_with_entry (key_before_in ctx.now) part key value (row_at self.old slot))) }
         ensures err { OnErr result (self.new ≡ self.old) }
-        ensures slot { rises (key_before_in ctx.now) (slots_in part (row_at self.old slot)).present ≡ true → WantsNoSlot key value (slots_in part (row_at self.old slot)) → IsOk result }
+        ensures slot { rises (key_before_in ctx.now) (slots_in part (row_at self.old slot)).present ≡ true → NeedsNoSlot key value (slots_in part (row_at self.old slot)) → IsOk result }
     {
         let row = &mut self.rows[slot];
         self.registry

@@ -4,7 +4,7 @@ use Rattle.std.proofs.Math.Seq.{get_or-append_seam}
 use Rattle.std.proofs.lemmas.Bool.{cases_eq, cases_lt, cond-true, cond-false, lt-ltb, le-ltb}
 use Rattle.std.proofs.lemmas.List.{get_or_past, get_or-set_same, get_or-set_other, length-append, get_or_append_left}
 use Rattle.ir_store_lists.specs.declared.pages.IdPage.{IdPage}
-use Rattle.ir_store_lists.specs.Pages.{no_page, trailing, slot_at, TellsFirst, Counted, Forgotten, Learnt}
+use Rattle.ir_store_lists.specs.Pages.{no_page, trailing, slot_at, StoresFirstOnly, Counted, Forgotten, Learnt}
 
 -- the slot of an id by its page
 pub told : (page : IdPage) (x n : ℕ) → slot_at page x ≡ Some n → (x % 64 < page.count) × (x + trailing page (x % 64) ≡ n)
@@ -21,7 +21,7 @@ pub tells : (page : IdPage) (x : ℕ) → x % 64 < page.count → slot_at page x
 tells page x l = cond-true _ (Some (x + trailing page (x % 64))) None (lt-ltb (x % 64) page.count l)
 
 -- a page that has only a slot for its first id: this slot, whatever was written before
-pub first_counted : (shift : ℕ) (before page : IdPage) → TellsFirst shift page → Counted 0 shift before page
+pub first_counted : (shift : ℕ) (before page : IdPage) → StoresFirstOnly shift page → Counted 0 shift before page
 first_counted shift before page h p l = inr (h p l)
 
 module _ (at place shift : ℕ) (few : place < 64) where
@@ -49,7 +49,7 @@ module _ (at place shift : ℕ) (few : place < 64) where
       (cases_eq (x / 64) at)
 
 -- a page is added
-pub appended : (pages : List IdPage) (page : IdPage) (at shift : ℕ) → at ≡ length pages → TellsFirst shift page → Learnt (at * 64) (at * 64 + shift) pages (pages ++ page ∷ [])
+pub appended : (pages : List IdPage) (page : IdPage) (at shift : ℕ) → at ≡ length pages → StoresFirstOnly shift page → Learnt (at * 64) (at * 64 + shift) pages (pages ++ page ∷ [])
 appended pages page at shift e h x n it = ⊎_elim
     (λ l. inl (ap (λ z. slot_at z x) (sym (get_or_append_left pages (page ∷ []) no_page (x / 64) l)) ∙ it))
     (λ g. ⊎_elim

@@ -23,8 +23,8 @@ abbrev pub slot_by : List IdPage → ℕ → Option ℕ
 slot_by pages x = slot_at (get_or pages (x / 64) no_page) x
 
 -- a page says only that the slot of its first id is the id plus `shift`
-abbrev pub TellsFirst : (shift : ℕ) → IdPage → Type 0
-TellsFirst shift page = (p : ℕ) → p < page.count → (p ≡ 0) × (trailing page p ≡ shift)
+abbrev pub StoresFirstOnly : (shift : ℕ) → IdPage → Type 0
+StoresFirstOnly shift page = (p : ℕ) → p < page.count → (p ≡ 0) × (trailing page p ≡ shift)
 
 -- a page says only what it said before, and that the slot of the id at this position is the id plus `shift`
 abbrev pub Counted : (place shift : ℕ) → (before after : IdPage) → Type 0

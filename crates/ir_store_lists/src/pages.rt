@@ -1,7 +1,7 @@
 //! Slots of ids that were assigned in order. Each page of ids counts its first ids whose slots are consecutive. In up
 //! to three positions, the cuts, one slot may be skipped, since the head of a block takes a slot.
 ghost use Rattle.std.specs.Prelude.{◌≡◌, ℕ, ◌+◌, ◌*◌, ◌<◌, ◌++◌, ◌∷◌, [], length, MatchResult};
-ghost use Rattle.ir_store_lists.specs.Pages.{step_at, trailing, slot_by, TellsFirst, Counted, Forgotten, Learnt};
+ghost use Rattle.ir_store_lists.specs.Pages.{step_at, trailing, slot_by, StoresFirstOnly, Counted, Forgotten, Learnt};
 
 use std::alloc::AllocError;
 
@@ -58,7 +58,7 @@ pub(crate) fn slot_by(pages: &Vec<IdPage>, id: u32) -> Option<usize>
 
 /// Returns a page that counts one id.
 fn new_page(shift: u32) -> IdPage
-    ensures { TellsFirst shift result }
+    ensures { StoresFirstOnly shift result }
 {
     IdPage {
         shift,

@@ -66,7 +66,7 @@ fit_grown q k x o gs xs w r inside ew eo f emptied_xs blocks er = subst (Grown 0
     live = refl;
     id = refl;
     blocks = blocks;
-    operands = λ j v e. let n = f.operands j (slice_get_within (head o).operands j v e) in record { inside = n.0.inside; cell = n.1; loose = n.0.unlinked };
+    operands = λ j v e. let n = f.operands j (slice_get_within (head o).operands j v e) in record { inside = n.0.inside; cell = n.1; unlinked_home = n.0.unlinked };
     results = λ i l. let n = f.results i l in record { head = n.0; cell = n.1; new = omega arith };
   };
   is = ap (op (record (head o) { id = x })) (bare_list xs ∙ ap regions_of emptied_xs ∙ emptied_list gs) ∙ ap (λ z. with_id x (emptied z)) eo;

@@ -8,6 +8,6 @@ abbrev pub block_in : List Row → (ℕ → Option ℕ) → ℕ → ℕ → Opti
 block_in rows slots p n = option_and_then (λ k. option_and_then head_in (slice_get (row_at rows k).shapes n)) (slots p)
 
 -- node k isn't a head, so it may be an item of a list
-pub record CanStand (homes : List ℕ) (k : ℕ) : Type 0 where
+pub record CanBeItem (homes : List ℕ) (k : ℕ) : Type 0 where
   pub inside : k < length homes
   pub other : home_at homes k ≡ k → ⊥

@@ -5,7 +5,7 @@ ghost use Rattle.ir_store_slots.specs.Lists.{home_at, list_at};
 ghost use Rattle.ir_store_slots.specs.Labels.{goes_before};
 ghost use Rattle.ir_store_slots.specs.Rows.{live_slot};
 ghost use Rattle.ir_store_slots.specs.Points.{id_in};
-ghost use Rattle.ir_store_reads.specs.Heading.{block_in, CanStand};
+ghost use Rattle.ir_store_reads.specs.Heading.{block_in, CanBeItem};
 
 use ir_store_slots::find::{Keys, find};
 use ir_store_slots::insertion_point::block_head;
@@ -34,8 +34,8 @@ pub fn id_of(rows: &Slots, key: Option<usize>) -> Option<OpId>
 
 /// Returns whether a node is before another in the same list.
 pub fn goes_before(sibs: &OrderedLists, node: usize, trailing: usize) -> bool
-    requires node { CanStand sibs.now.homes node }
-    requires trailing { CanStand sibs.now.homes trailing }
+    requires node { CanBeItem sibs.now.homes node }
+    requires trailing { CanBeItem sibs.now.homes trailing }
     ensures { result ≡ goes_before node trailing (list_at sibs.now.lists (home_at sibs.now.homes node)) }
 {
     sibs.laws();

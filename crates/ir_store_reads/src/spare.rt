@@ -56,7 +56,7 @@ fn is_head(uses: &LinkedLists, node: usize) -> bool
 }
 
 /// Returns true only if a node is free: in no list, and no head.
-fn is_loose(uses: &LinkedLists, node: usize) -> bool
+fn is_unlinked(uses: &LinkedLists, node: usize) -> bool
     ensures { result ≡ true → IsFree uses.now.homes node }
 {
     if node >= uses.len() {
@@ -128,7 +128,7 @@ fn has_nodes(
     let mut at = base;
     let mut place = 0;
     'nodes: while place < count {
-        if !is_loose(uses, at) {
+        if !is_unlinked(uses, at) {
             return false;
         }
         if !is_cell(cells, at, row, place) {

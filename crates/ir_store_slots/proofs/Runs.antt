@@ -132,7 +132,7 @@ module _ (p : Parts) (even : IsEven p) (heads : Bool) (row n : ℕ) (homes' : Li
   run_uses eh b eb i l = subst (λ z. NewUse ran row i (z + i)) (sym eb) (record {
     inside = in_run i l;
     cell = cell_is i l;
-    loose = home_is i l ∙ ap (λ c. if c then length p.homes + i else free) eh;
+    unlinked_home = home_is i l ∙ ap (λ c. if c then length p.homes + i else free) eh;
   })
 
 -- the parts with a slot added

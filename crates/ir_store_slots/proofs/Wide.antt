@@ -60,7 +60,7 @@ head_stays q r w bound n i h f = record {
 }
 
 pub use_stays : (q r : Parts) → Wider q r → (k j u : ℕ) → NewUse q k j u → NewUse r k j u
-use_stays q r w k j u f = record { inside = omega (arith, f.inside, w.uses_more); cell = w.cell u f.inside ∙ f.cell; loose = w.use_home u f.inside ∙ f.loose }
+use_stays q r w k j u f = record { inside = omega (arith, f.inside, w.uses_more); cell = w.cell u f.inside ∙ f.cell; unlinked_home = w.use_home u f.inside ∙ f.unlinked_home }
 
 pub block_stays : (q r : Parts) → IsEven q → Wider q r → (bound k i : ℕ) (a : List ℕ × ℕ) → NewBlock q bound k i a → NewBlock r bound k i a
 block_stays q r e w bound k i a f =
@@ -194,9 +194,9 @@ module _ (p q : Parts) (w : Wider p q) (keys : ℕ → Option ℕ) (r : Keyed p.
           let l = ix.linked k j v (used_was k u) (use_was k u j v e) (sym (live_is k u) ∙ o) in
           subst (λ z. LinkedTo q.rows keys q.homes z v) (sym (node_was k u j))
           (record { item = use_item (use_at p.rows k j) l.item; home = wide_head v ∙ l.home ∙ ap Some (sym (w.use_home (use_at p.rows k j) l.item.inside)) });
-      loose = λ k j v u e o.
+      unlinked_home = λ k j v u e o.
           let c = ix.cell k j v (used_was k u) (use_was k u j v e) in
-          ap (home_at q.homes) (node_was k u j) ∙ w.use_home (use_at p.rows k j) c.inside ∙ ix.loose k j v (used_was k u) (use_was k u j v e) (sym (live_is k u) ∙ o);
+          ap (home_at q.homes) (node_was k u j) ∙ w.use_home (use_at p.rows k j) c.inside ∙ ix.unlinked_home k j v (used_was k u) (use_was k u j v e) (sym (live_is k u) ∙ o);
       users = λ u it.
           let st = ix.users u (item_was u it) in
           let same = same_used st.row st.use_of.used in

@@ -55,7 +55,7 @@ pub record NewHead (q : Parts) (bound n i h : ℕ) : Type 0 where
 pub record NewUse (q : Parts) (k j u : ℕ) : Type 0 where
   pub inside : u < length q.homes
   pub cell : cell_at q.cells u ≡ (k, j)
-  pub loose : home_at q.homes u ≡ free
+  pub unlinked_home : home_at q.homes u ≡ free
 
 -- an empty block for region i of slot k
 pub record NewBlock (q : Parts) (bound k i : ℕ) (a : List ℕ × ℕ) : Type 0 where

@@ -73,7 +73,7 @@ pub record Index (rows : List Row) (keys : ℕ → Option ℕ) (homes : List ℕ
   pub counted : length cells ≡ length homes
   pub cell : (k j : ℕ) (v : Value) → Used rows k → operand_at rows k j ≡ Some v → CellOf homes cells (use_at rows k j) k j
   pub linked : (k j : ℕ) (v : Value) → Used rows k → operand_at rows k j ≡ Some v → on k j ≡ true → LinkedTo rows keys homes (use_at rows k j) v
-  pub loose : (k j : ℕ) (v : Value) → Used rows k → operand_at rows k j ≡ Some v → on k j ≡ false → home_at homes (use_at rows k j) ≡ free
+  pub unlinked_home : (k j : ℕ) (v : Value) → Used rows k → operand_at rows k j ≡ Some v → on k j ≡ false → home_at homes (use_at rows k j) ≡ free
   pub users : (u : ℕ) → IsItem homes u → Stands rows on u
   pub heads : (v : Value) (h : ℕ) → value_head rows keys v ≡ Some h → IsHead homes h
   pub one : (v w : Value) (h : ℕ) → value_head rows keys v ≡ Some h → value_head rows keys w ≡ Some h → v ≡ w

@@ -10,7 +10,7 @@ joined k n None lists = slice_set lists n (list_at lists n ++ k ∷ [])
 joined k n (Some t) lists = map (put_before k t) lists
 
 -- slot t is in the list of head n
-pub record StandsIn (homes : List ℕ) (n t : ℕ) : Type 0 where
+pub record IsNodeIn (homes : List ℕ) (n t : ℕ) : Type 0 where
   pub item : IsItem homes t
   pub home : home_at homes t ≡ n
 

@@ -4,7 +4,7 @@ ghost use Rattle.std.specs.FinMap as finmap;
 ghost use Rattle.std.specs.Ordering.{nat_cmp};
 ghost use Rattle.ir_store_lists.specs.Lists.{IsFree, IsHead};
 ghost use Rattle.ir_store_slots.specs.Rows.{shape_of, head_in, held_slot};
-ghost use Rattle.ir_store_slots.specs.Points.{point_in, joined, stands, StandsIn};
+ghost use Rattle.ir_store_slots.specs.Points.{point_in, joined, stands, IsNodeIn};
 
 use crate::find::{Keys, find, slot};
 use crate::row::RegionData;
@@ -51,7 +51,7 @@ pub fn find_insertion_point(
         None => Some((head, None)),
         Some(before) => {
             let at = find(rows, keys, before)?;
-            if stands_in(sibs, at, head) {
+            if is_node_in_list(sibs, at, head) {
                 Some((head, Some(at)))
             } else {
                 None
@@ -61,7 +61,7 @@ pub fn find_insertion_point(
 }
 
 /// Returns whether a node is in the list of a head.
-fn stands_in(sibs: &OrderedLists, node: usize, head: usize) -> bool
+fn is_node_in_list(sibs: &OrderedLists, node: usize, head: usize) -> bool
     requires { node < length sibs.now.homes }
     ensures { result ≡ stands sibs.now.homes head node }
 {
@@ -75,7 +75,7 @@ fn stands_in(sibs: &OrderedLists, node: usize, head: usize) -> bool
 pub fn link(sibs: &mut OrderedLists, node: usize, head: usize, before: Option<usize>)
     requires free { IsFree sibs.old.homes node }
     requires head { IsHead sibs.old.homes head }
-    requires before { IfSome before (λ at. StandsIn sibs.old.homes head at) }
+    requires before { IfSome before (λ at. IsNodeIn sibs.old.homes head at) }
     ensures lists { sibs.new.lists ≡ joined node head before sibs.old.lists }
     ensures homes { sibs.new.homes ≡ slice_set sibs.old.homes node head }
 {

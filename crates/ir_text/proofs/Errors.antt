@@ -16,10 +16,10 @@ within : (n left : ℕ) → n - left ≤ n
 within n left = omega arith
 
 -- the result is an error of a text, with an offset in the text
-pub error_told : (bytes : List ℕ) (e : Inner) → IsTextRefusal bytes (error_at (length bytes) e)
-error_told bytes inner.Memory = tt
-error_told bytes (inner.Full left) = within (length bytes) left
-error_told bytes (inner.Refused f) = (of_texts f.refusal, within (length bytes) f.left)
+pub error_reported : (bytes : List ℕ) (e : Inner) → IsTextRefusal bytes (error_at (length bytes) e)
+error_reported bytes inner.Memory = tt
+error_reported bytes (inner.Full left) = within (length bytes) left
+error_reported bytes (inner.Refused f) = (of_texts f.refusal, within (length bytes) f.left)
 
 -- such an error is also an error of an operation's text
 pub told_of_op : (bytes : List ℕ) (e : ReadError) → IsTextRefusal bytes e → IsOpRefusal bytes e

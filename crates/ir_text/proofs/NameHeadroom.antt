@@ -16,7 +16,7 @@ use Rattle.ir_text_operations.specs.names.declared.bound.TypedValue.{TypedValue}
 use Rattle.ir_text_operations.specs.names.Packs.{Counted, counts}
 use Rattle.ir_text_types.specs.Typed.{Text}
 use Rattle.ir_text_operations.specs.names.NameReading.{name_from, value_name_at, number_from, nonzero_at, some_count, count_within, count_at, result_at, names_at, results_from, results_at}
-use Rattle.ir_text_operations.specs.Free.{seen_as}
+use Rattle.ir_text_operations.specs.Free.{pack_denoted_by}
 use Rattle.ir_text_operations.specs.PrecedingReading.{op_name_from, op_name_at, place_of, place_from, place_at, member_at, Frees, use_from, use_at, uses_at, start_at}
 use Rattle.ir_text.specs.Headroom.{Fits}
 use Rattle.ir_text.proofs.Lengths.{gain}
@@ -118,7 +118,7 @@ module _ (c : ContextModel) where
     where
       by : (l : Lexeme) (rest : List ℕ) → next b ≡ Some (l, rest) → Good same held i j k (use_from free here l rest)
       by (value n) rest e =
-          good_some same held (seen_as free here n) (λ pack. member_at pack rest) (λ pack s.
+          good_some same held (pack_denoted_by free here n) (λ pack. member_at pack rest) (λ pack s.
           good_then same held (place_at rest) _ (place_good i j k rest (fits_to (token_fits i j k b rest c (value n) e h) (omega arith) (omega arith) (omega arith))) (λ m f.
           good_some same held (slice_get pack m.0) _ (λ v g. reads same held (v, m.1) f)))
       by _ rest e = wrong same held

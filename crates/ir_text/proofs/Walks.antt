@@ -7,15 +7,15 @@ use Rattle.ir_tree.specs.View.{region_view}
 use Rattle.ir_tree.specs.declared.tree.TreeRegion.{TreeRegion}
 use Rattle.ir_tree.specs.Limits.{every, arguments_pass, all_arguments_pass, region_every, regions_every, ops_every}
 use Rattle.ir_tree.specs.Meaning.{meaning}
-use Rattle.ir_text.specs.Printing.{Printed, put, comma_at, put_op, put_regions, put_region, put_ops}
+use Rattle.ir_text.specs.Printing.{Printed, put, comma_at, printed_op, print_regions, print_region, print_ops}
 use Rattle.ir_text.specs.View.{region_in, regions_in, ops_in}
 use Rattle.std.proofs.lemmas.Bool.{and_parts}
 
 -- a region is printed after its comma, and the other regions are left
-pub next_region : (d : ContextModel) (margin : List ℕ) (x place : ℕ) (r : TreeRegion) (now rest : List TreeRegion) (o p q whole : Printed) → now ≡ r ∷ rest → p ≡ put (comma_at place) o → q ≡ put_region margin x place (region_in d (region_view r)) p → put_regions margin x place (regions_in d now) o ≡ whole → put_regions margin x (place + 1) (regions_in d rest) q ≡ whole
+pub next_region : (d : ContextModel) (margin : List ℕ) (x place : ℕ) (r : TreeRegion) (now rest : List TreeRegion) (o p q whole : Printed) → now ≡ r ∷ rest → p ≡ put (comma_at place) o → q ≡ print_region margin x place (region_in d (region_view r)) p → print_regions margin x place (regions_in d now) o ≡ whole → print_regions margin x (place + 1) (regions_in d rest) q ≡ whole
 next_region d margin x place r now rest o p q whole next comma one s =
-    ap (put_regions margin x (place + 1) (regions_in d rest)) (one ∙ ap (put_region margin x place (region_in d (region_view r))) comma)
-    ∙ ap (λ (rs : List TreeRegion). put_regions margin x place (regions_in d rs) o) (sym next)
+    ap (print_regions margin x (place + 1) (regions_in d rest)) (one ∙ ap (print_region margin x place (region_in d (region_view r))) comma)
+    ∙ ap (λ (rs : List TreeRegion). print_regions margin x place (regions_in d rs) o) (sym next)
     ∙ s
 
 -- a property of the arguments of all regions holds for the first region and for the others
@@ -27,8 +27,8 @@ pub inside_of : (f : Op → Bool) (r : TreeRegion) (now rest : List TreeRegion) 
 inside_of f r now rest next h = and_parts _ _ (subst (λ (rs : List TreeRegion). IsTrue (regions_every f (regions_of (map region_view rs)))) next h)
 
 -- an operation is printed, and the other operations are left
-pub next_op : (d : ContextModel) (blanks : List ℕ) (t : Op) (now rest : List Op) (o q whole : Printed) → now ≡ t ∷ rest → q ≡ put_op blanks (meaning d t) o → put_ops blanks (ops_in d now) o ≡ whole → put_ops blanks (ops_in d rest) q ≡ whole
-next_op d blanks t now rest o q whole next one s = ap (put_ops blanks (ops_in d rest)) one ∙ ap (λ (os : List Op). put_ops blanks (ops_in d os) o) (sym next) ∙ s
+pub next_op : (d : ContextModel) (blanks : List ℕ) (t : Op) (now rest : List Op) (o q whole : Printed) → now ≡ t ∷ rest → q ≡ printed_op blanks (meaning d t) o → print_ops blanks (ops_in d now) o ≡ whole → print_ops blanks (ops_in d rest) q ≡ whole
+next_op d blanks t now rest o q whole next one s = ap (print_ops blanks (ops_in d rest)) one ∙ ap (λ (os : List Op). print_ops blanks (ops_in d os) o) (sym next) ∙ s
 
 pub known_of : (f : Op → Bool) (t : Op) (now rest : List Op) → now ≡ t ∷ rest → IsTrue (ops_every f (ops_of now)) → IsTrue (every f t) × IsTrue (ops_every f (ops_of rest))
 known_of f t now rest next h = and_parts _ _ (subst (λ (os : List Op). IsTrue (ops_every f (ops_of os))) next h)

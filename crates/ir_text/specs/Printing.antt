@@ -37,13 +37,13 @@ count_results x ts o =
     record { text = o.text; named = name_results x (length ts == 1) o.results 0 ts o.named; results = o.results + 1; arguments = o.arguments }
 
 -- prints and names the results, if the operation has any
-abbrev pub put_results : ℕ → List TypeTerm → Printed → Printed
-put_results x [] o = o
-put_results x (t ∷ ts) o = count_results x (t ∷ ts) (put (results_text o.results (length (t ∷ ts))) o)
+abbrev pub print_results : ℕ → List TypeTerm → Printed → Printed
+print_results x [] o = o
+print_results x (t ∷ ts) o = count_results x (t ∷ ts) (put (results_text o.results (length (t ∷ ts))) o)
 
 -- prints the operands by their names
-abbrev pub put_operands : List Value → Printed → Printed
-put_operands vs o = put (in_round (map (value_text o.named) vs)) o
+abbrev pub print_operands : List Value → Printed → Printed
+print_operands vs o = put (in_round (map (value_text o.named) vs)) o
 
 -- a dictionary in braces
 abbrev pub dictionary_text : List (List ℕ × AttrTerm) → List ℕ
@@ -59,20 +59,20 @@ attributes_text [] = []
 attributes_text (e ∷ es) = codes " " ++ dictionary_text (e ∷ es)
 
 -- prints the name, the operands and the properties of an operation
-abbrev pub put_name : HeadOf (List ℕ) TypeTerm AttrTerm → Printed → Printed
-put_name h o = put (properties_text h.properties) (put_operands h.operands (put (string_text h.name) o))
+abbrev pub print_name : HeadOf (List ℕ) TypeTerm AttrTerm → Printed → Printed
+print_name h o = put (properties_text h.properties) (print_operands h.operands (put (string_text h.name) o))
 
 -- prints an operation up to its regions
-abbrev pub put_head : List ℕ → HeadOf (List ℕ) TypeTerm AttrTerm → Printed → Printed
-put_head margin h o = put_name h (put_results h.id h.results (put margin o))
+abbrev pub print_head : List ℕ → HeadOf (List ℕ) TypeTerm AttrTerm → Printed → Printed
+print_head margin h o = print_name h (print_results h.id h.results (put margin o))
 
 -- prints the function type of the operands and results
-abbrev pub put_type_of : List Value → List TypeTerm → Printed → Printed
-put_type_of vs ts o = put (type_text (Function (types_of (map (value_type o.named) vs)) (types_of ts))) o
+abbrev pub print_type_of : List Value → List TypeTerm → Printed → Printed
+print_type_of vs ts o = put (type_text (Function (types_of (map (value_type o.named) vs)) (types_of ts))) o
 
 -- prints an operation after its regions
-abbrev pub put_tail : HeadOf (List ℕ) TypeTerm AttrTerm → Printed → Printed
-put_tail h o = put (codes "\n") (put_type_of h.operands h.results (put (codes " : ") (put (attributes_text h.attributes) o)))
+abbrev pub print_tail : HeadOf (List ℕ) TypeTerm AttrTerm → Printed → Printed
+print_tail h o = put (codes "\n") (print_type_of h.operands h.results (put (codes " : ") (put (attributes_text h.attributes) o)))
 
 -- the comma before the item at index k, unless the index is 0
 abbrev pub comma_at : ℕ → List ℕ
@@ -87,23 +87,23 @@ abbrev pub argument_text : ℕ → TypeTerm → List ℕ
 argument_text n t = codes "%arg" ++ (decimal n ++ (codes ": " ++ type_text t))
 
 -- prints an argument, and names it
-abbrev pub put_argument : ℕ → ℕ → ℕ → TypeTerm → Printed → Printed
-put_argument x r k t o = count_argument x r k t (put (argument_text o.arguments t) o)
+abbrev pub print_argument : ℕ → ℕ → ℕ → TypeTerm → Printed → Printed
+print_argument x r k t o = count_argument x r k t (put (argument_text o.arguments t) o)
 
 -- prints the arguments of a block from index k on
-abbrev pub put_arguments : ℕ → ℕ → ℕ → List TypeTerm → Printed → Printed
-put_arguments x r k [] o = o
-put_arguments x r k (t ∷ ts) o = put_arguments x r (k + 1) ts (put_argument x r k t (put (comma_at k) o))
+abbrev pub print_arguments : ℕ → ℕ → ℕ → List TypeTerm → Printed → Printed
+print_arguments x r k [] o = o
+print_arguments x r k (t ∷ ts) o = print_arguments x r (k + 1) ts (print_argument x r k t (put (comma_at k) o))
 
 -- prints the label of a block without arguments, if the block has no operations
-abbrev pub put_bare_label : {N T A : Type 0} → List ℕ → OpsOf N T A → Printed → Printed
-put_bare_label margin no_ops o = put (codes "^bb0:\n") (put margin o)
-put_bare_label margin (next t ts) o = o
+abbrev pub print_bare_label : {N T A : Type 0} → List ℕ → OpsOf N T A → Printed → Printed
+print_bare_label margin no_ops o = put (codes "^bb0:\n") (put margin o)
+print_bare_label margin (next t ts) o = o
 
 -- prints the label of a block, if the block has arguments or no operations
-abbrev pub put_label : {N T A : Type 0} → List ℕ → ℕ → ℕ → List TypeTerm → OpsOf N T A → Printed → Printed
-put_label margin x r [] os o = put_bare_label margin os o
-put_label margin x r (t ∷ ts) os o = put (codes "):\n") (put_arguments x r 0 (t ∷ ts) (put (codes "^bb0(") (put margin o)))
+abbrev pub print_label : {N T A : Type 0} → List ℕ → ℕ → ℕ → List TypeTerm → OpsOf N T A → Printed → Printed
+print_label margin x r [] os o = print_bare_label margin os o
+print_label margin x r (t ∷ ts) os o = put (codes "):\n") (print_arguments x r 0 (t ∷ ts) (put (codes "^bb0(") (put margin o)))
 
 -- the opening parenthesis of the regions of an operation, if it has any
 abbrev pub opening : {N T A : Type 0} → RegionsOf N T A → List ℕ
@@ -116,23 +116,23 @@ closing_text (region g rs) = codes ")"
 
 -- prints an operation with its regions; `margin` is the blanks before it
 abbrev mutual
-  pub put_op : List ℕ → Operation → Printed → Printed
-  put_op margin (op h rs) o = put_tail h (put (closing_text rs) (put_regions margin h.id 0 rs (put (opening rs) (put_head margin h o))))
+  pub printed_op : List ℕ → Operation → Printed → Printed
+  printed_op margin (op h rs) o = print_tail h (put (closing_text rs) (print_regions margin h.id 0 rs (put (opening rs) (print_head margin h o))))
 
   -- prints the regions from region r on
-  pub put_regions : List ℕ → ℕ → ℕ → RegionsOf (List ℕ) TypeTerm AttrTerm → Printed → Printed
-  put_regions margin x r no_regions o = o
-  put_regions margin x r (region g rs) o = put_regions margin x (r + 1) rs (put_region margin x r g (put (comma_at r) o))
+  pub print_regions : List ℕ → ℕ → ℕ → RegionsOf (List ℕ) TypeTerm AttrTerm → Printed → Printed
+  print_regions margin x r no_regions o = o
+  print_regions margin x r (region g rs) o = print_regions margin x (r + 1) rs (print_region margin x r g (put (comma_at r) o))
 
   -- prints region r
-  pub put_region : List ℕ → ℕ → ℕ → RegionOf (List ℕ) TypeTerm AttrTerm → Printed → Printed
-  put_region margin x r empty o = put (codes "{}") o
-  put_region margin x r (block args os) o = put (codes "}") (put margin (put_ops (deeper margin) os (put_label margin x r args os (put (codes "{\n") o))))
+  pub print_region : List ℕ → ℕ → ℕ → RegionOf (List ℕ) TypeTerm AttrTerm → Printed → Printed
+  print_region margin x r empty o = put (codes "{}") o
+  print_region margin x r (block args os) o = put (codes "}") (put margin (print_ops (deeper margin) os (print_label margin x r args os (put (codes "{\n") o))))
 
   -- prints the operations of a block
-  pub put_ops : List ℕ → OpsOf (List ℕ) TypeTerm AttrTerm → Printed → Printed
-  put_ops margin no_ops o = o
-  put_ops margin (next t ts) o = put_ops margin ts (put_op margin t o)
+  pub print_ops : List ℕ → OpsOf (List ℕ) TypeTerm AttrTerm → Printed → Printed
+  print_ops margin no_ops o = o
+  print_ops margin (next t ts) o = print_ops margin ts (printed_op margin t o)
 
 -- the state of the printer before anything is printed
 abbrev pub blank : Printed
@@ -140,4 +140,4 @@ blank = record { text = []; named = []; results = 0; arguments = 0 }
 
 -- the text of a module, or of any operation
 abbrev pub text_of : Operation → List ℕ
-text_of t = (put_op [] t blank).text
+text_of t = (printed_op [] t blank).text

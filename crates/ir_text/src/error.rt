@@ -23,7 +23,7 @@ pub enum ReadError {
 
 impl ReadError {
     /// Converts an error with the number of bytes left into one with an offset in `bytes`.
-    #[tactic(auto, using(crate::proofs::Errors::error_told))]
+    #[tactic(auto, using(crate::proofs::Errors::error_reported))]
     pub(crate) fn at(error: error::ReadError, bytes: &[u8]) -> ReadError
         ensures is { result ≡ error_at (length bytes.now) error }
         ensures told { IsTextRefusal bytes.now result }

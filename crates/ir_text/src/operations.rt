@@ -13,7 +13,7 @@ ghost use Rattle.ir_tree.specs.Passing.{entry_passes, head_passes, op_passes};
 ghost use Rattle.ir_tree.specs.Meaning.{meaning, is_name, is_type, is_attr, is_known};
 ghost use Rattle.ir_text.specs.Naming.{value_type};
 ghost use Rattle.ir_text_types.specs.TypeGrammar.{types_of};
-ghost use Rattle.ir_text.specs.Printing.{put, put_results, results_text, put_operands, dictionary_text, properties_text, attributes_text, put_name, put_head, put_type_of, put_tail, comma_at, argument_text, put_argument, put_arguments, deeper, put_bare_label, put_label, opening, closing_text, put_op, put_region};
+ghost use Rattle.ir_text.specs.Printing.{put, print_results, results_text, print_operands, dictionary_text, properties_text, attributes_text, print_name, print_head, print_type_of, print_tail, comma_at, argument_text, print_argument, print_arguments, deeper, print_bare_label, print_label, opening, closing_text, printed_op, print_region};
 ghost use Rattle.ir_text.specs.View.{named_in, printed_in, head_in, region_in, regions_in, ops_in, types_in, entries_in};
 
 use crate::attributes::write_entries;
@@ -67,7 +67,7 @@ fn write_results(
     op: OpId,
     results: &[TypeId],
 ) -> Result<(), AllocError>
-    ensures { OnOk result (printed_in ctx.now out.new ≡ put_results op (types_in ctx.now results.now) (printed_in ctx.now out.old)) }
+    ensures { OnOk result (printed_in ctx.now out.new ≡ print_results op (types_in ctx.now results.now) (printed_in ctx.now out.old)) }
 {
     match results {
         [] => Ok(()),
@@ -155,7 +155,7 @@ fn write_function_type(
 /// Appends the name, the operands and the properties of an operation.
 fn write_name(ctx: &Context, out: &mut Printer, op: &TreeOp) -> Result<(), AllocError>
     requires { IsTrue (head_passes (is_name ctx.now) (is_type ctx.now) (is_attr ctx.now) (head op.now)) }
-    ensures { OnOk result (printed_in ctx.now out.new ≡ put_name (head_in ctx.now (head op.now)) (printed_in ctx.now out.old)) }
+    ensures { OnOk result (printed_in ctx.now out.new ≡ print_name (head_in ctx.now (head op.now)) (printed_in ctx.now out.old)) }
 {
     print_string(&mut out.text, name_of(ctx, op.name))?;
     write_operands(&mut out.text, &out.named, &op.operands)?;
@@ -171,7 +171,7 @@ fn write_head(
     op: &TreeOp,
 ) -> Result<(), AllocError>
     requires { IsTrue (head_passes (is_name ctx.now) (is_type ctx.now) (is_attr ctx.now) (head op.now)) }
-    ensures { OnOk result (printed_in ctx.now out.new ≡ put_head margin.now (head_in ctx.now (head op.now)) (printed_in ctx.now out.old)) }
+    ensures { OnOk result (printed_in ctx.now out.new ≡ print_head margin.now (head_in ctx.now (head op.now)) (printed_in ctx.now out.old)) }
 {
     write_short(&mut out.text, margin)?;
     write_results(ctx, out, op.id, &op.results)?;
@@ -181,7 +181,7 @@ fn write_head(
 /// Appends an operation after its regions.
 fn write_tail(ctx: &Context, out: &mut Printer, op: &TreeOp) -> Result<(), AllocError>
     requires { IsTrue (head_passes (is_name ctx.now) (is_type ctx.now) (is_attr ctx.now) (head op.now)) }
-    ensures { OnOk result (printed_in ctx.now out.new ≡ put_tail (head_in ctx.now (head op.now)) (printed_in ctx.now out.old)) }
+    ensures { OnOk result (printed_in ctx.now out.new ≡ print_tail (head_in ctx.now (head op.now)) (printed_in ctx.now out.old)) }
 {
     write_attributes(ctx, &mut out.text, &op.attrs)?;
     write_short(&mut out.text, b" : ")?;
@@ -225,7 +225,7 @@ fn write_argument(
     ty: TypeId,
 ) -> Result<(), AllocError>
     requires { IsType ctx.now ty }
-    ensures { OnOk result (printed_in ctx.now out.new ≡ put_argument op region place (type_term ctx.now ty) (printed_in ctx.now out.old)) }
+    ensures { OnOk result (printed_in ctx.now out.new ≡ print_argument op region place (type_term ctx.now ty) (printed_in ctx.now out.old)) }
 {
     write_argument_text(ctx, &mut out.text, out.arguments, ty)?;
     name_argument(&mut out.named, op, region, place, out.arguments, ty)?;
@@ -242,7 +242,7 @@ fn write_arguments(
     args: &[TypeId],
 ) -> Result<(), AllocError>
     requires { IsTrue (list_all (is_type ctx.now) args.now) }
-    ensures { OnOk result (printed_in ctx.now out.new ≡ put_arguments op region 0 (types_in ctx.now args.now) (printed_in ctx.now out.old)) }
+    ensures { OnOk result (printed_in ctx.now out.new ≡ print_arguments op region 0 (types_in ctx.now args.now) (printed_in ctx.now out.old)) }
 {
     for (place, ty) in args.iter().enumerate() {
         write_comma(out, place)?;
@@ -253,7 +253,7 @@ fn write_arguments(
 
 /// Appends the label of a block without arguments and without operations. A block with operations gets no label.
 fn write_bare_label(out: &mut Printer, margin: &[u8], ops: &[TreeOp]) -> Result<(), AllocError>
-    ensures { (c : ContextModel) → OnOk result (printed_in c out.new ≡ put_bare_label margin.now (ops_in c ops.now) (printed_in c out.old)) }
+    ensures { (c : ContextModel) → OnOk result (printed_in c out.new ≡ print_bare_label margin.now (ops_in c ops.now) (printed_in c out.old)) }
 {
     match ops {
         [] => {
@@ -275,7 +275,7 @@ fn write_label(
     ops: &[TreeOp],
 ) -> Result<(), AllocError>
     requires { IsTrue (list_all (is_type ctx.now) args.now) }
-    ensures { OnOk result (printed_in ctx.now out.new ≡ put_label margin.now op region (types_in ctx.now args.now) (ops_in ctx.now ops.now) (printed_in ctx.now out.old)) }
+    ensures { OnOk result (printed_in ctx.now out.new ≡ print_label margin.now op region (types_in ctx.now args.now) (ops_in ctx.now ops.now) (printed_in ctx.now out.old)) }
 {
     match args {
         [] => write_bare_label(out, margin, ops),
@@ -326,7 +326,7 @@ pub(crate) fn print_op(
     op: &TreeOp,
 ) -> Result<(), AllocError>
     requires { IsTrue (is_known ctx.now op.now) }
-    ensures { OnOk result (printed_in ctx.now out.new ≡ put_op margin.now (meaning ctx.now op.now) (printed_in ctx.now out.old)) }
+    ensures { OnOk result (printed_in ctx.now out.new ≡ printed_op margin.now (meaning ctx.now op.now) (printed_in ctx.now out.old)) }
 {
     write_head(ctx, out, margin, op)?;
     write_opening(out, &op.regions)?;
@@ -351,7 +351,7 @@ fn write_region(
 ) -> Result<(), AllocError>
     requires arguments { IsTrue (arguments_pass (list_all (is_type ctx.now)) (region_view region.now)) }
     requires inside { IsTrue (region_every (op_passes (is_name ctx.now) (is_type ctx.now) (is_attr ctx.now)) (region_view region.now)) }
-    ensures { OnOk result (printed_in ctx.now out.new ≡ put_region margin.now op place (region_in ctx.now (region_view region.now)) (printed_in ctx.now out.old)) }
+    ensures { OnOk result (printed_in ctx.now out.new ≡ print_region margin.now op place (region_in ctx.now (region_view region.now)) (printed_in ctx.now out.old)) }
 {
     match region {
         TreeRegion::Empty => write(out, b"{}"),

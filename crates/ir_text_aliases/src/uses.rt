@@ -151,7 +151,7 @@ pub(crate) fn usable<'v, 'a>(
 }
 
 /// Appends the value, after a blank if the value could be read as a part of the token before it.
-pub(crate) fn put_value(
+pub(crate) fn append_value(
     scanned: &ScanState,
     value: &[u8],
     out: &mut Vec<u8>,

@@ -16,7 +16,7 @@ use crate::nests::{is_operations, is_typed, pass};
 use crate::part::TextPart;
 use crate::places::{after_loc, goes, located};
 use crate::scan_state::{Bracket, BracketContents, LastToken, OpStage, ScanState};
-use crate::uses::{put_value, usable};
+use crate::uses::{append_value, usable};
 use crate::values::is_defined;
 use ir_text_tokens::bodies::after_alias;
 use ir_text_tokens::fault::Fault;
@@ -138,7 +138,7 @@ fn write_alias<'a>(
         Ok(value) => value,
         Err(refusal) => return Ok(Some(Fault::at(refusal, all))),
     };
-    put_value(&at.scanned, value, &mut out.text)?;
+    append_value(&at.scanned, value, &mut out.text)?;
     let mark = Mark {
         scanned: before,
         past: len_of(&out.text),
@@ -150,7 +150,7 @@ fn write_alias<'a>(
 }
 
 /// Appends the lexeme that begins with `byte`, and returns the rest of the text after it.
-fn put_lexeme<'a>(
+fn append_lexeme<'a>(
     at: &mut ScanPosition,
     byte: u8,
     all: &'a [u8],
@@ -199,7 +199,7 @@ fn step<'a>(
         return take_place(at, byte, all, tail, out);
     }
     let Some(rest) = alias_in(part, byte, all, tail) else {
-        return Ok(Ok(put_lexeme(at, byte, all, tail, out)?));
+        return Ok(Ok(append_lexeme(at, byte, all, tail, out)?));
     };
     match write_alias(part, names, values, at, byte, all, tail, rest, out)? {
         None => Ok(Ok(rest)),

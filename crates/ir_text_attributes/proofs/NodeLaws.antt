@@ -21,7 +21,7 @@ use Rattle.ir_text_types.specs.Outcomes.{Outcome, Read, Wrong, ◌>>=◌, intern
 use Rattle.ir_text_types.specs.Typed.{Text, Typed, name_step, attr_step}
 use Rattle.ir_text_types.specs.Grammars.{Grammar, Then, Done, DoneIf}
 use Rattle.ir_text_types.specs.Worlds.{From}
-use Rattle.ir_text_types.specs.Standing.{NameStands, AttrStands}
+use Rattle.ir_text_types.specs.Denotation.{NameDenotes, AttrDenotes}
 use Rattle.ir_text_types.proofs.Worlds.{bind_read, Exact, Step, Comes, Reads, exact_rendered, nothing_exact}
 use Rattle.ir_text_types.proofs.TextLaws.{things, Same, text_now}
 use Rattle.ir_text_types.proofs.TypeLaws.{read_interned, full_cases}
@@ -35,7 +35,7 @@ done x = Read x
 
 -- ---- a name that is interned
 
-name_step_on : (bytes : List ℕ) (s : Typed) (t : List ℕ) → IsSound s.1 → s.0 ≡ t → name_reason bytes s.1 ≡ None → Step things Same NameStands s (with_name bytes s.1).0 bytes (s.0, (with_name bytes s.1).1) t
+name_step_on : (bytes : List ℕ) (s : Typed) (t : List ℕ) → IsSound s.1 → s.0 ≡ t → name_reason bytes s.1 ≡ None → Step things Same NameDenotes s (with_name bytes s.1).0 bytes (s.0, (with_name bytes s.1).1) t
 name_step_on bytes s t sound same fine = record {
   grows = grows_name bytes s.1;
   sound = accepted_name bytes s.1 sound fine;
@@ -49,23 +49,23 @@ name_step_on bytes s t sound same fine = record {
 abbrev pub name_at : List ℕ → Parse Typed ℕ
 name_at bytes s = name_step bytes s.1 >>= λ n. Read (moved s n)
 
-pub name_exact : (c : ContextModel) (bytes : List ℕ) → Exact things Same c NameStands (name_at bytes) (Done bytes)
+pub name_exact : (c : ContextModel) (bytes : List ℕ) → Exact things Same c NameDenotes (name_at bytes) (Done bytes)
 unfolding name_step
 name_exact c bytes = record {
   found = λ s t x s' g sound h e.
       let b = bind_read (name_step bytes s.1) (λ n. done (moved s n)) (x, s') e in
       let a = read_interned (name_reason bytes s.1) (with_name bytes s.1) b.0 b.1 in
       let same : moved s (with_name bytes s.1) ≡ (x, s') = ap (moved s) a.1 ∙ cc (b.2) in
-      subst (λ (q : ℕ × Typed). Comes things Same NameStands (Done bytes) s t q.0 q.1) same (bytes, t, (refl, refl), name_step_on bytes s t sound (text_now s t sound h) a.0);
+      subst (λ (q : ℕ × Typed). Comes things Same NameDenotes (Done bytes) s t q.0 q.1) same (bytes, t, (refl, refl), name_step_on bytes s t sound (text_now s t sound h) a.0);
   only = λ s t y' t' g sound h k. rw (k.0, k.1) (⊎_elim
       (λ (f : name_reason bytes s.1 ≡ None).
-      subst (λ o. Reads things Same NameStands s (interned o (with_name bytes s.1) >>= λ n. done (moved s n)) bytes t) (sym f)
+      subst (λ o. Reads things Same NameDenotes s (interned o (with_name bytes s.1) >>= λ n. done (moved s n)) bytes t) (sym f)
       (inr ((with_name bytes s.1).0, (s.0, (with_name bytes s.1).1), refl, name_step_on bytes s t sound (text_now s t sound h) f)))
       (λ (f : name_reason bytes s.1 ≡ Some TooMany). inl (rw f refl))
       (full_cases (bytes_eq bytes) s.1.names));
 }
 
-pub name_done_exact : (c : ContextModel) (bytes : List ℕ) → Exact things Same c NameStands (name_done bytes) (Done bytes)
+pub name_done_exact : (c : ContextModel) (bytes : List ℕ) → Exact things Same c NameDenotes (name_done bytes) (Done bytes)
 unfolding name_done
 name_done_exact c bytes = name_exact c bytes
 
@@ -83,7 +83,7 @@ IsAllowed node = (count_reason node ≡ None) × (key_reason node ≡ None)
 abbrev headroom_of : AttrNode → ContextModel → Option Refusal
 headroom_of node c = full_reason (same_attr (kept c.names node)) c.attrs
 
-attr_step_on : (node : AttrNode) (y : AttrTerm) (s : Typed) (t : List ℕ) → IsSound s.1 → s.0 ≡ t → IsNodeOf node y s.1 → attr_reason node s.1 ≡ None → Step things Same AttrStands s (with_attr node s.1).0 y (s.0, (with_attr node s.1).1) t
+attr_step_on : (node : AttrNode) (y : AttrTerm) (s : Typed) (t : List ℕ) → IsSound s.1 → s.0 ≡ t → IsNodeOf node y s.1 → attr_reason node s.1 ≡ None → Step things Same AttrDenotes s (with_attr node s.1).0 y (s.0, (with_attr node s.1).1) t
 attr_step_on node y s t sound same r fine = record {
   grows = grows_attr node s.1;
   sound = accepted_attr node s.1 sound r.0 fine;
@@ -105,7 +105,7 @@ reason_parts node c allowed = ap (λ o. first_reason (attr_fault (attr_node_term
     last None = refl
     last (Some r) = refl
 
-pub attr_done_exact : (c : ContextModel) (node : AttrNode) (y : AttrTerm) → IsAllowed node → From (IsNodeOf node y) c → Exact things Same c AttrStands (attr_done node) (DoneIf (attr_fault y ≡ None) y)
+pub attr_done_exact : (c : ContextModel) (node : AttrNode) (y : AttrTerm) → IsAllowed node → From (IsNodeOf node y) c → Exact things Same c AttrDenotes (attr_done node) (DoneIf (attr_fault y ≡ None) y)
 unfolding attr_done attr_step
 attr_done_exact c node y allowed r = record {
   found = λ s t x s' g sound h e.
@@ -113,14 +113,14 @@ attr_done_exact c node y allowed r = record {
       let a = read_interned (attr_reason node s.1) (with_attr node s.1) b.0 b.1 in
       let same : moved s (with_attr node s.1) ≡ (x, s') = ap (moved s) a.1 ∙ cc (b.2) in
       let no_fault = (neither (attr_fault (attr_node_term s.1 node)) (headroom_of node s.1) (sym (reason_parts node s.1 allowed) ∙ a.0)).0 in
-      subst (λ (q : ℕ × Typed). Comes things Same AttrStands (DoneIf (attr_fault y ≡ None) y) s t q.0 q.1) same
+      subst (λ (q : ℕ × Typed). Comes things Same AttrDenotes (DoneIf (attr_fault y ≡ None) y) s t q.0 q.1) same
       (y, t, (sym (fault_of s.1 (r s.1 g sound)) ∙ no_fault, refl, refl), attr_step_on node y s t sound (text_now s t sound h) (r s.1 g sound) a.0);
   only = λ s t y' t' g sound h k.
       let no_fault : attr_fault (attr_node_term s.1 node) ≡ None = fault_of s.1 (r s.1 g sound) ∙ k.0 in
       rw (k.1, k.2) (⊎_elim
       (λ (f : headroom_of node s.1 ≡ None).
       let fine : attr_reason node s.1 ≡ None = reason_parts node s.1 allowed ∙ neither_back (attr_fault (attr_node_term s.1 node)) (headroom_of node s.1) no_fault f in
-      subst (λ o. Reads things Same AttrStands s (interned o (with_attr node s.1) >>= λ n. done (moved s n)) y t) (sym fine)
+      subst (λ o. Reads things Same AttrDenotes s (interned o (with_attr node s.1) >>= λ n. done (moved s n)) y t) (sym fine)
       (inr ((with_attr node s.1).0, (s.0, (with_attr node s.1).1), refl, attr_step_on node y s t sound (text_now s t sound h) (r s.1 g sound) fine)))
       (λ (f : headroom_of node s.1 ≡ Some TooMany).
       let none : attr_reason node s.1 ≡ Some TooMany = reason_parts node s.1 allowed ∙ ap (λ o. first_reason o (headroom_of node s.1)) no_fault ∙ f in
@@ -146,8 +146,8 @@ done_if_exact c R p F z holds = exact_rendered things Same c R p (DoneIf F z) (D
 -- ---- more lemmas about agreement
 
 -- no attribute has depth 0
-pub zero_exact : (c : ContextModel) → Exact things Same c AttrStands (λ s. Wrong) (λ y old new. ⊥)
-zero_exact c = nothing_exact things Same c AttrStands
+pub zero_exact : (c : ContextModel) → Exact things Same c AttrDenotes (λ s. Wrong) (λ y old new. ⊥)
+zero_exact c = nothing_exact things Same c AttrDenotes
 
 -- a fact that holds in each sound context may be used
 pub exact_given : {A B : Type 0} (c : ContextModel) (R : ContextModel → A → B → Type 0) (p : Parse Typed A) (P : Grammar Text B) → ((z : ContextModel) → IsExtendedBy c z → IsSound z → Exact things Same z R p P) → Exact things Same c R p P

@@ -11,29 +11,29 @@ use Rattle.std.proofs.lemmas.Cmp.{nat_list_cmp_total}
 use Rattle.std.proofs.lemmas.Map.Text.{is_eq-slice_cmp}
 use Rattle.std.proofs.lemmas.List.Sorted.{IsPermutation-refl, IsPermutation-trans, IsPermutation-swap, IsPermutation-cons}
 use Rattle.ir_tree.specs.Meaning.{key_before, rises, rises_after}
-use Rattle.ir_text_attributes.specs.Keyed.{put_among, in_order, IsInOrder}
+use Rattle.ir_text_attributes.specs.Keyed.{insert_sorted, in_order, IsInOrder}
 use Rattle.std.proofs.lemmas.Bool.{and_parts, and_from}
 
 -- ---- the same entries
 
 module _ {K A : Type 0} (before : K → K → Bool) where
-  put_moves : (e : K × A) (fs : List (K × A)) → IsPermutation (e ∷ fs) (put_among before e fs)
+  put_moves : (e : K × A) (fs : List (K × A)) → IsPermutation (e ∷ fs) (insert_sorted before e fs)
   put_moves e [] = IsPermutation-refl (e ∷ [])
   put_moves e (f ∷ fs) = go (before e.0 f.0) refl (put_moves e fs)
     where
-      go : (b : Bool) → before e.0 f.0 ≡ b → IsPermutation (e ∷ fs) (put_among before e fs) → IsPermutation (e ∷ f ∷ fs) (put_among before e (f ∷ fs))
+      go : (b : Bool) → before e.0 f.0 ≡ b → IsPermutation (e ∷ fs) (insert_sorted before e fs) → IsPermutation (e ∷ f ∷ fs) (insert_sorted before e (f ∷ fs))
       go true h rest = rw h (IsPermutation-refl (e ∷ f ∷ fs))
-      go false h rest = rw h (IsPermutation-trans (e ∷ f ∷ fs) (f ∷ e ∷ fs) (f ∷ put_among before e fs) (IsPermutation-swap (e ∷ f ∷ fs) (f ∷ e ∷ fs) 0 1 (omega arith) (omega arith) refl) (IsPermutation-cons f (e ∷ fs) (put_among before e fs) rest))
+      go false h rest = rw h (IsPermutation-trans (e ∷ f ∷ fs) (f ∷ e ∷ fs) (f ∷ insert_sorted before e fs) (IsPermutation-swap (e ∷ f ∷ fs) (f ∷ e ∷ fs) 0 1 (omega arith) (omega arith) refl) (IsPermutation-cons f (e ∷ fs) (insert_sorted before e fs) rest))
 
   order_moves : (es : List (K × A)) → IsPermutation es (in_order before es)
   order_moves [] = IsPermutation-refl []
   order_moves (e ∷ es) = IsPermutation-trans (e ∷ es) (e ∷ in_order before es) (in_order before (e ∷ es)) (IsPermutation-cons e es (in_order before es) (order_moves es)) (put_moves e (in_order before es))
 
-  put_keeps : (P : K × A → Type 0) (e : K × A) (fs : List (K × A)) → P e → AllByRecursion P fs → AllByRecursion P (put_among before e fs)
+  put_keeps : (P : K × A → Type 0) (e : K × A) (fs : List (K × A)) → P e → AllByRecursion P fs → AllByRecursion P (insert_sorted before e fs)
   put_keeps P e [] p all = (p, tt)
   put_keeps P e (f ∷ fs) p all = go (before e.0 f.0) (put_keeps P e fs p all.1)
     where
-      go : (b : Bool) → AllByRecursion P (put_among before e fs) → AllByRecursion P (if b then e ∷ f ∷ fs else f ∷ put_among before e fs)
+      go : (b : Bool) → AllByRecursion P (insert_sorted before e fs) → AllByRecursion P (if b then e ∷ f ∷ fs else f ∷ insert_sorted before e fs)
       go true rest = (p, all)
       go false rest = (all.0, rest)
 
@@ -56,21 +56,21 @@ module _ {A : Type 0} where
   abbrev Apart : List ℕ → List (List ℕ × A) → Type 0
   Apart k es = AllByRecursion (λ e. bytes_eq k e.0 ≡ false) es
 
-  put_rises : (k : List ℕ) (e : List ℕ × A) (fs : List (List ℕ × A)) → key_before k e.0 ≡ true → Apart e.0 fs → rises_after key_before k fs ≡ true → rises_after key_before k (put_among key_before e fs) ≡ true
+  put_rises : (k : List ℕ) (e : List ℕ × A) (fs : List (List ℕ × A)) → key_before k e.0 ≡ true → Apart e.0 fs → rises_after key_before k fs ≡ true → rises_after key_before k (insert_sorted key_before e fs) ≡ true
   put_rises k e [] first apart up = and_from (key_before k e.0) true first refl
   put_rises k e (f ∷ fs) first apart up =
       let after = and_parts (key_before k f.0) (rises_after key_before f.0 fs) up in
       go after (λ p. put_rises f.0 e fs p apart.1 after.1) (key_before e.0 f.0) refl
     where
-      go : (key_before k f.0 ≡ true) × (rises_after key_before f.0 fs ≡ true) → (key_before f.0 e.0 ≡ true → rises_after key_before f.0 (put_among key_before e fs) ≡ true) → (b : Bool) → key_before e.0 f.0 ≡ b → rises_after key_before k (put_among key_before e (f ∷ fs)) ≡ true
+      go : (key_before k f.0 ≡ true) × (rises_after key_before f.0 fs ≡ true) → (key_before f.0 e.0 ≡ true → rises_after key_before f.0 (insert_sorted key_before e fs) ≡ true) → (b : Bool) → key_before e.0 f.0 ≡ b → rises_after key_before k (insert_sorted key_before e (f ∷ fs)) ≡ true
       go after later true h = rw h (and_from (key_before k e.0) (key_before e.0 f.0 && rises_after key_before f.0 fs) first (and_from (key_before e.0 f.0) (rises_after key_before f.0 fs) h after.1))
-      go after later false h = rw h (and_from (key_before k f.0) (rises_after key_before f.0 (put_among key_before e fs)) after.0 (later (other_way e.0 f.0 apart.0 h)))
+      go after later false h = rw h (and_from (key_before k f.0) (rises_after key_before f.0 (insert_sorted key_before e fs)) after.0 (later (other_way e.0 f.0 apart.0 h)))
 
-  first_rises : (e : List ℕ × A) (fs : List (List ℕ × A)) → Apart e.0 fs → rises key_before fs ≡ true → rises key_before (put_among key_before e fs) ≡ true
+  first_rises : (e : List ℕ × A) (fs : List (List ℕ × A)) → Apart e.0 fs → rises key_before fs ≡ true → rises key_before (insert_sorted key_before e fs) ≡ true
   first_rises e [] apart up = refl
   first_rises e (f ∷ fs) apart up = go (key_before e.0 f.0) refl
     where
-      go : (b : Bool) → key_before e.0 f.0 ≡ b → rises key_before (put_among key_before e (f ∷ fs)) ≡ true
+      go : (b : Bool) → key_before e.0 f.0 ≡ b → rises key_before (insert_sorted key_before e (f ∷ fs)) ≡ true
       go true h = rw h (and_from (key_before e.0 f.0) (rises_after key_before f.0 fs) h up)
       go false h = rw h (put_rises f.0 e fs (other_way e.0 f.0 apart.0 h) apart.1 up)
 

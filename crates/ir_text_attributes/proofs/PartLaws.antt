@@ -24,7 +24,7 @@ use Rattle.ir_text_types.specs.Typed.{Text, Typed, after_typed}
 use Rattle.ir_text_types.specs.TypeReading.{many}
 use Rattle.ir_text_types.specs.Grammars.{When, Grammar, Then, Done, IsList, IsMark, Token}
 use Rattle.ir_text_types.specs.Worlds.{From}
-use Rattle.ir_text_types.specs.Standing.{NameStands, AttrStands}
+use Rattle.ir_text_types.specs.Denotation.{NameDenotes, AttrDenotes}
 use Rattle.ir_text_types.specs.Laws.{Each}
 use Rattle.ir_text_types.proofs.Worlds.{bind_read, option_read, Exact, exact_where, exact_rendered, nothing_exact, then_exact, done_exact, either_exact, list_exact}
 use Rattle.ir_text_types.proofs.TextLaws.{things, Same, typed_marks}
@@ -32,14 +32,14 @@ use Rattle.ir_text_types.proofs.TokenLaws.{trailing_exact, token_exact}
 use Rattle.ir_text_attributes.specs.AttrReading.{Entries, name_done, attr_done, key_from, key_at, unit_value_at, value_from, value_by, entry_by, entries_by, dictionary_by, attrs_by, array_by}
 use Rattle.ir_text_attributes.specs.AttrGrammar.{EntryTerm, IsFine, IsKey, IsUnitValue, IsValue, IsEntry, IsArray, IsDictionary, attrs_of, entries_of}
 use Rattle.ir_tree.specs.Meaning.{key_before}
-use Rattle.ir_text_attributes.specs.Keyed.{has_key, put_among, in_order}
+use Rattle.ir_text_attributes.specs.Keyed.{has_key, insert_sorted, in_order}
 use Rattle.ir_text_attributes.proofs.NodeLaws.{IsNodeOf, IsAllowed, name_done_exact, attr_done_exact, zero_exact, exact_given, exact_read}
 use Rattle.ir_text_attributes.proofs.LeafLaws.{unit_node}
 use Rattle.ir_types.proofs.Truths.{same_bool}
 
 -- a key and an attribute
-abbrev pub EntryStands : ContextModel → ℕ × ℕ → EntryTerm → Type 0
-EntryStands z x y = NameStands z x.0 y.0 × AttrStands z x.1 y.1
+abbrev pub EntryDenotes : ContextModel → ℕ × ℕ → EntryTerm → Type 0
+EntryDenotes z x y = NameDenotes z x.0 y.0 × AttrDenotes z x.1 y.1
 
 -- ---- keys
 
@@ -48,10 +48,10 @@ KeyFrom (bare w) rest y old new = Done w y rest new
 KeyFrom (string raw) rest y old new = Done (string_bytes raw) y rest new
 KeyFrom _ rest y old new = ⊥
 
-key_from_exact : (c : ContextModel) (l : Lexeme) (rest : Text) → Exact things Same c NameStands (λ s. key_from s.1 l rest) (KeyFrom l rest)
-key_from_exact c (bare w) rest = trailing_exact c NameStands rest (name_done w) (Done w) (name_done_exact c w)
-key_from_exact c (string raw) rest = trailing_exact c NameStands rest (name_done (string_bytes raw)) (Done (string_bytes raw)) (name_done_exact c (string_bytes raw))
-key_from_exact c _ rest = nothing_exact things Same c NameStands
+key_from_exact : (c : ContextModel) (l : Lexeme) (rest : Text) → Exact things Same c NameDenotes (λ s. key_from s.1 l rest) (KeyFrom l rest)
+key_from_exact c (bare w) rest = trailing_exact c NameDenotes rest (name_done w) (Done w) (name_done_exact c w)
+key_from_exact c (string raw) rest = trailing_exact c NameDenotes rest (name_done (string_bytes raw)) (Done (string_bytes raw)) (name_done_exact c (string_bytes raw))
+key_from_exact c _ rest = nothing_exact things Same c NameDenotes
 
 key_into : (y : List ℕ) (t t' : Text) → (l : Lexeme) × (rest : Text) × Token l t rest × KeyFrom l rest y t t' → IsKey y t t'
 key_into y t t' k = by_token k.0 k.1 k.2 k.3
@@ -65,20 +65,20 @@ key_back : (y : List ℕ) (t t' : Text) → IsKey y t t' → (l : Lexeme) × (re
 key_back y t t' (inl k) = (bare y, t', k, (refl, refl))
 key_back y t t' (inr k) = (string k.0, t', k.1, (k.2, refl))
 
-pub key_exact : (c : ContextModel) → Exact things Same c NameStands key_at IsKey
+pub key_exact : (c : ContextModel) → Exact things Same c NameDenotes key_at IsKey
 unfolding key_at
 key_exact c =
-    exact_rendered things Same c NameStands key_at (λ y old new. (l : Lexeme) × (rest : Text) × Token l old rest × KeyFrom l rest y old new) IsKey key_into key_back
-    (token_exact c NameStands (λ s l rest. key_from s.1 l rest) KeyFrom (key_from_exact c))
+    exact_rendered things Same c NameDenotes key_at (λ y old new. (l : Lexeme) × (rest : Text) × Token l old rest × KeyFrom l rest y old new) IsKey key_into key_back
+    (token_exact c NameDenotes (λ s l rest. key_from s.1 l rest) KeyFrom (key_from_exact c))
 
 -- two names of a sound context are equal if and only if their bytes are
-pub keys_agree : (z : ContextModel) → IsSound z → (k l : ℕ) (x y : List ℕ) → NameStands z k x → NameStands z l y → nat_eq k l ≡ bytes_eq x y
+pub keys_agree : (z : ContextModel) → IsSound z → (k l : ℕ) (x y : List ℕ) → NameDenotes z k x → NameDenotes z l y → nat_eq k l ≡ bytes_eq x y
 keys_agree z sound k l x y h j =
     same_bool (nat_eq k l) (bytes_eq x y)
     (λ e. subst (λ w. bytes_eq x w ≡ true) (sym h.1 ∙ ap (name_term z) (eqb-true k l e) ∙ j.1) (name_refl x))
     (λ e. eq-eqb k l (name_term_one z k l sound h.0 j.0 (h.1 ∙ name_is x y e ∙ sym j.1)))
 
-known_same : (z : ContextModel) → IsSound z → (k : ℕ) (y : List ℕ) (es : Entries) (fs : List EntryTerm) → NameStands z k y → Each EntryStands z es fs → has_key nat_eq k es ≡ has_key bytes_eq y fs
+known_same : (z : ContextModel) → IsSound z → (k : ℕ) (y : List ℕ) (es : Entries) (fs : List EntryTerm) → NameDenotes z k y → Each EntryDenotes z es fs → has_key nat_eq k es ≡ has_key bytes_eq y fs
 known_same z sound k y [] [] h all = refl
 known_same z sound k y [] (f ∷ fs) h all = absurd all
 known_same z sound k y (e ∷ es) [] h all = absurd all
@@ -86,22 +86,22 @@ known_same z sound k y (e ∷ es) (f ∷ fs) h all = λ i. keys_agree z sound e.
 
 -- ---- the order of entries
 
-same_order : (z : ContextModel) (a b : ℕ × ℕ) (x y : EntryTerm) → EntryStands z a x → EntryStands z b y → comes_before z.names a b ≡ key_before x.0 y.0
+same_order : (z : ContextModel) (a b : ℕ × ℕ) (x y : EntryTerm) → EntryDenotes z a x → EntryDenotes z b y → comes_before z.names a b ≡ key_before x.0 y.0
 same_order z a b x y h j = λ i. key_before (h.0.1 i) (j.0.1 i)
 
-placed_stands : (z : ContextModel) (e : ℕ × ℕ) (x : EntryTerm) (fs : Entries) (ys : List EntryTerm) → EntryStands z e x → Each EntryStands z fs ys → Each EntryStands z (placed_among z.names e fs) (put_among key_before x ys)
+placed_stands : (z : ContextModel) (e : ℕ × ℕ) (x : EntryTerm) (fs : Entries) (ys : List EntryTerm) → EntryDenotes z e x → Each EntryDenotes z fs ys → Each EntryDenotes z (placed_among z.names e fs) (insert_sorted key_before x ys)
 placed_stands z e x [] [] h all = (h, tt)
 placed_stands z e x [] (y ∷ ys) h all = absurd all
 placed_stands z e x (f ∷ fs) [] h all = absurd all
 placed_stands z e x (f ∷ fs) (y ∷ ys) h all = by_test (placed_stands z e x fs ys h all.1) (comes_before z.names e f) (key_before x.0 y.0) (same_order z e f x y h all.0)
   where
-    by_test : Each EntryStands z (placed_among z.names e fs) (put_among key_before x ys) → (b c : Bool) → b ≡ c → Each EntryStands z (if b then e ∷ f ∷ fs else f ∷ placed_among z.names e fs) (if c then x ∷ y ∷ ys else y ∷ put_among key_before x ys)
+    by_test : Each EntryDenotes z (placed_among z.names e fs) (insert_sorted key_before x ys) → (b c : Bool) → b ≡ c → Each EntryDenotes z (if b then e ∷ f ∷ fs else f ∷ placed_among z.names e fs) (if c then x ∷ y ∷ ys else y ∷ insert_sorted key_before x ys)
     by_test rest true true same = (h, all)
     by_test rest true false same = absurd (true≢false same)
     by_test rest false true same = absurd (true≢false (sym same))
     by_test rest false false same = (all.0, rest)
 
-sorted_stands : (z : ContextModel) (es : Entries) (ys : List EntryTerm) → Each EntryStands z es ys → Each EntryStands z (sorted z.names es) (in_order key_before ys)
+sorted_stands : (z : ContextModel) (es : Entries) (ys : List EntryTerm) → Each EntryDenotes z es ys → Each EntryDenotes z (sorted z.names es) (in_order key_before ys)
 sorted_stands z [] [] all = tt
 sorted_stands z [] (y ∷ ys) all = absurd all
 sorted_stands z (e ∷ es) [] all = absurd all
@@ -109,44 +109,44 @@ sorted_stands z (e ∷ es) (y ∷ ys) all = placed_stands z e y (sorted z.names 
 
 -- ---- nodes
 
-entries_term : (z : ContextModel) (es : Entries) (ys : List EntryTerm) → Each EntryStands z es ys → terms.entries_at z.names (attr_terms z) es ≡ entries_of ys
+entries_term : (z : ContextModel) (es : Entries) (ys : List EntryTerm) → Each EntryDenotes z es ys → terms.entries_at z.names (attr_terms z) es ≡ entries_of ys
 entries_term z [] [] all = refl
 entries_term z [] (y ∷ ys) all = absurd all
 entries_term z (e ∷ es) [] all = absurd all
 entries_term z (e ∷ es) (y ∷ ys) all = λ i. next_entry (all.0.0.1 i) (all.0.1.1 i) (entries_term z es ys all.1 i)
 
-keys_below : (z : ContextModel) (es : Entries) (ys : List EntryTerm) → Each EntryStands z es ys → AllByRecursion (λ (e : ℕ × ℕ). e.0 < length z.names) es
+keys_below : (z : ContextModel) (es : Entries) (ys : List EntryTerm) → Each EntryDenotes z es ys → AllByRecursion (λ (e : ℕ × ℕ). e.0 < length z.names) es
 keys_below z [] [] all = tt
 keys_below z [] (y ∷ ys) all = absurd all
 keys_below z (e ∷ es) [] all = absurd all
 keys_below z (e ∷ es) (y ∷ ys) all = (all.0.0.0, keys_below z es ys all.1)
 
-values_below : (z : ContextModel) (es : Entries) (ys : List EntryTerm) → Each EntryStands z es ys → AllByRecursion (λ (e : ℕ × ℕ). e.1 < length z.attrs) es
+values_below : (z : ContextModel) (es : Entries) (ys : List EntryTerm) → Each EntryDenotes z es ys → AllByRecursion (λ (e : ℕ × ℕ). e.1 < length z.attrs) es
 values_below z [] [] all = tt
 values_below z [] (y ∷ ys) all = absurd all
 values_below z (e ∷ es) [] all = absurd all
 values_below z (e ∷ es) (y ∷ ys) all = (all.0.1.0, values_below z es ys all.1)
 
-dictionary_node : (z : ContextModel) (es : Entries) (ys : List EntryTerm) → Each EntryStands z es ys → IsNodeOf (attr.Dict es) (Dictionary (entries_of (in_order key_before ys))) z
+dictionary_node : (z : ContextModel) (es : Entries) (ys : List EntryTerm) → Each EntryDenotes z es ys → IsNodeOf (attr.Dict es) (Dictionary (entries_of (in_order key_before ys))) z
 unfolding kept
 dictionary_node z es ys all = (
   (All-from_recursion (λ (e : ℕ × ℕ). e.0 < length z.names) es (keys_below z es ys all), All-from_recursion (λ (e : ℕ × ℕ). e.1 < length z.attrs) es (values_below z es ys all)),
   ap Dictionary (entries_term z (sorted z.names es) (in_order key_before ys) (sorted_stands z es ys all)),
 )
 
-attrs_below : (z : ContextModel) (xs : List ℕ) (ys : List AttrTerm) → Each AttrStands z xs ys → AllByRecursion (λ a. a < length z.attrs) xs
+attrs_below : (z : ContextModel) (xs : List ℕ) (ys : List AttrTerm) → Each AttrDenotes z xs ys → AllByRecursion (λ a. a < length z.attrs) xs
 attrs_below z [] [] all = tt
 attrs_below z [] (y ∷ ys) all = absurd all
 attrs_below z (x ∷ xs) [] all = absurd all
 attrs_below z (x ∷ xs) (y ∷ ys) all = (all.0.0, attrs_below z xs ys all.1)
 
-attrs_term : (z : ContextModel) (xs : List ℕ) (ys : List AttrTerm) → Each AttrStands z xs ys → attrs_at (attr_terms z) xs ≡ attrs_of ys
+attrs_term : (z : ContextModel) (xs : List ℕ) (ys : List AttrTerm) → Each AttrDenotes z xs ys → attrs_at (attr_terms z) xs ≡ attrs_of ys
 attrs_term z [] [] all = refl
 attrs_term z [] (y ∷ ys) all = absurd all
 attrs_term z (x ∷ xs) [] all = absurd all
 attrs_term z (x ∷ xs) (y ∷ ys) all = λ i. next_attr (all.0.1 i) (attrs_term z xs ys all.1 i)
 
-array_node : (z : ContextModel) (xs : List ℕ) (ys : List AttrTerm) → Each AttrStands z xs ys → IsNodeOf (attr.Array xs) (Array (attrs_of ys)) z
+array_node : (z : ContextModel) (xs : List ℕ) (ys : List AttrTerm) → Each AttrDenotes z xs ys → IsNodeOf (attr.Array xs) (Array (attrs_of ys)) z
 unfolding kept
 array_node z xs ys all = (All-from_recursion (λ a. a < length z.attrs) xs (attrs_below z xs ys all), ap Array (attrs_term z xs ys all))
 
@@ -232,56 +232,56 @@ module _ (depth : ℕ) (p : Parse Typed ℕ) where
 
 -- ---- values and entries
 
-unit_value_exact : (depth : ℕ) (c : ContextModel) → Exact things Same c AttrStands (unit_value_at depth) (IsUnitValue depth)
+unit_value_exact : (depth : ℕ) (c : ContextModel) → Exact things Same c AttrDenotes (unit_value_at depth) (IsUnitValue depth)
 unfolding unit_value_at
 unit_value_exact zero c = zero_exact c
 unit_value_exact (suc depth) c = attr_done_exact c attr.Unit Flag (refl, refl) (λ z k w. unit_node z)
 
-module _ (depth : ℕ) (p : Parse Typed ℕ) (P : Grammar Text AttrTerm) (item : (c : ContextModel) → Exact things Same c AttrStands p P) where
-  pub value_exact : (c : ContextModel) → Exact things Same c AttrStands (value_by depth p) (IsValue depth P)
+module _ (depth : ℕ) (p : Parse Typed ℕ) (P : Grammar Text AttrTerm) (item : (c : ContextModel) → Exact things Same c AttrDenotes p P) where
+  pub value_exact : (c : ContextModel) → Exact things Same c AttrDenotes (value_by depth p) (IsValue depth P)
   unfolding value_by
   value_exact c =
-      either_exact things Same after_typed IsMark typed_marks c AttrStands Equal (value_from depth p) p (unit_value_at depth) P (IsUnitValue depth) (λ s mid. refl) (λ s. refl) (item c) (unit_value_exact depth c)
+      either_exact things Same after_typed IsMark typed_marks c AttrDenotes Equal (value_from depth p) p (unit_value_at depth) P (IsUnitValue depth) (λ s mid. refl) (λ s. refl) (item c) (unit_value_exact depth c)
 
-  module _ (d : ContextModel) (k : ℕ) (y : List ℕ) (stands : From (λ z. NameStands z k y) d) where
-    free_exact : (b : Bool) → Exact things Same d EntryStands (λ s. with_value k (if b then Wrong else value_by depth p s)) (When (b ≡ false) (Then (IsValue depth P) (λ a. Done (y, a))))
+  module _ (d : ContextModel) (k : ℕ) (y : List ℕ) (stands : From (λ z. NameDenotes z k y) d) where
+    free_exact : (b : Bool) → Exact things Same d EntryDenotes (λ s. with_value k (if b then Wrong else value_by depth p s)) (When (b ≡ false) (Then (IsValue depth P) (λ a. Done (y, a))))
     free_exact true =
-        exact_rendered things Same d EntryStands (λ s. Wrong) (λ v old new. ⊥) (When (true ≡ false) (Then (IsValue depth P) (λ a. Done (y, a)))) (λ v t t' e. absurd e) (λ v t t' e. absurd (true≢false e.0))
-        (nothing_exact things Same d EntryStands)
+        exact_rendered things Same d EntryDenotes (λ s. Wrong) (λ v old new. ⊥) (When (true ≡ false) (Then (IsValue depth P) (λ a. Done (y, a)))) (λ v t t' e. absurd e) (λ v t t' e. absurd (true≢false e.0))
+        (nothing_exact things Same d EntryDenotes)
     free_exact false =
-        exact_rendered things Same d EntryStands (λ s. with_value k (value_by depth p s)) (Then (IsValue depth P) (λ a. Done (y, a))) (When (false ≡ false) (Then (IsValue depth P) (λ a. Done (y, a)))) (λ v t t' e. (refl, e)) (λ v t t' e. e.1)
-        (then_exact things Same d AttrStands EntryStands (value_by depth p) (IsValue depth P) (λ a s. Read ((k, a), s)) (λ a. Done (y, a)) (value_exact d) (λ e a v g r.
-        done_exact things Same e EntryStands (k, a) (y, v) (λ z j w. (stands z (grows_trans d e z g j) w, r z j w))))
+        exact_rendered things Same d EntryDenotes (λ s. with_value k (value_by depth p s)) (Then (IsValue depth P) (λ a. Done (y, a))) (When (false ≡ false) (Then (IsValue depth P) (λ a. Done (y, a)))) (λ v t t' e. (refl, e)) (λ v t t' e. e.1)
+        (then_exact things Same d AttrDenotes EntryDenotes (value_by depth p) (IsValue depth P) (λ a s. Read ((k, a), s)) (λ a. Done (y, a)) (value_exact d) (λ e a v g r.
+        done_exact things Same e EntryDenotes (k, a) (y, v) (λ z j w. (stands z (grows_trans d e z g j) w, r z j w))))
 
-  entry_exact : (c : ContextModel) (es : Entries) (fs : List EntryTerm) → From (λ z. Each EntryStands z es fs) c → Exact things Same c EntryStands (entry_by depth p es) (IsEntry depth P fs)
+  entry_exact : (c : ContextModel) (es : Entries) (fs : List EntryTerm) → From (λ z. Each EntryDenotes z es fs) c → Exact things Same c EntryDenotes (entry_by depth p es) (IsEntry depth P fs)
   unfolding entry_by
   entry_exact c es fs preceding =
-      then_exact things Same c NameStands EntryStands key_at IsKey (λ k s. with_value k (if has_key nat_eq k es then Wrong else value_by depth p s)) (λ y. When (has_key bytes_eq y fs ≡ false) (Then (IsValue depth P) (λ a. Done (y, a))))
+      then_exact things Same c NameDenotes EntryDenotes key_at IsKey (λ k s. with_value k (if has_key nat_eq k es then Wrong else value_by depth p s)) (λ y. When (has_key bytes_eq y fs ≡ false) (Then (IsValue depth P) (λ a. Done (y, a))))
       (key_exact c) (λ d k y g r.
-      exact_where things Same d EntryStands (λ s. with_value k (if has_key nat_eq k es then Wrong else value_by depth p s)) (λ s. with_value k (if has_key bytes_eq y fs then Wrong else value_by depth p s)) (When (has_key bytes_eq y fs ≡ false) (Then (IsValue depth P) (λ a. Done (y, a))))
+      exact_where things Same d EntryDenotes (λ s. with_value k (if has_key nat_eq k es then Wrong else value_by depth p s)) (λ s. with_value k (if has_key bytes_eq y fs then Wrong else value_by depth p s)) (When (has_key bytes_eq y fs ≡ false) (Then (IsValue depth P) (λ a. Done (y, a))))
       (λ s h sound. ap (λ t. with_value k (if t then Wrong else value_by depth p s)) (known_same s.1 sound k y es fs (r s.1 h sound) (preceding s.1 (grows_trans c d s.1 g h) sound)))
       (free_exact d k y r (has_key bytes_eq y fs)))
 
-  entries_exact : (c : ContextModel) → Exact things Same c (Each EntryStands) (entries_by depth p) (IsList IsMark CloseCurly (IsEntry depth P) 256)
+  entries_exact : (c : ContextModel) → Exact things Same c (Each EntryDenotes) (entries_by depth p) (IsList IsMark CloseCurly (IsEntry depth P) 256)
   unfolding entries_by
-  entries_exact c = list_exact things Same after_typed IsMark typed_marks EntryStands CloseCurly (entry_by depth p) (IsEntry depth P) entry_exact 256 c
+  entries_exact c = list_exact things Same after_typed IsMark typed_marks EntryDenotes CloseCurly (entry_by depth p) (IsEntry depth P) entry_exact 256 c
 
-  pub dictionary_exact : (c : ContextModel) → Exact things Same c AttrStands (dictionary_by depth p) (IsDictionary depth P)
+  pub dictionary_exact : (c : ContextModel) → Exact things Same c AttrDenotes (dictionary_by depth p) (IsDictionary depth P)
   unfolding dictionary_by IsDictionary
   dictionary_exact c =
-      then_exact things Same c (λ z x y. Each EntryStands z x y × IsAllowed (attr.Dict x)) AttrStands (entries_by depth p) (IsList IsMark CloseCurly (IsEntry depth P) 256) (λ es. attr_done (attr.Dict es)) (λ ys. IsFine (Dictionary (entries_of (in_order key_before ys))))
-      (exact_read c (Each EntryStands) (entries_by depth p) (IsList IsMark CloseCurly (IsEntry depth P) 256) (λ es. IsAllowed (attr.Dict es)) (entries_allowed depth p) (entries_exact c)) (λ d es ys g r.
-      exact_given d AttrStands (attr_done (attr.Dict es)) (IsFine (Dictionary (entries_of (in_order key_before ys)))) (λ z k sound.
+      then_exact things Same c (λ z x y. Each EntryDenotes z x y × IsAllowed (attr.Dict x)) AttrDenotes (entries_by depth p) (IsList IsMark CloseCurly (IsEntry depth P) 256) (λ es. attr_done (attr.Dict es)) (λ ys. IsFine (Dictionary (entries_of (in_order key_before ys))))
+      (exact_read c (Each EntryDenotes) (entries_by depth p) (IsList IsMark CloseCurly (IsEntry depth P) 256) (λ es. IsAllowed (attr.Dict es)) (entries_allowed depth p) (entries_exact c)) (λ d es ys g r.
+      exact_given d AttrDenotes (attr_done (attr.Dict es)) (IsFine (Dictionary (entries_of (in_order key_before ys)))) (λ z k sound.
       attr_done_exact z (attr.Dict es) (Dictionary (entries_of (in_order key_before ys))) (r z k sound).1 (λ z' k' w. dictionary_node z' es ys (r z' (grows_trans d z z' k k') w).0)))
 
-  attrs_exact : (c : ContextModel) → Exact things Same c (Each AttrStands) (attrs_by depth p) (IsList IsMark CloseSquare (λ before. P) many)
+  attrs_exact : (c : ContextModel) → Exact things Same c (Each AttrDenotes) (attrs_by depth p) (IsList IsMark CloseSquare (λ before. P) many)
   unfolding attrs_by
-  attrs_exact c = list_exact things Same after_typed IsMark typed_marks AttrStands CloseSquare (λ before. p) (λ before. P) (λ d xs ys r. item d) many c
+  attrs_exact c = list_exact things Same after_typed IsMark typed_marks AttrDenotes CloseSquare (λ before. p) (λ before. P) (λ d xs ys r. item d) many c
 
-  pub array_exact : (c : ContextModel) → Exact things Same c AttrStands (array_by depth p) (IsArray depth P)
+  pub array_exact : (c : ContextModel) → Exact things Same c AttrDenotes (array_by depth p) (IsArray depth P)
   unfolding array_by IsArray
   array_exact c =
-      then_exact things Same c (Each AttrStands) AttrStands (attrs_by depth p) (IsList IsMark CloseSquare (λ before. P) many) (λ xs. attr_done (attr.Array xs)) (λ ys. IsFine (Array (attrs_of ys))) (attrs_exact c) (λ d xs ys g r.
+      then_exact things Same c (Each AttrDenotes) AttrDenotes (attrs_by depth p) (IsList IsMark CloseSquare (λ before. P) many) (λ xs. attr_done (attr.Array xs)) (λ ys. IsFine (Array (attrs_of ys))) (attrs_exact c) (λ d xs ys g r.
       attr_done_exact d (attr.Array xs) (Array (attrs_of ys)) (refl, refl) (λ z k w. array_node z xs ys (r z k w)))
 
   -- the entries that are parsed are entries of the grown context

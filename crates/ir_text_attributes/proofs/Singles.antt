@@ -13,7 +13,7 @@ use Rattle.ir_text_types.specs.declared.error.ReadError.TheVariants as errors
 use Rattle.ir_text_types.specs.Grammars.{IsMark}
 use Rattle.ir_text_types.specs.Marks.{after}
 use Rattle.ir_text_types.specs.Outcomes.{Outcome, Read, Wrong, Full, ◌>>=◌, of_option, Fails}
-use Rattle.ir_text_types.specs.Standing.{AttrStands}
+use Rattle.ir_text_types.specs.Denotation.{AttrDenotes}
 use Rattle.ir_text_types.specs.Typed.{Typed}
 use Rattle.ir_text_types.proofs.TextLaws.{after_found, after_only}
 use Rattle.ir_text_types.proofs.Worlds.{bind_read, option_read}
@@ -55,7 +55,7 @@ module _ (o : Bool) (bytes : List ℕ) (c : ContextModel) (sound : IsSound c) wh
   unfolding IsSingleAttr
   none_wrong e y h = ⊎_elim
       (λ (f : attr_at o 32 (bytes, c) ≡ Full). absurd cc)
-      (λ (f : (n : ℕ) × (d : ContextModel) × (attr_at o 32 (bytes, c) ≡ Read (n, (h.0, d))) × IsExtendedBy c d × IsSound d × AttrStands d n y). let g = f.2 in absurd cc)
+      (λ (f : (n : ℕ) × (d : ContextModel) × (attr_at o 32 (bytes, c) ≡ Read (n, (h.0, d))) × IsExtendedBy c d × IsSound d × AttrDenotes d n y). let g = f.2 in absurd cc)
       (attr_rendered o 32 c bytes h.0 y sound h.2)
 
   abbrev told : ℕ → ContextModel → List ℕ → Outcome (ℕ × ContextModel)

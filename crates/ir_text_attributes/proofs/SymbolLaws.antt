@@ -16,7 +16,7 @@ use Rattle.ir_text_types.specs.Typed.{Text, after_typed}
 use Rattle.ir_text_types.specs.TypeReading.{many}
 use Rattle.ir_text_types.specs.Grammars.{Grammar, Then, Done, Either, Not, IsMark, Token}
 use Rattle.ir_text_types.specs.Worlds.{From}
-use Rattle.ir_text_types.specs.Standing.{NameStands, AttrStands}
+use Rattle.ir_text_types.specs.Denotation.{NameDenotes, AttrDenotes}
 use Rattle.ir_text_types.specs.Laws.{Each}
 use Rattle.ir_text_types.proofs.Worlds.{Exact, exact_rendered, nothing_exact, then_exact, done_exact, either_exact, each_push}
 use Rattle.ir_text_types.proofs.TextLaws.{things, Same, typed_marks}
@@ -30,10 +30,10 @@ PartFrom (symbol n) rest y old new = Done n y rest new
 PartFrom (quoted raw) rest y old new = Done (string_bytes raw) y rest new
 PartFrom _ rest y old new = ⊥
 
-part_from_exact : (c : ContextModel) (l : Lexeme) (rest : Text) → Exact things Same c NameStands (λ s. part_from s.1 l rest) (PartFrom l rest)
-part_from_exact c (symbol n) rest = trailing_exact c NameStands rest (name_done n) (Done n) (name_done_exact c n)
-part_from_exact c (quoted raw) rest = trailing_exact c NameStands rest (name_done (string_bytes raw)) (Done (string_bytes raw)) (name_done_exact c (string_bytes raw))
-part_from_exact c _ rest = nothing_exact things Same c NameStands
+part_from_exact : (c : ContextModel) (l : Lexeme) (rest : Text) → Exact things Same c NameDenotes (λ s. part_from s.1 l rest) (PartFrom l rest)
+part_from_exact c (symbol n) rest = trailing_exact c NameDenotes rest (name_done n) (Done n) (name_done_exact c n)
+part_from_exact c (quoted raw) rest = trailing_exact c NameDenotes rest (name_done (string_bytes raw)) (Done (string_bytes raw)) (name_done_exact c (string_bytes raw))
+part_from_exact c _ rest = nothing_exact things Same c NameDenotes
 
 part_into : (y : List ℕ) (t t' : Text) → (l : Lexeme) × (rest : Text) × Token l t rest × PartFrom l rest y t t' → IsPart y t t'
 part_into y t t' k = by_token k.0 k.1 k.2 k.3
@@ -47,11 +47,11 @@ part_back : (y : List ℕ) (t t' : Text) → IsPart y t t' → (l : Lexeme) × (
 part_back y t t' (inl k) = (symbol y, t', k, (refl, refl))
 part_back y t t' (inr k) = (quoted k.0, t', k.1, (k.2, refl))
 
-part_exact : (c : ContextModel) → Exact things Same c NameStands part_at IsPart
+part_exact : (c : ContextModel) → Exact things Same c NameDenotes part_at IsPart
 unfolding part_at
 part_exact c =
-    exact_rendered things Same c NameStands part_at (λ y old new. (l : Lexeme) × (rest : Text) × Token l old rest × PartFrom l rest y old new) IsPart part_into part_back
-    (token_exact c NameStands (λ s l rest. part_from s.1 l rest) PartFrom (part_from_exact c))
+    exact_rendered things Same c NameDenotes part_at (λ y old new. (l : Lexeme) × (rest : Text) × Token l old rest × PartFrom l rest y old new) IsPart part_into part_back
+    (token_exact c NameDenotes (λ s l rest. part_from s.1 l rest) PartFrom (part_from_exact c))
 
 -- ---- parts
 
@@ -77,37 +77,37 @@ parts_back headroom preceding ys t t' k = (k.0, k.1, k.2, by_case k.3)
     by_case (inl j) = inr (j.0, (j.1, j.2))
     by_case (inr j) = inl j
 
-pub parts_exact : (headroom : ℕ) (c : ContextModel) (ns : List ℕ) (ys : List (List ℕ)) → From (λ z. Each NameStands z ns ys) c → Exact things Same c (Each NameStands) (parts_at headroom ns) (IsParts headroom ys)
+pub parts_exact : (headroom : ℕ) (c : ContextModel) (ns : List ℕ) (ys : List (List ℕ)) → From (λ z. Each NameDenotes z ns ys) c → Exact things Same c (Each NameDenotes) (parts_at headroom ns) (IsParts headroom ys)
 unfolding parts_at IsParts
-parts_exact zero c ns ys r = nothing_exact things Same c (Each NameStands)
+parts_exact zero c ns ys r = nothing_exact things Same c (Each NameDenotes)
 parts_exact (suc headroom) c ns ys r =
-    exact_rendered things Same c (Each NameStands) (λ s. part_at s >>= λ x. parts_from (parts_at headroom (ns ++ x.0 ∷ [])) (ns ++ x.0 ∷ []) x.1 (after_typed DoubleColon x.1)) (Then IsPart (λ n. More headroom (ys ++ n ∷ []))) (IsParts (suc headroom) ys)
+    exact_rendered things Same c (Each NameDenotes) (λ s. part_at s >>= λ x. parts_from (parts_at headroom (ns ++ x.0 ∷ [])) (ns ++ x.0 ∷ []) x.1 (after_typed DoubleColon x.1)) (Then IsPart (λ n. More headroom (ys ++ n ∷ []))) (IsParts (suc headroom) ys)
     (parts_into headroom ys) (parts_back headroom ys)
-    (then_exact things Same c NameStands (Each NameStands) part_at IsPart (λ x s. parts_from (parts_at headroom (ns ++ x ∷ [])) (ns ++ x ∷ []) s (after_typed DoubleColon s)) (λ n. More headroom (ys ++ n ∷ [])) (part_exact c) (λ d x y g h.
-    let preceding : From (λ z. Each NameStands z (ns ++ x ∷ []) (ys ++ y ∷ [])) d = λ z k w. each_push things Same after_typed IsMark typed_marks NameStands z ns ys x y (r z (grows_trans c d z g k) w) (h z k w) in
-    either_exact things Same after_typed IsMark typed_marks d (Each NameStands) DoubleColon (parts_from (parts_at headroom (ns ++ x ∷ [])) (ns ++ x ∷ [])) (parts_at headroom (ns ++ x ∷ [])) (λ s. Read (ns ++ x ∷ [], s)) (IsParts headroom (ys ++ y ∷ [])) (Done (ys ++ y ∷ []))
-    (λ s mid. refl) (λ s. refl) (parts_exact headroom d (ns ++ x ∷ []) (ys ++ y ∷ []) preceding) (done_exact things Same d (Each NameStands) (ns ++ x ∷ []) (ys ++ y ∷ []) preceding)))
+    (then_exact things Same c NameDenotes (Each NameDenotes) part_at IsPart (λ x s. parts_from (parts_at headroom (ns ++ x ∷ [])) (ns ++ x ∷ []) s (after_typed DoubleColon s)) (λ n. More headroom (ys ++ n ∷ [])) (part_exact c) (λ d x y g h.
+    let preceding : From (λ z. Each NameDenotes z (ns ++ x ∷ []) (ys ++ y ∷ [])) d = λ z k w. each_push things Same after_typed IsMark typed_marks NameDenotes z ns ys x y (r z (grows_trans c d z g k) w) (h z k w) in
+    either_exact things Same after_typed IsMark typed_marks d (Each NameDenotes) DoubleColon (parts_from (parts_at headroom (ns ++ x ∷ [])) (ns ++ x ∷ [])) (parts_at headroom (ns ++ x ∷ [])) (λ s. Read (ns ++ x ∷ [], s)) (IsParts headroom (ys ++ y ∷ [])) (Done (ys ++ y ∷ []))
+    (λ s mid. refl) (λ s. refl) (parts_exact headroom d (ns ++ x ∷ []) (ys ++ y ∷ []) preceding) (done_exact things Same d (Each NameDenotes) (ns ++ x ∷ []) (ys ++ y ∷ []) preceding)))
 
-names_below : (z : ContextModel) (ns : List ℕ) (ys : List (List ℕ)) → Each NameStands z ns ys → AllByRecursion (λ n. n < length z.names) ns
+names_below : (z : ContextModel) (ns : List ℕ) (ys : List (List ℕ)) → Each NameDenotes z ns ys → AllByRecursion (λ n. n < length z.names) ns
 names_below z [] [] h = tt
 names_below z [] (y ∷ ys) h = absurd h
 names_below z (n ∷ ns) [] h = absurd h
 names_below z (n ∷ ns) (y ∷ ys) h = (h.0.0, names_below z ns ys h.1)
 
-names_term : (z : ContextModel) (ns : List ℕ) (ys : List (List ℕ)) → Each NameStands z ns ys → map (λ n. slice_index_or z.names n []) ns ≡ ys
+names_term : (z : ContextModel) (ns : List ℕ) (ys : List (List ℕ)) → Each NameDenotes z ns ys → map (λ n. slice_index_or z.names n []) ns ≡ ys
 names_term z [] [] h = refl
 names_term z [] (y ∷ ys) h = absurd h
 names_term z (n ∷ ns) [] h = absurd h
 names_term z (n ∷ ns) (y ∷ ys) h = λ i. h.0.1 i ∷ names_term z ns ys h.1 i
 
-symbol_node : (z : ContextModel) (ns : List ℕ) (ys : List (List ℕ)) → Each NameStands z ns ys → IsNodeOf (attr.Sym ns) (Symbol ys) z
+symbol_node : (z : ContextModel) (ns : List ℕ) (ys : List (List ℕ)) → Each NameDenotes z ns ys → IsNodeOf (attr.Sym ns) (Symbol ys) z
 unfolding kept
 symbol_node z ns ys h = (All-from_recursion (λ n. n < length z.names) ns (names_below z ns ys h), ap Symbol (names_term z ns ys h))
 
-pub symbol_exact : (c : ContextModel) → Exact things Same c AttrStands symbol_attr_at IsSymbol
+pub symbol_exact : (c : ContextModel) → Exact things Same c AttrDenotes symbol_attr_at IsSymbol
 unfolding symbol_attr_at
 symbol_exact c =
-    then_exact things Same c (Each NameStands) AttrStands (parts_at many []) (IsParts many []) (λ ns. attr_done (attr.Sym ns)) (λ ys. IsFine (Symbol ys)) (parts_exact many c [] [] (λ z g w. tt)) (λ d ns ys g r.
+    then_exact things Same c (Each NameDenotes) AttrDenotes (parts_at many []) (IsParts many []) (λ ns. attr_done (attr.Sym ns)) (λ ys. IsFine (Symbol ys)) (parts_exact many c [] [] (λ z g w. tt)) (λ d ns ys g r.
     attr_done_exact d (attr.Sym ns) (Symbol ys) (refl, refl) (λ z k w. symbol_node z ns ys (r z k w)))
 
 -- the parts that are parsed are names of the grown context

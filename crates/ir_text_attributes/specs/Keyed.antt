@@ -11,18 +11,18 @@ module _ {K A : Type 0} (same : K → K → Bool) where
 
 module _ {K A : Type 0} (before : K → K → Bool) where
   -- inserts an entry into a sorted list, before the first entry with a greater key
-  abbrev pub put_among : K × A → List (K × A) → List (K × A)
-  put_among e [] = e ∷ []
-  put_among e (f ∷ fs) = if before e.0 f.0 then e ∷ f ∷ fs else f ∷ put_among e fs
+  abbrev pub insert_sorted : K × A → List (K × A) → List (K × A)
+  insert_sorted e [] = e ∷ []
+  insert_sorted e (f ∷ fs) = if before e.0 f.0 then e ∷ f ∷ fs else f ∷ insert_sorted e fs
 
   -- inserts entries into a sorted list, the last one first
-  abbrev pub put_all : List (K × A) → List (K × A) → List (K × A)
-  put_all done [] = done
-  put_all done (e ∷ es) = put_among e (put_all done es)
+  abbrev pub insert_entries : List (K × A) → List (K × A) → List (K × A)
+  insert_entries done [] = done
+  insert_entries done (e ∷ es) = insert_sorted e (insert_entries done es)
 
   -- the entries sorted by their keys
   abbrev pub in_order : List (K × A) → List (K × A)
-  in_order es = put_all [] es
+  in_order es = insert_entries [] es
 
 -- the specification of in_order: the result is a permutation of the entries; if their keys are distinct, they rise
 -- byte by byte

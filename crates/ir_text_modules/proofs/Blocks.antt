@@ -17,7 +17,7 @@ use Rattle.ir_text_tokens.specs.Scopes.{Scopes, find, bound}
 use Rattle.ir_text_tokens.proofs.Printed.{mark_token, value_token, blank_passed}
 use Rattle.ir_text_types.specs.Grammars.{Not, IsMore, IsMark, Token}
 use Rattle.ir_text_types.specs.TypeGrammar.{IsType}
-use Rattle.ir_text_operations.specs.Seen.{PackTerm, Seen, seen_rest, IsMarkSeen}
+use Rattle.ir_text_operations.specs.ParseState.{PackTerm, ParseState, state_with_rest, IsMarkToken}
 use Rattle.ir_text_operations.specs.OpGrammar.{IsArg}
 use Rattle.ir_text.specs.Naming.{source_of}
 use Rattle.ir_text.specs.Printing.{argument_text}
@@ -47,10 +47,10 @@ blanks_deeper (c ∷ cs) h = (h.0, blanks_deeper cs h.1)
 
 -- ---- punctuation marks in a state
 
-pub mark_seen : (m : Mark) (s : Seen) (rest : List ℕ) → Token (mark m) s.bytes rest → IsMarkSeen m s (seen_rest s rest)
+pub mark_seen : (m : Mark) (s : ParseState) (rest : List ℕ) → Token (mark m) s.bytes rest → IsMarkToken m s (state_with_rest s rest)
 mark_seen m s rest h = (rest, h, refl)
 
-pub not_seen : (m : Mark) (s : Seen) → Not IsMark m s.bytes → Not IsMarkSeen m s
+pub not_seen : (m : Mark) (s : ParseState) → Not IsMark m s.bytes → Not IsMarkToken m s
 not_seen m s h = λ new k. h k.0 k.1
 
 -- ---- one argument
@@ -61,10 +61,10 @@ argument_pack id r k t = record { value = Arg id r k; type = t } ∷ []
 abbrev pub with_argument : ℕ → ℕ → ℕ → ℕ → TypeTerm → Scopes PackTerm → Scopes PackTerm
 with_argument id r k m t s = bound (argument_word m) (argument_pack id r k t) s
 
-abbrev after_argument : ℕ → ℕ → ℕ → ℕ → TypeTerm → Seen → List ℕ → Seen
+abbrev after_argument : ℕ → ℕ → ℕ → ℕ → TypeTerm → ParseState → List ℕ → ParseState
 after_argument id r k m t s rest = record { bytes = rest; scopes = with_argument id r k m t s.scopes; next = s.next }
 
-argument_read : (o : Bool) (id r : ℕ) (before : List TypeTerm) (m : ℕ) (t : TypeTerm) (s : Seen) (c : ℕ) (rest : List ℕ) → m < 2 ^ 128 → FitsType o 32 t → (c ≡ 44) ⊎ (c ≡ 41) → find (argument_word m) s.scopes.here ≡ None
+argument_read : (o : Bool) (id r : ℕ) (before : List TypeTerm) (m : ℕ) (t : TypeTerm) (s : ParseState) (c : ℕ) (rest : List ℕ) → m < 2 ^ 128 → FitsType o 32 t → (c ≡ 44) ⊎ (c ≡ 41) → find (argument_word m) s.scopes.here ≡ None
     → next_token s.bytes ≡ next_token (argument_text m t ++ c ∷ rest) → IsArg o id r before t s (after_argument id r (length before) m t s (c ∷ rest))
 argument_read o id r before m t s c rest lt fit ends fresh e =
     let typed = type_text t ++ c ∷ rest in
@@ -72,7 +72,7 @@ argument_read o id r before m t s c rest lt fit ends fresh e =
     let apart : argument_text m t ++ c ∷ rest ≡ 37 ∷ (argument_word m ++ back) = ap (λ (l : List ℕ). 37 ∷ 97 ∷ 114 ∷ 103 ∷ l) (append_assoc (decimal m) (58 ∷ 32 ∷ type_text t) (c ∷ rest)) in
     let name : Token (value (argument_word m)) s.bytes back = e ∙ ap next_token apart ∙ value_token (argument_word m) back (argument_name m lt) refl in
     let type : IsType o 32 t (32 ∷ typed) (c ∷ rest) = space (IsType o 32) (type_ahead o 32) t typed (c ∷ rest) (rendered c ends) in
-    (argument_word m, seen_rest s back, (back, name, refl), (seen_rest s (32 ∷ typed), mark_seen Colon (seen_rest s back) (32 ∷ typed) (mark_token Colon (32 ∷ typed) refl), (t, seen_rest s (c ∷ rest), (c ∷ rest, type, refl), (with_argument id r (length before) m t s.scopes, (fresh, refl), refl, refl))))
+    (argument_word m, state_with_rest s back, (back, name, refl), (state_with_rest s (32 ∷ typed), mark_seen Colon (state_with_rest s back) (32 ∷ typed) (mark_token Colon (32 ∷ typed) refl), (t, state_with_rest s (c ∷ rest), (c ∷ rest, type, refl), (with_argument id r (length before) m t s.scopes, (fresh, refl), refl, refl))))
   where
     rendered : (c : ℕ) → (c ≡ 44) ⊎ (c ≡ 41) → IsType o 32 t (type_text t ++ c ∷ rest) (c ∷ rest)
     rendered c (inl k) = subst (λ (d : ℕ). IsType o 32 t (type_text t ++ d ∷ rest) (d ∷ rest)) (sym k) (type_again o 32 (omega arith) t (44 ∷ rest) fit.0 fit.1 (comma_ends o rest))
@@ -82,13 +82,13 @@ argument_read o id r before m t s c rest lt fit ends fresh e =
 
 module _ (o : Bool) (f : ℕ → ℕ) (scope : List Frame) (x r : ℕ) (away : (v : Value) → in_scope scope v ≡ true → (source_id (source_of v) == x) ≡ false) where
   -- the state after the arguments from index k on
-  pub record ArgumentsRead (headroom : ℕ) (preceding : List TypeTerm) (t : TypeTerm) (ts : List TypeTerm) (n : Names) (s : Seen) (rest : List ℕ) : Type 0 where
+  pub record ArgumentsRead (headroom : ℕ) (preceding : List TypeTerm) (t : TypeTerm) (ts : List TypeTerm) (n : Names) (s : ParseState) (rest : List ℕ) : Type 0 where
     pub scopes : Scopes PackTerm
-    pub reads : IsMore IsMarkSeen CloseRound (IsArg o (f x) r) headroom preceding (preceding ++ t ∷ ts) s (record { bytes = rest; scopes = scopes; next = s.next })
+    pub reads : IsMore IsMarkToken CloseRound (IsArg o (f x) r) headroom preceding (preceding ++ t ∷ ts) s (record { bytes = rest; scopes = scopes; next = s.next })
     pub joined : Joined o f (scope ++ arguments x r (length preceding + length (t ∷ ts)) ∷ []) (arguments_names x r (length preceding) (t ∷ ts) n) scopes.here
     pub outer : scopes.outer ≡ s.scopes.outer
 
-  pub arguments_more : (headroom : ℕ) (preceding : List TypeTerm) (t : TypeTerm) (ts : List TypeTerm) (n : Names) (s : Seen) (rest : List ℕ) → Joined o f (scope ++ arguments x r (length preceding) ∷ []) n s.scopes.here → n.arguments + length (t ∷ ts) < 2 ^ 128 → AllByRecursion (FitsType o 32) (t ∷ ts) → length (t ∷ ts) ≤ headroom
+  pub arguments_more : (headroom : ℕ) (preceding : List TypeTerm) (t : TypeTerm) (ts : List TypeTerm) (n : Names) (s : ParseState) (rest : List ℕ) → Joined o f (scope ++ arguments x r (length preceding) ∷ []) n s.scopes.here → n.arguments + length (t ∷ ts) < 2 ^ 128 → AllByRecursion (FitsType o 32) (t ∷ ts) → length (t ∷ ts) ≤ headroom
       → next_token s.bytes ≡ next_token (argument_text n.arguments t ++ arguments_then (length preceding + 1) ts (n.arguments + 1) (41 ∷ rest)) → ArgumentsRead headroom preceding t ts n s rest
   unfolding IsMore
   arguments_more zero preceding t ts n s rest j small fit le e = absurd (omega (arith, le))
@@ -110,7 +110,7 @@ module _ (o : Bool) (f : ℕ → ℕ) (scope : List Frame) (x r : ℕ) (away : (
       let comma : arguments_then (k + 1) (u ∷ us) (n.arguments + 1) (41 ∷ rest) ≡ 44 ∷ 32 ∷ trailing = rw no_first refl in
       let here = e ∙ ap (λ (l : List ℕ). next_token (argument_text n.arguments t ++ l)) comma in
       let mid = after_argument (f x) r k n.arguments t s (44 ∷ 32 ∷ trailing) in
-      let after = seen_rest mid (32 ∷ trailing) in
+      let after = state_with_rest mid (32 ∷ trailing) in
       let first = argument_read o (f x) r preceding n.arguments t s 44 (32 ∷ trailing) (omega arith) fit.0 (inl refl) (j.fresh_arguments n.arguments (omega arith) (omega arith)) here in
       let names = argument_names x r k t n in
       let there = joined_argument o f scope n s.scopes.here x r k t away j (omega arith) fit.0 in
@@ -122,7 +122,7 @@ module _ (o : Bool) (f : ℕ → ℕ) (scope : List Frame) (x r : ℕ) (away : (
       let count : length preceding' + length (u ∷ us) ≡ k + length (t ∷ u ∷ us) = omega (arith, grown) in
       record {
         scopes = more.scopes;
-        reads = (t, mid, first, inr (open_yet, after, mark_seen Comma mid (32 ∷ trailing) (mark_token Comma (32 ∷ trailing) tt), subst (λ l. IsMore IsMarkSeen CloseRound (IsArg o (f x) r) headroom preceding' l after (record { bytes = rest; scopes = more.scopes; next = s.next })) (sym all) more.reads));
+        reads = (t, mid, first, inr (open_yet, after, mark_seen Comma mid (32 ∷ trailing) (mark_token Comma (32 ∷ trailing) tt), subst (λ l. IsMore IsMarkToken CloseRound (IsArg o (f x) r) headroom preceding' l after (record { bytes = rest; scopes = more.scopes; next = s.next })) (sym all) more.reads));
         joined = subst (λ (i : ℕ). Joined o f (scope ++ arguments x r i ∷ []) (arguments_names x r k (t ∷ u ∷ us) n) more.scopes.here) count (subst (λ (i : ℕ). Joined o f (scope ++ arguments x r (length preceding' + length (u ∷ us)) ∷ []) (arguments_names x r i (u ∷ us) names) more.scopes.here) grown more.joined);
         outer = more.outer;
       }

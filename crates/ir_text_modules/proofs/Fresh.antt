@@ -15,7 +15,7 @@ use Rattle.ir_text_tokens.specs.Scopes.{Scopes, left, left_to}
 use Rattle.ir_text_tokens.proofs.Printed.{string_token}
 use Rattle.ir_text_types.specs.Grammars.{Grammar, Not, IsMore}
 use Rattle.ir_text_operations.specs.Free.{no_names}
-use Rattle.ir_text_operations.specs.Seen.{PackTerm, Seen, IsMarkSeen}
+use Rattle.ir_text_operations.specs.ParseState.{PackTerm, ParseState, IsMarkToken}
 use Rattle.ir_text_operations.specs.OpGrammar.{IsOps, IsOpWith, IsOp}
 use Rattle.ir_text.specs.Naming.{Named, naming_of, naming_type, value_type, source_of}
 use Rattle.ir_text_modules.specs.Written.{FitsType}
@@ -25,7 +25,7 @@ use Rattle.ir_text_modules.proofs.Fitting.{FitsHead}
 use Rattle.ir_text_modules.proofs.Texts.{Head, Names, results_names, results_then, name_then}
 use Rattle.ir_text_modules.proofs.ModuleValues.{Away, all_preceding}
 use Rattle.ir_text_modules.proofs.Grown.{Grown}
-use Rattle.ir_text_modules.proofs.Joined.{Here, IsSeen, Joined, OwnNames, joined_nothing, joined_no_results, joined_results}
+use Rattle.ir_text_modules.proofs.Joined.{Here, IsParseState, Joined, OwnNames, joined_nothing, joined_no_results, joined_results}
 use Rattle.ir_text_modules.proofs.Preceding.{result_read}
 use Rattle.ir_text_modules.proofs.Labels.{Plain}
 use Rattle.ir_text_modules.proofs.Tails.{finished}
@@ -106,7 +106,7 @@ pub all_so : {X : Type 0} (P Q : X → Type 0) → ((x : X) → P x → Q x) →
 all_so P Q h [] a = tt
 all_so P Q h (x ∷ xs) a = (h x a.0, all_so P Q h xs a.1)
 
-pub types_fit : (o : Bool) (f : ℕ → ℕ) (named : Named) (here : Here) (vs : List Value) → AllByRecursion (IsSeen o f named here) vs → AllByRecursion (FitsType o 32) (map (value_type named) vs)
+pub types_fit : (o : Bool) (f : ℕ → ℕ) (named : Named) (here : Here) (vs : List Value) → AllByRecursion (IsParseState o f named here) vs → AllByRecursion (FitsType o 32) (map (value_type named) vs)
 types_fit o f named here [] h = tt
 types_fit o f named here (v ∷ vs) h = (rw (h.0).named (h.0).read.type, types_fit o f named here vs h.1)
 
@@ -134,25 +134,25 @@ plain_head o m (t ∷ ts) h named rest fit lt few =
 
 -- ---- steps of the grammar
 
-pub op_from : (o : Bool) (last depth : ℕ) (y : Operation) (old new : Seen) → old.next < last → IsOpWith o no_names (IsOps CloseCurly (IsOp o no_names last depth) 1048576 []) y old new → IsOp o no_names last (suc depth) y old new
+pub op_from : (o : Bool) (last depth : ℕ) (y : Operation) (old new : ParseState) → old.next < last → IsOpWith o no_names (IsOps CloseCurly (IsOp o no_names last depth) 1048576 []) y old new → IsOp o no_names last (suc depth) y old new
 unfolding IsOp
 op_from o last depth y old new lt h = (lt, h)
 
-module _ (P : Grammar Seen Operation) where
-  pub ops_close : (headroom : ℕ) (preceding : List Operation) (old new : Seen) → 0 < headroom → IsMarkSeen CloseCurly old new → IsOps CloseCurly P headroom preceding preceding old new
+module _ (P : Grammar ParseState Operation) where
+  pub ops_close : (headroom : ℕ) (preceding : List Operation) (old new : ParseState) → 0 < headroom → IsMarkToken CloseCurly old new → IsOps CloseCurly P headroom preceding preceding old new
   unfolding IsOps
   ops_close zero preceding old new lt h = absurd (omega (arith, lt))
   ops_close (suc headroom) preceding old new lt h = inl (h, refl)
 
-  pub ops_one : (headroom : ℕ) (preceding ys : List Operation) (y : Operation) (old mid new : Seen) → Not IsMarkSeen CloseCurly old → P y old mid → IsOps CloseCurly P headroom (preceding ++ y ∷ []) ys mid new → IsOps CloseCurly P (suc headroom) preceding ys old new
+  pub ops_one : (headroom : ℕ) (preceding ys : List Operation) (y : Operation) (old mid new : ParseState) → Not IsMarkToken CloseCurly old → P y old mid → IsOps CloseCurly P headroom (preceding ++ y ∷ []) ys mid new → IsOps CloseCurly P (suc headroom) preceding ys old new
   unfolding IsOps
   ops_one headroom preceding ys y old mid new lacks h more = inr (lacks, y, mid, h, more)
 
-module _ {B : Type 0} (P : List B → Grammar Seen B) where
-  pub more_last : (headroom : ℕ) (preceding : List B) (y : B) (old mid new : Seen) → P preceding y old mid → IsMarkSeen CloseRound mid new → IsMore IsMarkSeen CloseRound P (suc headroom) preceding (preceding ++ y ∷ []) old new
+module _ {B : Type 0} (P : List B → Grammar ParseState B) where
+  pub more_last : (headroom : ℕ) (preceding : List B) (y : B) (old mid new : ParseState) → P preceding y old mid → IsMarkToken CloseRound mid new → IsMore IsMarkToken CloseRound P (suc headroom) preceding (preceding ++ y ∷ []) old new
   unfolding IsMore
   more_last headroom preceding y old mid new h k = (y, mid, h, inl (k, refl))
 
-  pub more_one : (headroom : ℕ) (preceding ys : List B) (y : B) (old mid next new : Seen) → P preceding y old mid → Not IsMarkSeen CloseRound mid → IsMarkSeen Comma mid next → IsMore IsMarkSeen CloseRound P headroom (preceding ++ y ∷ []) ys next new → IsMore IsMarkSeen CloseRound P (suc headroom) preceding ys old new
+  pub more_one : (headroom : ℕ) (preceding ys : List B) (y : B) (old mid next new : ParseState) → P preceding y old mid → Not IsMarkToken CloseRound mid → IsMarkToken Comma mid next → IsMore IsMarkToken CloseRound P headroom (preceding ++ y ∷ []) ys next new → IsMore IsMarkToken CloseRound P (suc headroom) preceding ys old new
   unfolding IsMore
   more_one headroom preceding ys y old mid next new h lacks comma more = (y, mid, h, inr (lacks, next, comma, more))

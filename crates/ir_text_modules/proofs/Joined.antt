@@ -11,7 +11,7 @@ use Rattle.ir_tree.specs.declared.value.Value.{Value}
 use Rattle.ir_tree.specs.declared.value.Value.TheVariants.{Result, Arg}
 use Rattle.ir_tree.specs.Sites.{Frame, results, arguments, shows, in_scope}
 use Rattle.ir_text_tokens.specs.Scopes.{Binding, find}
-use Rattle.ir_text_operations.specs.Seen.{BoundTerm, PackTerm}
+use Rattle.ir_text_operations.specs.ParseState.{BoundTerm, PackTerm}
 use Rattle.ir_text_operations.specs.OpGrammar.{result_terms}
 use Rattle.ir_text.specs.declared.naming.ValueName.{ValueName}
 use Rattle.ir_text.specs.declared.naming.ValueName.TheVariants.{Only, Part, Argument}
@@ -55,13 +55,13 @@ pub record IsRead (o : Bool) (f : ℕ → ℕ) (here : Here) (v : Value) (y : Na
   pub small : IsSmall y.name
   pub type : FitsType o 32 y.type
 
-pub record IsSeen (o : Bool) (f : ℕ → ℕ) (names : Named) (here : Here) (v : Value) : Type 0 where
+pub record IsParseState (o : Bool) (f : ℕ → ℕ) (names : Named) (here : Here) (v : Value) : Type 0 where
   pub naming : Naming
   pub named : naming_of names v ≡ Some naming
   pub read : IsRead o f here v naming
 
 pub record Joined (o : Bool) (f : ℕ → ℕ) (scope : List Frame) (n : Names) (here : Here) : Type 0 where
-  pub seen : (v : Value) → in_scope scope v ≡ true → IsSeen o f n.named here v
+  pub seen : (v : Value) → in_scope scope v ≡ true → IsParseState o f n.named here v
   pub fresh : (k : ℕ) → n.results ≤ k → k < 2 ^ 128 → find (decimal k) here ≡ None
   pub fresh_arguments : (k : ℕ) → n.arguments ≤ k → k < 2 ^ 128 → find (argument_word k) here ≡ None
 
@@ -177,10 +177,10 @@ module _ (o : Bool) (f : ℕ → ℕ) (scope : List Frame) (n m : Names) (here :
       unused : find (decimal n.results) here ≡ None
       unused = j.fresh n.results (omega arith) small
 
-      shown : (v : Value) → (k : ℕ) × (v ≡ Result x k) × (k < length ts) → IsSeen o f m.named (here ++ (record { name = decimal n.results; value = pack }) ∷ []) v
+      shown : (v : Value) → (k : ℕ) × (v ≡ Result x k) × (k < length ts) → IsParseState o f m.named (here ++ (record { name = decimal n.results; value = pack }) ∷ []) v
       shown v r =
           let t = get_within ts r.0 r.2 in
-          subst (IsSeen o f m.named (here ++ (record { name = decimal n.results; value = pack }) ∷ [])) (sym r.1)
+          subst (IsParseState o f m.named (here ++ (record { name = decimal n.results; value = pack }) ∷ [])) (sym r.1)
           (record {
             naming = record { name = result_name (length ts == 1) n.results r.0; type = t.0 };
             named = own r.0 t.0 t.1;
@@ -221,7 +221,7 @@ module _ (o : Bool) (f : ℕ → ℕ) (scope : List Frame) (n : Names) (here : H
         (λ (i : in_scope scope v ≡ true). old v (in_first scope (arguments x r k) v i) (elsewhere v x r k (away v i)))
         (λ (i : shows v (arguments x r (k + 1)) ≡ true). ⊎_elim
         (λ (l : shows v (arguments x r k) ≡ true). old v (in_it v l) (earlier v x r k l))
-        (λ (l : v ≡ Arg x r k). subst (IsSeen o f named all) (sym l) new)
+        (λ (l : v ≡ Arg x r k). subst (IsParseState o f named all) (sym l) new)
         (argument_shown v x r k i))
         (in_last scope (arguments x r (k + 1)) v e);
     fresh = λ i le lt. find_old (decimal i) word here pack (argument_no_decimal n.arguments i lt) ∙ j.fresh i le lt;
@@ -243,7 +243,7 @@ module _ (o : Bool) (f : ℕ → ℕ) (scope : List Frame) (n : Names) (here : H
       named : Named
       named = (argument_names x r k t n).named
 
-      new : IsSeen o f named all (Arg x r k)
+      new : IsParseState o f named all (Arg x r k)
       new = record { naming = naming; named = found_new n.named (source.Argument x r k) naming; read = record { pack = pack; bound = find_new word here pack; place = refl; small = small; type = fit } }
 
       in_it : (v : Value) → shows v (arguments x r k) ≡ true → in_scope (scope ++ arguments x r k ∷ []) v ≡ true
@@ -253,5 +253,5 @@ module _ (o : Bool) (f : ℕ → ℕ) (scope : List Frame) (n : Names) (here : H
           last_in [] = rw l refl
           last_in (g ∷ gs) = elim (cases_Bool (shows v g)) [ inl a ↦ rw a refl | inr b ↦ rw b (last_in gs) ]
 
-      old : (v : Value) → in_scope (scope ++ arguments x r k ∷ []) v ≡ true → same_source (source_of v) (source.Argument x r k) ≡ false → IsSeen o f named all v
+      old : (v : Value) → in_scope (scope ++ arguments x r k ∷ []) v ≡ true → same_source (source_of v) (source.Argument x r k) ≡ false → IsParseState o f named all v
       old v i apart = let s = j.seen v i in record { naming = s.naming; named = found_old n.named (source_of v) (source.Argument x r k) naming apart ∙ s.named; read = read_kept o f here v s.naming word pack (j.fresh_arguments n.arguments (omega arith) small) s.read }

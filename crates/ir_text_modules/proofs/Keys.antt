@@ -11,7 +11,7 @@ use Rattle.std.proofs.lemmas.Map.Text.{is_eq-slice_cmp}
 use Rattle.ir_types.specs.Terms.{AttrTerm, EntryTerms, no_entries, next_entry}
 use Rattle.ir_tree.specs.Meaning.{key_before, rises, rises_after}
 use Rattle.ir_text_attributes.specs.AttrGrammar.{EntryTerm, entries_of}
-use Rattle.ir_text_attributes.specs.Keyed.{has_key, put_among, in_order}
+use Rattle.ir_text_attributes.specs.Keyed.{has_key, insert_sorted, in_order}
 use Rattle.ir_text_modules.specs.WrittenAttributes.{entries_list}
 use Rattle.std.proofs.lemmas.Bool.{and_parts}
 use Rattle.ir_types.proofs.AcceptedCalls.{less_from}
@@ -57,7 +57,7 @@ in_order_again [] h = refl
 in_order_again (e ∷ []) h = refl
 in_order_again (e ∷ f ∷ es) h =
     let p = rises_next e f es h in
-    ap (put_among key_before e) (in_order_again (f ∷ es) p.1) ∙ rw p.0 refl
+    ap (insert_sorted key_before e) (in_order_again (f ∷ es) p.1) ∙ rw p.0 refl
 
 pub entries_again : (es : EntryTerms) → entries_of (entries_list es) ≡ es
 entries_again no_entries = refl

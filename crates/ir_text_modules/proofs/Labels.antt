@@ -14,7 +14,7 @@ use Rattle.ir_text_tokens.specs.declared.token.Mark.TheVariants.{OpenRound, Clos
 use Rattle.ir_text_tokens.specs.Tokens.{Lexeme, mark, value, label, next as next_token}
 use Rattle.ir_text_tokens.proofs.Printed.{mark_token, value_token, label_token, blank_passed}
 use Rattle.ir_text_types.specs.Grammars.{Not, IsList, IsMark, Token}
-use Rattle.ir_text_operations.specs.Seen.{Seen, seen_rest}
+use Rattle.ir_text_operations.specs.ParseState.{ParseState, state_with_rest}
 use Rattle.ir_text_operations.specs.Made.{region_of}
 use Rattle.ir_text_operations.specs.OpGrammar.{IsHeadFrom, IsHead}
 use Rattle.ir_text.specs.Naming.{source_of}
@@ -36,7 +36,7 @@ pub record Plain (o : Bool) (bytes : List ℕ) : Type 0 where
   pub lexeme : Lexeme
   pub trailing : List ℕ
   pub token : Token lexeme bytes trailing
-  pub no_label : (id r : ℕ) (s : Seen) → IsHeadFrom o id r lexeme trailing None s s
+  pub no_label : (id r : ℕ) (s : ParseState) → IsHeadFrom o id r lexeme trailing None s s
   pub no_mark : (m : Mark) → lexeme ≡ mark m → ⊥
 
 -- the first operation, if there is one, begins with such a token
@@ -69,9 +69,9 @@ abbrev block_word : List ℕ
 block_word = codes "bb0"
 
 module _ (o : Bool) (f : ℕ → ℕ) (scope : List Frame) (x r : ℕ) (away : (v : Value) → in_scope scope v ≡ true → (source_id (source_of v) == x) ≡ false) where
-  pub record LabelRead (args : List TypeTerm) (os : Ops) (n : Names) (s : Seen) (rest : List ℕ) : Type 0 where
+  pub record LabelRead (args : List TypeTerm) (os : Ops) (n : Names) (s : ParseState) (rest : List ℕ) : Type 0 where
     pub preceding : Option (List TypeTerm)
-    pub now : Seen
+    pub now : ParseState
     pub reads : IsHead o (f x) r preceding s now
     pub text : next_token now.bytes ≡ next_token rest
     pub joined : Joined o f (scope ++ arguments x r (length args) ∷ []) (arguments_names x r 0 args n) now.scopes.here
@@ -79,18 +79,18 @@ module _ (o : Bool) (f : ℕ → ℕ) (scope : List Frame) (x r : ℕ) (away : (
     pub same : now.next ≡ s.next
     pub made : region_of preceding (op_list (ops_with_ids f os)) ≡ block args (ops_with_ids f os)
 
-  pub label_again : (margin : List ℕ) (args : List TypeTerm) (os : Ops) (n : Names) (s : Seen) (rest : List ℕ) → AreBlank margin → Joined o f scope n s.scopes.here → n.arguments + length args < 2 ^ 128 → AllByRecursion (FitsType o 32) args → length args ≤ 256
+  pub label_again : (margin : List ℕ) (args : List TypeTerm) (os : Ops) (n : Names) (s : ParseState) (rest : List ℕ) → AreBlank margin → Joined o f scope n s.scopes.here → n.arguments + length args < 2 ^ 128 → AllByRecursion (FitsType o 32) args → length args ≤ 256
       → next_token s.bytes ≡ next_token (label_then margin args os n rest) → PlainFirst o os rest → LabelRead args os n s rest
   unfolding IsList
   label_again margin [] no_ops n s rest blank j small fit few e plain =
       let first = e ∙ blanks_passed margin (94 ∷ (block_word ++ 58 ∷ 10 ∷ rest)) blank ∙ label_token block_word (58 ∷ 10 ∷ rest) refl refl in
-      let trailing = seen_rest s (58 ∷ 10 ∷ rest) in
+      let trailing = state_with_rest s (58 ∷ 10 ∷ rest) in
       let colon = mark_token Colon (10 ∷ rest) refl in
       let lacks = not_seen OpenRound trailing (lacks_token (mark Colon) OpenRound (58 ∷ 10 ∷ rest) (10 ∷ rest) colon (λ k. absurd cc)) in
       record {
         preceding = Some [];
-        now = seen_rest s (10 ∷ rest);
-        reads = (label block_word, 58 ∷ 10 ∷ rest, first, ([], ([], trailing, inr (lacks, (refl, refl)), (seen_rest s (10 ∷ rest), mark_seen Colon trailing (10 ∷ rest) colon, (refl, refl))), refl));
+        now = state_with_rest s (10 ∷ rest);
+        reads = (label block_word, 58 ∷ 10 ∷ rest, first, ([], ([], trailing, inr (lacks, (refl, refl)), (state_with_rest s (10 ∷ rest), mark_seen Colon trailing (10 ∷ rest) colon, (refl, refl))), refl));
         text = blank_passed 10 rest refl;
         joined = joined_no_arguments o f scope n s.scopes.here x r j;
         outer = refl;
@@ -111,16 +111,16 @@ module _ (o : Bool) (f : ℕ → ℕ) (scope : List Frame) (x r : ℕ) (away : (
       let last = 41 ∷ 58 ∷ 10 ∷ rest in
       let inside = argument_text n.arguments t ++ arguments_then (0 + 1) ts (n.arguments + 1) last in
       let first = e ∙ blanks_passed margin (94 ∷ (block_word ++ 40 ∷ inside)) blank ∙ label_token block_word (40 ∷ inside) refl refl in
-      let trailing = seen_rest s (40 ∷ inside) in
-      let opened = seen_rest s inside in
+      let trailing = state_with_rest s (40 ∷ inside) in
+      let opened = state_with_rest s inside in
       let more = arguments_more o f scope x r away 256 [] t ts n opened (58 ∷ 10 ∷ rest) (joined_no_arguments o f scope n s.scopes.here x r j) small fit few refl in
-      let done : Seen = record { bytes = 58 ∷ 10 ∷ rest; scopes = more.scopes; next = s.next } in
+      let done : ParseState = record { bytes = 58 ∷ 10 ∷ rest; scopes = more.scopes; next = s.next } in
       let lacks = not_seen CloseRound opened (argument_begins n.arguments t (arguments_then (0 + 1) ts (n.arguments + 1) last) (omega (arith, small))) in
       let count : 0 + length (t ∷ ts) ≡ length (t ∷ ts) = omega arith in
       record {
         preceding = Some (t ∷ ts);
-        now = seen_rest done (10 ∷ rest);
-        reads = (label block_word, 40 ∷ inside, first, (t ∷ ts, (t ∷ ts, done, inl (opened, mark_seen OpenRound trailing inside (mark_token OpenRound inside tt), inr (lacks, more.reads)), (seen_rest done (10 ∷ rest), mark_seen Colon done (10 ∷ rest) (mark_token Colon (10 ∷ rest) refl), (refl, refl))), refl));
+        now = state_with_rest done (10 ∷ rest);
+        reads = (label block_word, 40 ∷ inside, first, (t ∷ ts, (t ∷ ts, done, inl (opened, mark_seen OpenRound trailing inside (mark_token OpenRound inside tt), inr (lacks, more.reads)), (state_with_rest done (10 ∷ rest), mark_seen Colon done (10 ∷ rest) (mark_token Colon (10 ∷ rest) refl), (refl, refl))), refl));
         text = blank_passed 10 rest refl;
         joined = subst (λ (i : ℕ). Joined o f (scope ++ arguments x r i ∷ []) (arguments_names x r 0 (t ∷ ts) n) more.scopes.here) count more.joined;
         outer = more.outer;

@@ -54,5 +54,5 @@ pub mod Parts
 pub mod Defining
 pub mod Ending
 pub mod Stays
-pub mod Standing
+pub mod Denotation
 pub mod Keeping

@@ -19,9 +19,9 @@ use Rattle.ir_text_operations.specs.Filling.{new_things}
 use Rattle.ir_text_operations.specs.Free.{value_named, free_bound, no_types, no_names}
 use Rattle.ir_text_operations.specs.OpGrammar.{IsOp, IsOps}
 use Rattle.ir_text_operations.specs.OpReading.{op_at, ops_at}
-use Rattle.ir_text_operations.specs.Seen.{Seen, seen_fresh}
+use Rattle.ir_text_operations.specs.ParseState.{ParseState, initial_state}
 use Rattle.ir_text_operations.specs.Spelling.{IsExplicit, IsImplicit, Spells, module_of}
-use Rattle.ir_text_operations.specs.Standing.{Both, BoundStands, FreeStands, OpStands, StateStands}
+use Rattle.ir_text_operations.specs.Denotation.{Both, BoundDenotes, FreeDenotes, OpDenotes, StateDenotes}
 use Rattle.ir_text_operations.proofs.Modules.{no_free, read_parts}
 use Rattle.ir_text_operations.proofs.OpLaws.{op_rendered, ops_rendered}
 use Rattle.ir_text.specs.Headroom.{HasHeadroom}
@@ -49,26 +49,26 @@ none_free name = by (value_named name)
     by None = refl
     by (Some x) = refl
 
-unseen : (z : ContextModel) → FreeStands z no_free no_names
-unseen z name = subst (λ x. Both BoundStands z x None) (sym (none_free name)) tt
+unseen : (z : ContextModel) → FreeDenotes z no_free no_names
+unseen z name = subst (λ x. Both BoundDenotes z x None) (sym (none_free name)) tt
 
 -- ---- a parse denotes one operation, or one list of operations
 
 -- a parse, and what its result denotes
-abbrev ReadAs : {A B : Type 0} → ContextModel → Outcome (A × State) → (ContextModel → A → B → Type 0) → B → Seen → Type 0
-ReadAs {A = A} c r R y t = (x : A) × (s : State) × (r ≡ Read (x, s)) × IsExtendedBy c s.things × IsSound s.things × R s.things x y × StateStands s.things s t
+abbrev ReadAs : {A B : Type 0} → ContextModel → Outcome (A × State) → (ContextModel → A → B → Type 0) → B → ParseState → Type 0
+ReadAs {A = A} c r R y t = (x : A) × (s : State) × (r ≡ Read (x, s)) × IsExtendedBy c s.things × IsSound s.things × R s.things x y × StateDenotes s.things s t
 
-same_read : {A B : Type 0} (R : ContextModel → A → B → Type 0) → ((z : ContextModel) (x : A) (u v : B) → R z x u → R z x v → u ≡ v) → (c : ContextModel) (r : Outcome (A × State)) (u v : B) (s t : Seen) → (r ≡ Full → ⊥) → (r ≡ Full) ⊎ ReadAs c r R u s → (r ≡ Full) ⊎ ReadAs c r R v t → u ≡ v
+same_read : {A B : Type 0} (R : ContextModel → A → B → Type 0) → ((z : ContextModel) (x : A) (u v : B) → R z x u → R z x v → u ≡ v) → (c : ContextModel) (r : Outcome (A × State)) (u v : B) (s t : ParseState) → (r ≡ Full → ⊥) → (r ≡ Full) ⊎ ReadAs c r R u s → (r ≡ Full) ⊎ ReadAs c r R v t → u ≡ v
 same_read R one c r u v s t headroom (inl e) k = absurd (headroom e)
 same_read R one c r u v s t headroom (inr h) (inl e) = absurd (headroom e)
 same_read R one c r u v s t headroom (inr h) (inr k) =
     let q = read_parts h.0 k.0 h.1 k.1 (sym h.2 ∙ k.2) in
     one k.1.things k.0 u v (subst (λ (z : State). R z.things k.0 u) q.1 (subst (λ x. R h.1.things x u) q.0 h.5)) k.5
 
-one_meaning : (z : ContextModel) (x : Op) (u v : Operation) → OpStands z x u → OpStands z x v → u ≡ v
+one_meaning : (z : ContextModel) (x : Op) (u v : Operation) → OpDenotes z x u → OpDenotes z x v → u ≡ v
 one_meaning z x u v h k = sym h.1 ∙ k.1
 
-one_list : (z : ContextModel) (xs : List Op) (us vs : List Operation) → Each OpStands z xs us → Each OpStands z xs vs → us ≡ vs
+one_list : (z : ContextModel) (xs : List Op) (us vs : List Operation) → Each OpDenotes z xs us → Each OpDenotes z xs vs → us ≡ vs
 one_list z [] [] [] h k = refl
 one_list z [] [] (v ∷ vs) h k = absurd k
 one_list z [] (u ∷ us) vs h k = absurd h
@@ -82,17 +82,17 @@ module _ (o : Bool) (bytes : List ℕ) (few : length bytes ≤ 16777216) where
   headroom : HasHeadroom bytes (new_things o)
   headroom = record { names = omega (arith, word_count, few); types = omega (arith, few); attrs = omega (arith, few) }
 
-  one_root : (y z : Operation) (t u : Seen) → IsOp o no_names 1048576 129 y (seen_fresh 0 bytes) t → IsOp o no_names 1048576 129 z (seen_fresh 0 bytes) u → y ≡ z
+  one_root : (y z : Operation) (t u : ParseState) → IsOp o no_names 1048576 129 y (initial_state 0 bytes) t → IsOp o no_names 1048576 129 z (initial_state 0 bytes) u → y ≡ z
   one_root y z t u h k =
       let c = new_things o in
-      same_read OpStands one_meaning c (op_at no_free 1048576 129 (fresh 0 bytes c)) y z t u (op_headroom no_free 1048576 129 0 c bytes headroom)
+      same_read OpDenotes one_meaning c (op_at no_free 1048576 129 (fresh 0 bytes c)) y z t u (op_headroom no_free 1048576 129 0 c bytes headroom)
       (op_rendered no_free no_names 1048576 129 0 c bytes y t (new_sound o) (λ x g w. unseen x) h)
       (op_rendered no_free no_names 1048576 129 0 c bytes z u (new_sound o) (λ x g w. unseen x) k)
 
-  one_body : (ys zs : List Operation) (t u : Seen) → IsOps End (IsOp o no_names 1048576 128) 1048576 [] ys (seen_fresh 1 bytes) t → IsOps End (IsOp o no_names 1048576 128) 1048576 [] zs (seen_fresh 1 bytes) u → ys ≡ zs
+  one_body : (ys zs : List Operation) (t u : ParseState) → IsOps End (IsOp o no_names 1048576 128) 1048576 [] ys (initial_state 1 bytes) t → IsOps End (IsOp o no_names 1048576 128) 1048576 [] zs (initial_state 1 bytes) u → ys ≡ zs
   one_body ys zs t u h k =
       let c = new_things o in
-      same_read (Each OpStands) one_list c (ops_at End (op_at no_free 1048576 128) 1048576 [] (fresh 1 bytes c)) ys zs t u (ops_headroom no_free End 1048576 128 1 c bytes headroom)
+      same_read (Each OpDenotes) one_list c (ops_at End (op_at no_free 1048576 128) 1048576 [] (fresh 1 bytes c)) ys zs t u (ops_headroom no_free End 1048576 128 1 c bytes headroom)
       (ops_rendered no_free no_names 1048576 128 1 c bytes ys t (new_sound o) (λ x g w. unseen x) h)
       (ops_rendered no_free no_names 1048576 128 1 c bytes zs u (new_sound o) (λ x g w. unseen x) k)
 

@@ -20,7 +20,7 @@ use Rattle.ir_text_tokens.specs.Scopes.{Scopes, left}
 use Rattle.ir_text_tokens.proofs.Printed.{mark_token, blank_passed}
 use Rattle.ir_text_types.specs.Grammars.{Grammar, Not, IsMore, IsMark, Token}
 use Rattle.ir_text_operations.specs.Free.{no_names}
-use Rattle.ir_text_operations.specs.Seen.{PackTerm, Seen, seen_rest, seen_inside, seen_outside, IsMarkSeen}
+use Rattle.ir_text_operations.specs.ParseState.{PackTerm, ParseState, state_with_rest, state_inside, state_outside, IsMarkToken}
 use Rattle.ir_text_operations.specs.OpGrammar.{IsHead, IsOps, IsRegion, IsRegions, IsOp, IsTail, RegionTerm}
 use Rattle.ir_text.specs.Naming.{Named, naming_of, value_type, source_of}
 use Rattle.ir_text.specs.Printing.{deeper, opening, closing_text, properties_text}
@@ -31,7 +31,7 @@ use Rattle.ir_tree_laws.specs.Renumbered.{with_ids, regions_with_ids, region_wit
 use Rattle.ir_text_modules.proofs.Fitting.{FitsOp, FitsRegions, FitsRegion, FitsOps}
 use Rattle.ir_text_modules.proofs.Texts.{Head, Names, Regions, Region, Ops, results_names, arguments_names, op_names, regions_names, region_names, tail_then, label_then, op_then, regions_then, region_then, ops_then}
 use Rattle.ir_text_modules.proofs.ModuleValues.{source_id, Away, all_preceding, all_back, argument_away, results_names_keep, regions_keep, region_keeps, own_results}
-use Rattle.ir_text_modules.proofs.Joined.{IsSeen, Joined, joined_later, in_last, result_shown}
+use Rattle.ir_text_modules.proofs.Joined.{IsParseState, Joined, joined_later, in_last, result_shown}
 use Rattle.ir_text_modules.proofs.Preceding.{start_of, start_again}
 use Rattle.ir_text_modules.proofs.Blocks.{AreBlank, blanks_passed, blanks_deeper, mark_seen, not_seen}
 use Rattle.ir_text_modules.proofs.Grown.{grown_results, grown_op, grown_regions, grown_region, grown_arguments}
@@ -79,31 +79,31 @@ first_plain o margin (next t ts) n rest blank fit lt =
 -- ---- operations
 
 module _ (o : Bool) (f : ℕ → ℕ) (last : ℕ) where
-  abbrev One : ℕ → Grammar Seen Operation
+  abbrev One : ℕ → Grammar ParseState Operation
   One d = IsOp o no_names last d
 
-  abbrev Row : ℕ → Grammar Seen (List Operation)
+  abbrev Row : ℕ → Grammar ParseState (List Operation)
   Row d = IsOps CloseCurly (One d) 1048576 []
 
   -- an operation is parsed back with its new id
-  pub record OpRead (d : ℕ) (scope : List Frame) (t : Operation) (n : Names) (s : Seen) (rest : List ℕ) : Type 0 where
+  pub record OpRead (d : ℕ) (scope : List Frame) (t : Operation) (n : Names) (s : ParseState) (rest : List ℕ) : Type 0 where
     pub scopes : Scopes PackTerm
     pub reads : IsOp o no_names last d (with_ids f t) s (record { bytes = 10 ∷ rest; scopes = scopes; next = s.next + length (ids t) })
     pub joined : Joined o f (scope ++ results_of t ∷ []) (op_names t n) scopes.here
     pub outer : scopes.outer ≡ s.scopes.outer
 
-  pub record OpsRead (d headroom : ℕ) (preceding : List Operation) (os : Ops) (s : Seen) (rest : List ℕ) : Type 0 where
+  pub record OpsRead (d headroom : ℕ) (preceding : List Operation) (os : Ops) (s : ParseState) (rest : List ℕ) : Type 0 where
     pub scopes : Scopes PackTerm
     pub reads : IsOps CloseCurly (IsOp o no_names last d) headroom preceding (preceding ++ op_list (ops_with_ids f os)) s (record { bytes = rest; scopes = scopes; next = s.next + length (ops_ids os) })
     pub outer : scopes.outer ≡ s.scopes.outer
 
   -- the premise that one operation is parsed back
   abbrev pub ReadsOp : ℕ → Operation → Type 0
-  ReadsOp d t = (margin : List ℕ) (scope : List Frame) (n : Names) (s : Seen) (rest : List ℕ) → AreBlank margin → FitsOp o t → DominatedByOp scope t → depth t < d → Fresh f last scope n s.next 0 (ids t) → Joined o f scope n s.scopes.here → next_token s.bytes ≡ next_token (op_then margin t n rest) → OpRead d scope t n s rest
+  ReadsOp d t = (margin : List ℕ) (scope : List Frame) (n : Names) (s : ParseState) (rest : List ℕ) → AreBlank margin → FitsOp o t → DominatedByOp scope t → depth t < d → Fresh f last scope n s.next 0 (ids t) → Joined o f scope n s.scopes.here → next_token s.bytes ≡ next_token (op_then margin t n rest) → OpRead d scope t n s rest
 
   -- the premise that a list of operations is parsed back
   abbrev pub ReadsOps : ℕ → Ops → Type 0
-  ReadsOps d os = (headroom : ℕ) (preceding : List Operation) (margin close : List ℕ) (rest : List ℕ) (scope : List Frame) (n : Names) (s : Seen) → AreBlank margin → FitsOps o os → DominatedByOps scope os → ops_depth os ≤ d → length (ops_ids os) < headroom → Fresh f last scope n s.next 0 (ops_ids os) → Joined o f scope n s.scopes.here
+  ReadsOps d os = (headroom : ℕ) (preceding : List Operation) (margin close : List ℕ) (rest : List ℕ) (scope : List Frame) (n : Names) (s : ParseState) → AreBlank margin → FitsOps o os → DominatedByOps scope os → ops_depth os ≤ d → length (ops_ids os) < headroom → Fresh f last scope n s.next 0 (ops_ids os) → Joined o f scope n s.scopes.here
       → Token (mark CloseCurly) close rest → next_token s.bytes ≡ next_token (ops_then margin os n close) → OpsRead d headroom preceding os s rest
 
   nothing_more : (preceding : List Operation) → preceding ++ [] ≡ preceding
@@ -116,7 +116,7 @@ module _ (o : Bool) (f : ℕ → ℕ) (last : ℕ) where
   pub no_ops_read : (d : ℕ) → ReadsOps d no_ops
   no_ops_read d headroom preceding margin close rest scope n s blank fit dominated_by deep few fresh j closed e =
       let count : s.next ≡ s.next + 0 = omega arith in
-      let h = ops_close (One d) headroom preceding s (seen_rest s rest) (omega (arith, few)) (mark_seen CloseCurly s rest (e ∙ closed)) in
+      let h = ops_close (One d) headroom preceding s (state_with_rest s rest) (omega (arith, few)) (mark_seen CloseCurly s rest (e ∙ closed)) in
       record {
         scopes = s.scopes;
         reads = subst (λ l. IsOps CloseCurly (One d) headroom preceding l s (record { bytes = rest; scopes = s.scopes; next = s.next + 0 })) (sym (nothing_more preceding)) (subst (λ (i : ℕ). IsOps CloseCurly (One d) headroom preceding preceding s (record { bytes = rest; scopes = s.scopes; next = i })) count h);
@@ -138,7 +138,7 @@ module _ (o : Bool) (f : ℕ → ℕ) (last : ℕ) where
       (λ (k : shows v (results_of t) ≡ true). result_away v h.id (length h.results) (ops_ids ts) (all_back _ (regions_ids rs) (ops_ids ts) own.0) k)
       (in_last scope (results_of t) v i) in
       let one = first margin scope n s trailing blank fit.0 dominated_by.0 (omega (arith, deep)) (fresh_preceding f last scope n s.next 0 0 (ids t) (ops_ids ts) fresh (omega arith)) j here in
-      let mid : Seen = record { bytes = 10 ∷ trailing; scopes = one.scopes; next = s.next + length (ids t) } in
+      let mid : ParseState = record { bytes = 10 ∷ trailing; scopes = one.scopes; next = s.next + length (ids t) } in
       let fresh_more = fresh_back f last scope (scope ++ results_of t ∷ []) n m s.next 0 0 (4096 * length (ids t)) (ids t) (ops_ids ts) fresh (grown_op o t n fit.0) (omega arith) away in
       let more = others headroom (preceding ++ with_ids f t ∷ []) margin close rest (scope ++ results_of t ∷ []) m mid blank fit.1 dominated_by.1 (omega (arith, deep)) (omega (arith, few, count, some_id t)) fresh_more one.joined closed (blank_passed 10 trailing refl) in
       let plain = op_plain o margin t n trailing fit.0 (omega (arith, fresh.few_results)) in
@@ -157,24 +157,24 @@ module _ (o : Bool) (f : ℕ → ℕ) (last : ℕ) where
   -- ---- regions
 
   -- the state after `count` ids were assigned
-  abbrev pub trailing : Seen → List ℕ → ℕ → Seen
+  abbrev pub trailing : ParseState → List ℕ → ℕ → ParseState
   trailing s rest count = record { bytes = rest; scopes = s.scopes; next = s.next + count }
 
   -- the premise that a region is parsed back
   abbrev pub ReadsRegion : ℕ → Region → Type 0
-  ReadsRegion d g = (margin : List ℕ) (isolated : Bool) (scope : List Frame) (x r : ℕ) (preceding : List RegionTerm) (n : Names) (s : Seen) (rest : List ℕ) → AreBlank margin → FitsRegion o g → DominatedByRegion scope x r g → region_depth g ≤ d → length (region_ids g) < 1048576 → length preceding ≡ r → Fresh f last scope n s.next 256 (region_ids g) → AllByRecursion (λ y. (x == y) ≡ false) (region_ids g) → ((v : Value) → in_scope scope v ≡ true → (source_id (source_of v) == x) ≡ false)
+  ReadsRegion d g = (margin : List ℕ) (isolated : Bool) (scope : List Frame) (x r : ℕ) (preceding : List RegionTerm) (n : Names) (s : ParseState) (rest : List ℕ) → AreBlank margin → FitsRegion o g → DominatedByRegion scope x r g → region_depth g ≤ d → length (region_ids g) < 1048576 → length preceding ≡ r → Fresh f last scope n s.next 256 (region_ids g) → AllByRecursion (λ y. (x == y) ≡ false) (region_ids g) → ((v : Value) → in_scope scope v ≡ true → (source_id (source_of v) == x) ≡ false)
       → Joined o f scope n (if isolated then [] else s.scopes.here) → next_token s.bytes ≡ next_token (region_then margin x r g n rest) → IsRegion o (Row d) (f x) isolated preceding (region_with_ids f g) s (trailing s rest (length (region_ids g)))
 
   pub empty_read : (d : ℕ) → ReadsRegion d empty
   empty_read d margin isolated scope x r preceding n s rest blank fit dominated_by deep few place fresh own apart j e =
       let close = 125 ∷ rest in
       let closed = mark_token CloseCurly rest tt in
-      let opened = seen_rest s close in
-      let within = seen_inside isolated opened in
+      let opened = state_with_rest s close in
+      let within = state_inside isolated opened in
       let fresh_none : Fresh f last scope n s.next 0 [] = record { runs = tt; distinct = fresh.distinct; away = λ v i. tt; below = fresh.below; few_results = fresh.few_results; few_arguments = omega (arith, fresh.few_arguments) } in
       let row = no_ops_read d 1048576 [] margin close rest scope n within blank tt tt (omega arith) (omega arith) fresh_none j closed refl in
       let scopes_back = left_is row.scopes s.scopes row.outer in
-      let state : trailing s rest 0 ≡ seen_outside (record { bytes = rest; scopes = row.scopes; next = s.next + 0 }) = ap (λ (l : Scopes PackTerm). record { bytes = rest; scopes = l; next = s.next + 0 }) (sym scopes_back) in
+      let state : trailing s rest 0 ≡ state_outside (record { bytes = rest; scopes = row.scopes; next = s.next + 0 }) = ap (λ (l : Scopes PackTerm). record { bytes = rest; scopes = l; next = s.next + 0 }) (sym scopes_back) in
       (opened, mark_seen OpenCurly s close (e ∙ mark_token OpenCurly close tt), (None, within, (mark CloseCurly, rest, closed, (refl, refl)), ([], record { bytes = rest; scopes = row.scopes; next = s.next + 0 }, row.reads, (refl, state))))
 
   pub block_read : (d : ℕ) (args : List TypeTerm) (os : Ops) → ReadsOps d os → ReadsRegion d (block args os)
@@ -186,8 +186,8 @@ module _ (o : Bool) (f : ℕ → ℕ) (last : ℕ) where
       let wide = blanks_deeper margin blank in
       let inner = ops_then far os m close in
       let text = 10 ∷ label_then margin args os n inner in
-      let opened = seen_rest s text in
-      let within = seen_inside isolated opened in
+      let opened = state_with_rest s text in
+      let within = state_inside isolated opened in
       let named = grown_arguments x r 0 args n in
       let label = label_again o f scope x r apart margin args os n within inner blank j (omega (arith, fresh.few_arguments, fit.0)) fit.1 fit.0 (blank_passed 10 (label_then margin args os n inner) refl) (first_plain o far os m close wide fit.2 (omega (arith, fresh.few_results, named.few_results))) in
       let dominance = scope ++ arguments x r (length args) ∷ [] in
@@ -200,18 +200,18 @@ module _ (o : Bool) (f : ℕ → ℕ) (last : ℕ) where
         few_arguments = omega (arith, fresh.few_arguments, named.few_arguments, fit.0);
       } in
       let row = ops 1048576 [] far close rest dominance m label.now wide fit.2 dominated_by deep few (subst (λ (i : ℕ). Fresh f last dominance m i 0 (ops_ids os)) (sym label.same) fresh_ops) label.joined closed label.text in
-      let ended : Seen = record { bytes = rest; scopes = row.scopes; next = label.now.next + length (ops_ids os) } in
+      let ended : ParseState = record { bytes = rest; scopes = row.scopes; next = label.now.next + length (ops_ids os) } in
       let scopes_back = left_is row.scopes s.scopes (row.outer ∙ label.outer) in
-      let state : trailing s rest (length (ops_ids os)) ≡ seen_outside ended =
+      let state : trailing s rest (length (ops_ids os)) ≡ state_outside ended =
       ap (λ (l : Scopes PackTerm). record { bytes = rest; scopes = l; next = s.next + length (ops_ids os) }) (sym scopes_back)
       ∙ ap (λ (i : ℕ). record { bytes = rest; scopes = left row.scopes; next = i + length (ops_ids os) }) (sym label.same) in
       (opened, mark_seen OpenCurly s text (e ∙ mark_token OpenCurly text tt), (label.preceding, label.now, subst (λ (i : ℕ). IsHead o (f x) i label.preceding within label.now) (sym place) label.reads, (op_list (ops_with_ids f os), ended, row.reads, (sym label.made, state))))
 
   -- the premise that regions are parsed back up to the closing parenthesis
   abbrev pub ReadsRegions : ℕ → Region → Regions → Type 0
-  ReadsRegions d g rs = (headroom : ℕ) (margin : List ℕ) (isolated : Bool) (scope : List Frame) (x r : ℕ) (preceding : List RegionTerm) (n : Names) (s : Seen) (rest : List ℕ) → AreBlank margin → FitsRegions o (region g rs) → DominatedByRegions scope x r (region g rs) → regions_depth (region g rs) ≤ d → length (regions_ids (region g rs)) < 1048576 → region_count (region g rs) ≤ headroom → length preceding ≡ r → Fresh f last scope n s.next (256 * region_count (region g rs)) (regions_ids (region g rs)) → AllByRecursion (λ y. (x == y) ≡ false) (regions_ids (region g rs)) → ((v : Value) → in_scope scope v ≡ true → (source_id (source_of v) == x) ≡ false)
+  ReadsRegions d g rs = (headroom : ℕ) (margin : List ℕ) (isolated : Bool) (scope : List Frame) (x r : ℕ) (preceding : List RegionTerm) (n : Names) (s : ParseState) (rest : List ℕ) → AreBlank margin → FitsRegions o (region g rs) → DominatedByRegions scope x r (region g rs) → regions_depth (region g rs) ≤ d → length (regions_ids (region g rs)) < 1048576 → region_count (region g rs) ≤ headroom → length preceding ≡ r → Fresh f last scope n s.next (256 * region_count (region g rs)) (regions_ids (region g rs)) → AllByRecursion (λ y. (x == y) ≡ false) (regions_ids (region g rs)) → ((v : Value) → in_scope scope v ≡ true → (source_id (source_of v) == x) ≡ false)
       → Joined o f scope n (if isolated then [] else s.scopes.here) → next_token s.bytes ≡ next_token (region_then margin x r g n (regions_then margin x (r + 1) rs (region_names x r g n) (41 ∷ rest)))
-      → IsMore IsMarkSeen CloseRound (IsRegion o (Row d) (f x) isolated) headroom preceding (preceding ++ region_list (regions_with_ids f (region g rs))) s (trailing s rest (length (regions_ids (region g rs))))
+      → IsMore IsMarkToken CloseRound (IsRegion o (Row d) (f x) isolated) headroom preceding (preceding ++ region_list (regions_with_ids f (region g rs))) s (trailing s rest (length (regions_ids (region g rs))))
 
   pub last_read : (d : ℕ) (g : Region) → ReadsRegion d g → ReadsRegions d g no_regions
   last_read d g one zero margin isolated scope x r preceding n s rest blank fit dominated_by deep few count place fresh own apart j e = absurd (omega (arith, count))
@@ -221,8 +221,8 @@ module _ (o : Bool) (f : ℕ → ℕ) (last : ℕ) where
       let fresh_one = fresh_preceding f last scope n s.next (256 * region_count (region g no_regions)) 256 (region_ids g) [] fresh (omega arith) in
       let read = one margin isolated scope x r preceding n s (41 ∷ rest) blank fit.0 dominated_by.0 (omega (arith, deep)) (omega (arith, few, same)) place fresh_one (all_preceding _ (region_ids g) [] own) apart j e in
       let mid = trailing s (41 ∷ rest) (length (region_ids g)) in
-      subst (λ (i : ℕ). IsMore IsMarkSeen CloseRound (IsRegion o (Row d) (f x) isolated) (suc headroom) preceding (preceding ++ region_with_ids f g ∷ []) s (trailing s rest i)) same
-      (more_last (IsRegion o (Row d) (f x) isolated) headroom preceding (region_with_ids f g) s mid (seen_rest mid rest) read (mark_seen CloseRound mid rest (mark_token CloseRound rest tt)))
+      subst (λ (i : ℕ). IsMore IsMarkToken CloseRound (IsRegion o (Row d) (f x) isolated) (suc headroom) preceding (preceding ++ region_with_ids f g ∷ []) s (trailing s rest i)) same
+      (more_last (IsRegion o (Row d) (f x) isolated) headroom preceding (region_with_ids f g) s mid (state_with_rest mid rest) read (mark_seen CloseRound mid rest (mark_token CloseRound rest tt)))
 
   pub extra_read : (d : ℕ) (g k : Region) (rs : Regions) → ReadsRegion d g → ReadsRegions d k rs → ReadsRegions d g (region k rs)
   extra_read d g k rs one others zero margin isolated scope x r preceding n s rest blank fit dominated_by deep few count place fresh own apart j e = absurd (omega (arith, count))
@@ -237,7 +237,7 @@ module _ (o : Bool) (f : ℕ → ℕ) (last : ℕ) where
       let fresh_one = fresh_preceding f last scope n s.next (256 * region_count (region g (region k rs))) 256 (region_ids g) tail fresh (omega arith) in
       let read = one margin isolated scope x r preceding n s (44 ∷ 32 ∷ ahead) blank fit.0 dominated_by.0 (omega (arith, deep)) (omega (arith, few, sum)) place fresh_one (all_preceding _ (region_ids g) tail own) apart j here in
       let mid = trailing s (44 ∷ 32 ∷ ahead) (length (region_ids g)) in
-      let after = seen_rest mid (32 ∷ ahead) in
+      let after = state_with_rest mid (32 ∷ ahead) in
       let grown = grown_region o x r g n fit.0 in
       let fresh_more = fresh_back f last scope scope n m s.next (256 * region_count (region g (region k rs))) (256 * region_count (region k rs)) (256 + 4096 * length (region_ids g)) (region_ids g) tail fresh grown (omega arith) (λ v i. all_back _ (region_ids g) tail (fresh.away v i)) in
       let keep : (v : Value) → in_scope scope v ≡ true → naming_of m.named v ≡ naming_of n.named v = λ v i. region_keeps (source_of v) x r g n (λ q a. argument_away (source_of v) x q a (apart v i)) (all_preceding _ (region_ids g) tail (fresh.away v i)) in
@@ -249,8 +249,8 @@ module _ (o : Bool) (f : ℕ → ℕ) (last : ℕ) where
       let all : preceding' ++ region_list (regions_with_ids f (region k rs)) ≡ preceding ++ region_list (regions_with_ids f (region g (region k rs))) = append_assoc preceding (region_with_ids f g ∷ []) (region_list (regions_with_ids f (region k rs))) in
       let total : s.next + length (region_ids g) + length tail ≡ s.next + length (regions_ids (region g (region k rs))) = omega (arith, sum) in
       let whole = more_one (IsRegion o (Row d) (f x) isolated) headroom preceding _ (region_with_ids f g) s mid after _ read open_yet (mark_seen Comma mid (32 ∷ ahead) (mark_token Comma (32 ∷ ahead) tt)) more in
-      subst (λ l. IsMore IsMarkSeen CloseRound (IsRegion o (Row d) (f x) isolated) (suc headroom) preceding l s (trailing s rest (length (regions_ids (region g (region k rs)))))) all
-      (subst (λ (i : ℕ). IsMore IsMarkSeen CloseRound (IsRegion o (Row d) (f x) isolated) (suc headroom) preceding (preceding' ++ region_list (regions_with_ids f (region k rs))) s (record { bytes = rest; scopes = s.scopes; next = i })) total whole)
+      subst (λ l. IsMore IsMarkToken CloseRound (IsRegion o (Row d) (f x) isolated) (suc headroom) preceding l s (trailing s rest (length (regions_ids (region g (region k rs)))))) all
+      (subst (λ (i : ℕ). IsMore IsMarkToken CloseRound (IsRegion o (Row d) (f x) isolated) (suc headroom) preceding (preceding' ++ region_list (regions_with_ids f (region k rs))) s (record { bytes = rest; scopes = s.scopes; next = i })) total whole)
 
   -- ---- one operation
 
@@ -258,13 +258,13 @@ module _ (o : Bool) (f : ℕ → ℕ) (last : ℕ) where
   abbrev pub middle : List ℕ → Head → Regions → Names → List ℕ → List ℕ
   middle margin h rs m tail = opening rs ++ regions_then margin h.id 0 rs m (closing_text rs ++ tail)
 
-  pub record MiddleRead (d : ℕ) (margin : List ℕ) (h : Head) (rs : Regions) (m : Names) (s : Seen) (tail : List ℕ) : Type 0 where
+  pub record MiddleRead (d : ℕ) (margin : List ℕ) (h : Head) (rs : Regions) (m : Names) (s : ParseState) (tail : List ℕ) : Type 0 where
     pub no_less : Not IsMark Less (middle margin h rs m tail)
     pub reads : IsRegions o (Row d) (f h.id) (is_isolated h.name) (region_list (regions_with_ids f rs)) s (trailing s tail (length (regions_ids rs)))
 
   -- the premise that the regions of an operation are parsed back
   abbrev pub ReadsMiddle : ℕ → Regions → Type 0
-  ReadsMiddle d rs = (margin : List ℕ) (scope : List Frame) (h : Head) (m : Names) (s : Seen) (named : Named) (rest : List ℕ) → AreBlank margin → FitsRegions o rs → DominatedByRegions scope h.id 0 rs → regions_depth rs ≤ d → length (regions_ids rs) < 1048576 → region_count rs ≤ 16 → Fresh f last scope m s.next (256 * region_count rs) (regions_ids rs) → AllByRecursion (λ y. (h.id == y) ≡ false) (regions_ids rs) → ((v : Value) → in_scope scope v ≡ true → (source_id (source_of v) == h.id) ≡ false)
+  ReadsMiddle d rs = (margin : List ℕ) (scope : List Frame) (h : Head) (m : Names) (s : ParseState) (named : Named) (rest : List ℕ) → AreBlank margin → FitsRegions o rs → DominatedByRegions scope h.id 0 rs → regions_depth rs ≤ d → length (regions_ids rs) < 1048576 → region_count rs ≤ 16 → Fresh f last scope m s.next (256 * region_count rs) (regions_ids rs) → AllByRecursion (λ y. (h.id == y) ≡ false) (regions_ids rs) → ((v : Value) → in_scope scope v ≡ true → (source_id (source_of v) == h.id) ≡ false)
       → Joined o f scope m (if is_isolated h.name then [] else s.scopes.here) → s.bytes ≡ middle margin h rs m (tail_then h named rest) → MiddleRead d margin h rs m s (tail_then h named rest)
 
   pub none_read : (d : ℕ) → ReadsMiddle d no_regions
@@ -284,7 +284,7 @@ module _ (o : Bool) (f : ℕ → ℕ) (last : ℕ) where
       let inner = region_then margin h.id 0 g m (regions_then margin h.id (0 + 1) rs (region_names h.id 0 g m) (41 ∷ tail)) in
       let opened = space_token (mark OpenRound) (40 ∷ inner) inner (mark_token OpenRound inner tt) in
       let here = subst (λ l. Token (mark OpenRound) l inner) (sym e) opened in
-      let mid = seen_rest s inner in
+      let mid = state_with_rest s inner in
       record {
         no_less = lacks_token (mark OpenRound) Less (32 ∷ 40 ∷ inner) inner opened (λ k. absurd cc);
         reads = inl (mid, mark_seen OpenRound s inner here, all 16 margin (is_isolated h.name) scope h.id 0 [] m mid tail blank fit dominated_by deep few count refl fresh own apart j refl);
@@ -306,8 +306,8 @@ module _ (o : Bool) (f : ℕ → ℕ) (last : ℕ) where
       let keep_p : (v : Value) → in_scope scope v ≡ true → naming_of p.named v ≡ naming_of m.named v = λ v i. regions_keep (source_of v) h.id 0 rs m (λ r k. argument_away (source_of v) h.id r k (apart v i)) (fresh.away v i).1 in
       let jm = joined_later o f scope n m s.scopes.here j keep_m named.results named.arguments in
       let jp = joined_later o f scope m p s.scopes.here jm keep_p inner.results inner.arguments in
-      let seen_m = all_so (λ v. in_scope scope v ≡ true) (IsSeen o f m.named s.scopes.here) (λ v i. jm.seen v i) h.operands dominated_by.0 in
-      let seen_p = all_so (λ v. in_scope scope v ≡ true) (IsSeen o f p.named s.scopes.here) (λ v i. jp.seen v i) h.operands dominated_by.0 in
+      let seen_m = all_so (λ v. in_scope scope v ≡ true) (IsParseState o f m.named s.scopes.here) (λ v i. jm.seen v i) h.operands dominated_by.0 in
+      let seen_p = all_so (λ v. in_scope scope v ≡ true) (IsParseState o f p.named s.scopes.here) (λ v i. jp.seen v i) h.operands dominated_by.0 in
       let alike = same_types m.named p.named h.operands (all_so (λ v. in_scope scope v ≡ true) (λ v. naming_of m.named v ≡ naming_of p.named v) (λ v i. sym (keep_p v i)) h.operands dominated_by.0) in
       let fresh_rs : Fresh f last dominance m (s.next + 1) (256 * region_count rs) (regions_ids rs) = record {
         runs = fresh.runs.1;
@@ -318,11 +318,11 @@ module _ (o : Bool) (f : ℕ → ℕ) (last : ℕ) where
         few_arguments = omega (arith, fresh.few_arguments, named.few_arguments, fit.1);
       } in
       let back = middle margin h rs m tail in
-      let begun : Seen = record { bytes = back; scopes = s.scopes; next = s.next + 1 } in
+      let begun : ParseState = record { bytes = back; scopes = s.scopes; next = s.next + 1 } in
       let mid = regions margin dominance h m begun p.named rest blank fit.2 dominated_by.1 (omega (arith, deep)) (omega (arith, fresh.below, small)) fit.1 fresh_rs own.0 (λ v i. apart v (in_inside isolated scope v i)) (joined_inside o f isolated scope m s.scopes.here jm) refl in
       let start = start_again o f m.named s.scopes.here n.results h s.bytes back lt (are_bytes h.name fit.0.written.bytes) fit.0.written.named fit.0.operands fit.0.results seen_m e in
       let properties = properties_again o h.properties back fit.0.properties fit.0.written.properties mid.no_less in
-      let after : Seen = trailing begun tail (length (regions_ids rs)) in
+      let after : ParseState = trailing begun tail (length (regions_ids rs)) in
       let few_types : length (map (value_type p.named) h.operands) ≤ 256 = omega (arith, types_count p.named h.operands, fit.0.operands) in
       let ended = tail_again o f n.results m.named p.named h rs s.next after rest fit.0 (types_fit o f p.named s.scopes.here h.operands seen_p) few_types alike fresh.runs.0 (j.fresh n.results (omega arith) lt) refl in
       let count : s.next + 1 + length (regions_ids rs) ≡ s.next + length (ids (op h rs)) = omega arith in

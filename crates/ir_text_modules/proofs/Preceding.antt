@@ -17,9 +17,9 @@ use Rattle.ir_text_tokens.proofs.Escapes.{value_again}
 use Rattle.ir_text_tokens.proofs.Decimals.{decimal_number, integer_again, eqb_self, first_passes}
 use Rattle.ir_text_tokens.proofs.Printed.{mark_token, value_token, hash_token, string_token, decimal_token, decimal_name, zero_test}
 use Rattle.ir_text_types.specs.Grammars.{Not, IsMore, IsList, IsMark, Token}
-use Rattle.ir_text_operations.specs.Free.{no_names, seen_as}
+use Rattle.ir_text_operations.specs.Free.{no_names, pack_denoted_by}
 use Rattle.ir_text_names.specs.Packs.{Counted, counts}
-use Rattle.ir_text_operations.specs.Seen.{BoundTerm}
+use Rattle.ir_text_operations.specs.ParseState.{BoundTerm}
 use Rattle.ir_text_operations.specs.OpGrammar.{IsCount, IsResult, IsResults, IsOpName, IsPlace, IsUse, IsStart, StartTerm}
 use Rattle.ir_text.specs.declared.naming.ValueName.{ValueName}
 use Rattle.ir_text.specs.declared.naming.ValueName.TheVariants.{Only, Part, Argument}
@@ -33,7 +33,7 @@ use Rattle.ir_text_modules.proofs.Words.{run_within, all_digits, digit_word}
 use Rattle.ir_tree_laws.specs.Renumbered.{value_with_id}
 use Rattle.ir_text_modules.proofs.Texts.{Head, results_then, name_then}
 use Rattle.ir_text_modules.proofs.ModuleWords.{argument_word}
-use Rattle.ir_text_modules.proofs.Joined.{Here, IsSmall, IsSeen, word_of, place_of, term_of}
+use Rattle.ir_text_modules.proofs.Joined.{Here, IsSmall, IsParseState, word_of, place_of, term_of}
 
 -- ---- names
 
@@ -84,19 +84,19 @@ name_read (Argument n) rest small ends = record { mid = rest; token = value_toke
 -- ---- operands
 
 module _ (f : ℕ → ℕ) (named : Named) (here : Here) where
-  abbrev pub Seen : Bool → Value → Type 0
-  Seen o v = IsSeen o f named here v
+  abbrev pub ParseState : Bool → Value → Type 0
+  ParseState o v = IsParseState o f named here v
 
   -- the value with its type
   abbrev pub bound_of : Value → BoundTerm
   bound_of v = term_of f v (value_type named v)
 
-  use_read : (o : Bool) (v : Value) (rest : List ℕ) → Seen o v → EndsName rest → IsUse no_names here (bound_of v) (value_text named v ++ rest) rest
+  use_read : (o : Bool) (v : Value) (rest : List ℕ) → ParseState o v → EndsName rest → IsUse no_names here (bound_of v) (value_text named v ++ rest) rest
   use_read o v rest s ends =
       let r = s.read in
       let y = s.naming in
       let k = name_read y.name rest r.small ends in
-      let seen : seen_as no_names here (word_of y.name) ≡ Some r.pack = rw r.bound refl in
+      let seen : pack_denoted_by no_names here (word_of y.name) ≡ Some r.pack = rw r.bound refl in
       rw s.named (word_of y.name, k.mid, r.pack, place_of y.name, k.token, seen, k.place, r.place)
 
   use_ahead : Ahead (IsUse no_names here)
@@ -113,7 +113,7 @@ module _ (f : ℕ → ℕ) (named : Named) (here : Here) where
   ends_next [] rest = close_ends rest
   ends_next (v ∷ vs) rest = comma_ends _
 
-  uses_more : (o : Bool) (headroom : ℕ) (preceding : List BoundTerm) (v : Value) (vs : List Value) (rest : List ℕ) → AllByRecursion (Seen o) (v ∷ vs) → length (v ∷ vs) ≤ headroom
+  uses_more : (o : Bool) (headroom : ℕ) (preceding : List BoundTerm) (v : Value) (vs : List Value) (rest : List ℕ) → AllByRecursion (ParseState o) (v ∷ vs) → length (v ∷ vs) ≤ headroom
       → IsMore IsMark CloseRound (λ before. IsUse no_names here) headroom preceding (preceding ++ map bound_of (v ∷ vs)) (value_text named v ++ others vs rest) rest
   unfolding IsMore
   uses_more o zero preceding v vs rest h le = absurd (omega (arith, le))
@@ -129,7 +129,7 @@ module _ (f : ℕ → ℕ) (named : Named) (here : Here) where
       subst (λ l. IsMore IsMark CloseRound (λ before. IsUse no_names here) (suc headroom) preceding (preceding ++ map bound_of (v ∷ w ∷ ws)) (value_text named v ++ l) rest) (sym apart)
       (bound_of v, 44 ∷ tail, use_read o v (44 ∷ tail) h.0 (comma_ends tail), inr (open_yet, tail, mark_token Comma tail tt, subst (λ l. IsMore IsMark CloseRound (λ before. IsUse no_names here) headroom preceding' l tail rest) (sym all) spaced))
 
-  pub uses_again : (o : Bool) (headroom : ℕ) (vs : List Value) (rest : List ℕ) → AllByRecursion (Seen o) vs → length vs ≤ headroom → IsList IsMark CloseRound (λ before. IsUse no_names here) headroom (map bound_of vs) (parted (codes ", ") true (map (value_text named) vs) ++ 41 ∷ rest) rest
+  pub uses_again : (o : Bool) (headroom : ℕ) (vs : List Value) (rest : List ℕ) → AllByRecursion (ParseState o) vs → length vs ≤ headroom → IsList IsMark CloseRound (λ before. IsUse no_names here) headroom (map bound_of vs) (parted (codes ", ") true (map (value_text named) vs) ++ 41 ∷ rest) rest
   unfolding IsList
   uses_again o headroom [] rest h le = inl (mark_token CloseRound rest tt, refl)
   uses_again o headroom (v ∷ vs) rest h le =
@@ -216,7 +216,7 @@ results_read m (t ∷ ts) old rest raw new lt few h e =
 abbrev pub start_of : (ℕ → ℕ) → Named → ℕ → Head → StartTerm
 start_of f named m h = record { results = result_words m h.results; name = h.name; operands = map (bound_of f named []) h.operands }
 
-pub start_again : (o : Bool) (f : ℕ → ℕ) (named : Named) (here : Here) (m : ℕ) (h : Head) (old rest : List ℕ) → m < 2 ^ 128 → AreBytes h.name → (length h.name == 0) ≡ false → length h.operands ≤ 256 → length h.results ≤ 256 → AllByRecursion (IsSeen o f named here) h.operands
+pub start_again : (o : Bool) (f : ℕ → ℕ) (named : Named) (here : Here) (m : ℕ) (h : Head) (old rest : List ℕ) → m < 2 ^ 128 → AreBytes h.name → (length h.name == 0) ≡ false → length h.operands ≤ 256 → length h.results ≤ 256 → AllByRecursion (IsParseState o f named here) h.operands
     → next old ≡ next (results_then m h.results (name_then h named rest)) → IsStart no_names here (start_of f named m h) old (properties_text h.properties ++ rest)
 start_again o f named here m h old rest lt bytes some ops res seen e =
     let trailing = properties_text h.properties ++ rest in

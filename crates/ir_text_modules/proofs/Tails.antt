@@ -16,7 +16,7 @@ use Rattle.ir_text_types.specs.Grammars.{Not, IsMark, Token}
 use Rattle.ir_text_types.specs.TypeGrammar.{types_of, IsFunctionType}
 use Rattle.ir_text_attributes.specs.AttrGrammar.{entries_of, EntryTerm}
 use Rattle.ir_text_operations.specs.Made.{made}
-use Rattle.ir_text_operations.specs.Seen.{BoundTerm, PackTerm, Seen, seen_rest}
+use Rattle.ir_text_operations.specs.ParseState.{BoundTerm, PackTerm, ParseState, state_with_rest}
 use Rattle.ir_text_operations.specs.OpGrammar.{is_property, result_terms, IsFinished, IsTail}
 use Rattle.ir_text.specs.AttrText.{entry_texts}
 use Rattle.ir_text.specs.Naming.{Named, value_type}
@@ -83,7 +83,7 @@ type_spaced : (o : Bool) (ins outs : List TypeTerm) (back rest : List ℕ) → I
 unfolding IsFunctionType
 type_spaced o ins outs back rest k = (k.0, space_token _ back k.0 k.1, k.2)
 
-pub tail_again : (o : Bool) (f : ℕ → ℕ) (m : ℕ) (first named : Named) (h : Head) (rs : Regions) (id : ℕ) (s : Seen) (rest : List ℕ) → FitsHead o h → AllByRecursion (FitsType o 32) (map (value_type named) h.operands) → length (map (value_type named) h.operands) ≤ 256 → map (value_type first) h.operands ≡ map (value_type named) h.operands → f h.id ≡ id
+pub tail_again : (o : Bool) (f : ℕ → ℕ) (m : ℕ) (first named : Named) (h : Head) (rs : Regions) (id : ℕ) (s : ParseState) (rest : List ℕ) → FitsHead o h → AllByRecursion (FitsType o 32) (map (value_type named) h.operands) → length (map (value_type named) h.operands) ≤ 256 → map (value_type first) h.operands ≡ map (value_type named) h.operands → f h.id ≡ id
     → find (decimal m) s.scopes.here ≡ None → s.bytes ≡ tail_then h named rest → IsTail o id (start_of f first m h) h.properties (region_list (regions_with_ids f rs)) (with_ids f (op h rs)) s (record { bytes = 10 ∷ rest; scopes = finished m id h.results s.scopes; next = s.next })
 tail_again o f m first named h rs id s rest fit types few same e fresh bytes =
     let ins = map (value_type named) h.operands in
@@ -93,4 +93,4 @@ tail_again o f m first named h rs id s rest fit types few same e fresh bytes =
     let attributes = attributes_again o h.name h.properties h.attributes (colon_then h named rest) fit.attributes fit.written.attributes fit.written.others lacks in
     let type = type_spaced o ins h.results back (10 ∷ rest) (function_type_again o ins h.results (10 ∷ rest) (omega (arith, few)) fit.results types fit.written.types (line_ends o rest)) in
     let inputs : map (λ (b : BoundTerm). b.type) (map (bound_of f first []) h.operands) ≡ ins = bound_types f first [] h.operands ∙ same in
-    (h.attributes, seen_rest s (colon_then h named rest), (colon_then h named rest, rw bytes attributes, refl), (seen_rest s (32 ∷ back), (32 ∷ back, colon, refl), ((ins, h.results), seen_rest s (10 ∷ rest), (10 ∷ rest, type, refl), (inputs, (finished m id h.results s.scopes, finish_read m id h.results s.scopes fresh, refl, made_again o f id first h rs fit e)))))
+    (h.attributes, state_with_rest s (colon_then h named rest), (colon_then h named rest, rw bytes attributes, refl), (state_with_rest s (32 ∷ back), (32 ∷ back, colon, refl), ((ins, h.results), state_with_rest s (10 ∷ rest), (10 ∷ rest, type, refl), (inputs, (finished m id h.results s.scopes, finish_read m id h.results s.scopes fresh, refl, made_again o f id first h rs fit e)))))

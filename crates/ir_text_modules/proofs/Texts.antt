@@ -8,8 +8,8 @@ use Rattle.ir_text_tokens.specs.Printing.{string_text}
 use Rattle.ir_text.specs.TypeText.{in_round, type_text}
 use Rattle.ir_text.specs.Naming.{Named, value_text, value_type, name_results, name_argument}
 use Rattle.ir_text_types.specs.TypeGrammar.{types_of}
-use Rattle.ir_text.specs.Printing.{Printed, put, deeper, results_text, put_results, properties_text, attributes_text, put_name, put_head, put_tail, comma_at, argument_text, put_argument, put_arguments, put_label, opening, closing_text, put_op, put_regions, put_region, put_ops}
-use Rattle.ir_text_modules.specs.Standing.{unwritten}
+use Rattle.ir_text.specs.Printing.{Printed, put, deeper, results_text, print_results, properties_text, attributes_text, print_name, print_head, print_tail, comma_at, argument_text, print_argument, print_arguments, print_label, opening, closing_text, printed_op, print_regions, print_region, print_ops}
+use Rattle.ir_text_modules.specs.Denotation.{unwritten}
 use Rattle.ir_types.proofs.Truths.{append_none}
 
 abbrev pub Head : Type 0
@@ -132,11 +132,11 @@ puts_text t = puts_by (λ n. t)
 puts_nothing : Puts (λ o. o) (λ n. n) (λ n rest. rest)
 puts_nothing = record { names = λ o. refl; text = λ o rest. refl }
 
-puts_results : (x : ℕ) (ts : List TypeTerm) → Puts (put_results x ts) (results_names x ts) (λ n rest. results_then n.results ts rest)
+puts_results : (x : ℕ) (ts : List TypeTerm) → Puts (print_results x ts) (results_names x ts) (λ n rest. results_then n.results ts rest)
 puts_results x [] = puts_nothing
 puts_results x (t ∷ ts) = record { names = λ o. refl; text = λ o rest. append_assoc o.text (results_text o.results (length (t ∷ ts))) rest }
 
-puts_name : (h : Head) → Puts (put_name h) (λ n. n) (λ n rest. name_then h n.named rest)
+puts_name : (h : Head) → Puts (print_name h) (λ n. n) (λ n rest. name_then h n.named rest)
 puts_name h = record {
   names = λ o. refl;
   text = λ o rest.
@@ -146,10 +146,10 @@ puts_name h = record {
       ∙ append_assoc o.text (string_text h.name) (operands ++ (properties_text h.properties ++ rest));
 }
 
-puts_head : (h : Head) → Puts (λ o. put_name h (put_results h.id h.results o)) (results_names h.id h.results) (head_then h)
-puts_head h = puts_then (put_results h.id h.results) (put_name h) (results_names h.id h.results) (λ n. n) (λ n rest. results_then n.results h.results rest) (λ n rest. name_then h n.named rest) (puts_results h.id h.results) (puts_name h)
+puts_head : (h : Head) → Puts (λ o. print_name h (print_results h.id h.results o)) (results_names h.id h.results) (head_then h)
+puts_head h = puts_then (print_results h.id h.results) (print_name h) (results_names h.id h.results) (λ n. n) (λ n rest. results_then n.results h.results rest) (λ n rest. name_then h n.named rest) (puts_results h.id h.results) (puts_name h)
 
-puts_tail : (h : Head) → Puts (put_tail h) (λ n. n) (λ n rest. tail_then h n.named rest)
+puts_tail : (h : Head) → Puts (print_tail h) (λ n. n) (λ n rest. tail_then h n.named rest)
 puts_tail h = record {
   names = λ o. refl;
   text = λ o rest.
@@ -160,61 +160,61 @@ puts_tail h = record {
       ∙ append_assoc o.text (attributes_text h.attributes) (codes " : " ++ (type ++ (codes "\n" ++ rest)));
 }
 
-puts_argument : (x r k : ℕ) (t : TypeTerm) → Puts (put_argument x r k t) (argument_names x r k t) (λ n rest. argument_text n.arguments t ++ rest)
+puts_argument : (x r k : ℕ) (t : TypeTerm) → Puts (print_argument x r k t) (argument_names x r k t) (λ n rest. argument_text n.arguments t ++ rest)
 puts_argument x r k t = record { names = λ o. refl; text = λ o rest. append_assoc o.text (argument_text o.arguments t) rest }
 
-puts_arguments : (x r k : ℕ) (ts : List TypeTerm) → Puts (put_arguments x r k ts) (arguments_names x r k ts) (λ n rest. arguments_then k ts n.arguments rest)
+puts_arguments : (x r k : ℕ) (ts : List TypeTerm) → Puts (print_arguments x r k ts) (arguments_names x r k ts) (λ n rest. arguments_then k ts n.arguments rest)
 puts_arguments x r k [] = puts_nothing
 puts_arguments x r k (t ∷ ts) =
     let comma = puts_text (comma_at k) in
-    let one = puts_then (put (comma_at k)) (put_argument x r k t) (λ n. n) (argument_names x r k t) (λ n rest. comma_at k ++ rest) (λ n rest. argument_text n.arguments t ++ rest) comma (puts_argument x r k t) in
-    puts_then (λ o. put_argument x r k t (put (comma_at k) o)) (put_arguments x r (k + 1) ts) (argument_names x r k t) (arguments_names x r (k + 1) ts) (λ n rest. comma_at k ++ (argument_text n.arguments t ++ rest)) (λ n rest. arguments_then (k + 1) ts n.arguments rest) one (puts_arguments x r (k + 1) ts)
+    let one = puts_then (put (comma_at k)) (print_argument x r k t) (λ n. n) (argument_names x r k t) (λ n rest. comma_at k ++ rest) (λ n rest. argument_text n.arguments t ++ rest) comma (puts_argument x r k t) in
+    puts_then (λ o. print_argument x r k t (put (comma_at k) o)) (print_arguments x r (k + 1) ts) (argument_names x r k t) (arguments_names x r (k + 1) ts) (λ n rest. comma_at k ++ (argument_text n.arguments t ++ rest)) (λ n rest. arguments_then (k + 1) ts n.arguments rest) one (puts_arguments x r (k + 1) ts)
 
 -- two texts, one after the other
 puts_two : (s t : List ℕ) → Puts (λ o. put t (put s o)) (λ n. n) (λ n rest. s ++ (t ++ rest))
 puts_two s t = puts_then (put s) (put t) (λ n. n) (λ n. n) (λ n rest. s ++ rest) (λ n rest. t ++ rest) (puts_text s) (puts_text t)
 
-puts_label : (margin : List ℕ) (x r : ℕ) (args : List TypeTerm) (os : Ops) → Puts (put_label margin x r args os) (arguments_names x r 0 args) (label_then margin args os)
+puts_label : (margin : List ℕ) (x r : ℕ) (args : List TypeTerm) (os : Ops) → Puts (print_label margin x r args os) (arguments_names x r 0 args) (label_then margin args os)
 puts_label margin x r [] no_ops = puts_two margin (codes "^bb0:\n")
 puts_label margin x r [] (next t ts) = puts_nothing
 puts_label margin x r (t ∷ ts) os =
-    let args = puts_then (λ o. put (codes "^bb0(") (put margin o)) (put_arguments x r 0 (t ∷ ts)) (λ n. n) (arguments_names x r 0 (t ∷ ts)) (λ n rest. margin ++ (codes "^bb0(" ++ rest)) (λ n rest. arguments_then 0 (t ∷ ts) n.arguments rest) (puts_two margin (codes "^bb0(")) (puts_arguments x r 0 (t ∷ ts)) in
-    puts_then (λ o. put_arguments x r 0 (t ∷ ts) (put (codes "^bb0(") (put margin o))) (put (codes "):\n")) (arguments_names x r 0 (t ∷ ts)) (λ n. n) (λ n rest. margin ++ (codes "^bb0(" ++ arguments_then 0 (t ∷ ts) n.arguments rest)) (λ n rest. codes "):\n" ++ rest) args (puts_text (codes "):\n"))
+    let args = puts_then (λ o. put (codes "^bb0(") (put margin o)) (print_arguments x r 0 (t ∷ ts)) (λ n. n) (arguments_names x r 0 (t ∷ ts)) (λ n rest. margin ++ (codes "^bb0(" ++ rest)) (λ n rest. arguments_then 0 (t ∷ ts) n.arguments rest) (puts_two margin (codes "^bb0(")) (puts_arguments x r 0 (t ∷ ts)) in
+    puts_then (λ o. print_arguments x r 0 (t ∷ ts) (put (codes "^bb0(") (put margin o))) (put (codes "):\n")) (arguments_names x r 0 (t ∷ ts)) (λ n. n) (λ n rest. margin ++ (codes "^bb0(" ++ arguments_then 0 (t ∷ ts) n.arguments rest)) (λ n rest. codes "):\n" ++ rest) args (puts_text (codes "):\n"))
 
 mutual
-  pub puts_op : (margin : List ℕ) (t : Operation) → Puts (put_op margin t) (op_names t) (λ n rest. margin ++ op_then margin t n rest)
+  pub puts_op : (margin : List ℕ) (t : Operation) → Puts (printed_op margin t) (op_names t) (λ n rest. margin ++ op_then margin t n rest)
   puts_op margin (op h rs) =
       let named = results_names h.id h.results in
       let inner = regions_names h.id 0 rs in
-      let begun = puts_then (put margin) (λ o. put_name h (put_results h.id h.results o)) (λ n. n) named (λ n rest. margin ++ rest) (head_then h) (puts_text margin) (puts_head h) in
-      let opened = puts_then (put_head margin h) (put (opening rs)) named (λ n. n) (λ n rest. margin ++ head_then h n rest) (λ n rest. opening rs ++ rest) begun (puts_text (opening rs)) in
-      let regions = puts_then (λ o. put (opening rs) (put_head margin h o)) (put_regions margin h.id 0 rs) named inner (λ n rest. margin ++ head_then h n (opening rs ++ rest)) (regions_then margin h.id 0 rs) opened (puts_regions margin h.id 0 rs) in
-      let closed = puts_then (λ o. put_regions margin h.id 0 rs (put (opening rs) (put_head margin h o))) (put (closing_text rs)) (λ n. inner (named n)) (λ n. n) (λ n rest. margin ++ head_then h n (opening rs ++ regions_then margin h.id 0 rs (named n) rest)) (λ n rest. closing_text rs ++ rest) regions (puts_text (closing_text rs)) in
-      puts_then (λ o. put (closing_text rs) (put_regions margin h.id 0 rs (put (opening rs) (put_head margin h o)))) (put_tail h) (λ n. inner (named n)) (λ n. n) (λ n rest. margin ++ head_then h n (opening rs ++ regions_then margin h.id 0 rs (named n) (closing_text rs ++ rest))) (λ n rest. tail_then h n.named rest) closed (puts_tail h)
+      let begun = puts_then (put margin) (λ o. print_name h (print_results h.id h.results o)) (λ n. n) named (λ n rest. margin ++ rest) (head_then h) (puts_text margin) (puts_head h) in
+      let opened = puts_then (print_head margin h) (put (opening rs)) named (λ n. n) (λ n rest. margin ++ head_then h n rest) (λ n rest. opening rs ++ rest) begun (puts_text (opening rs)) in
+      let regions = puts_then (λ o. put (opening rs) (print_head margin h o)) (print_regions margin h.id 0 rs) named inner (λ n rest. margin ++ head_then h n (opening rs ++ rest)) (regions_then margin h.id 0 rs) opened (puts_regions margin h.id 0 rs) in
+      let closed = puts_then (λ o. print_regions margin h.id 0 rs (put (opening rs) (print_head margin h o))) (put (closing_text rs)) (λ n. inner (named n)) (λ n. n) (λ n rest. margin ++ head_then h n (opening rs ++ regions_then margin h.id 0 rs (named n) rest)) (λ n rest. closing_text rs ++ rest) regions (puts_text (closing_text rs)) in
+      puts_then (λ o. put (closing_text rs) (print_regions margin h.id 0 rs (put (opening rs) (print_head margin h o)))) (print_tail h) (λ n. inner (named n)) (λ n. n) (λ n rest. margin ++ head_then h n (opening rs ++ regions_then margin h.id 0 rs (named n) (closing_text rs ++ rest))) (λ n rest. tail_then h n.named rest) closed (puts_tail h)
 
-  puts_regions : (margin : List ℕ) (x r : ℕ) (rs : Regions) → Puts (put_regions margin x r rs) (regions_names x r rs) (regions_then margin x r rs)
+  puts_regions : (margin : List ℕ) (x r : ℕ) (rs : Regions) → Puts (print_regions margin x r rs) (regions_names x r rs) (regions_then margin x r rs)
   puts_regions margin x r no_regions = puts_nothing
   puts_regions margin x r (region g rs) =
-      let one = puts_then (put (comma_at r)) (put_region margin x r g) (λ n. n) (region_names x r g) (λ n rest. comma_at r ++ rest) (region_then margin x r g) (puts_text (comma_at r)) (puts_region margin x r g) in
-      puts_then (λ o. put_region margin x r g (put (comma_at r) o)) (put_regions margin x (r + 1) rs) (region_names x r g) (regions_names x (r + 1) rs) (λ n rest. comma_at r ++ region_then margin x r g n rest) (regions_then margin x (r + 1) rs) one (puts_regions margin x (r + 1) rs)
+      let one = puts_then (put (comma_at r)) (print_region margin x r g) (λ n. n) (region_names x r g) (λ n rest. comma_at r ++ rest) (region_then margin x r g) (puts_text (comma_at r)) (puts_region margin x r g) in
+      puts_then (λ o. print_region margin x r g (put (comma_at r) o)) (print_regions margin x (r + 1) rs) (region_names x r g) (regions_names x (r + 1) rs) (λ n rest. comma_at r ++ region_then margin x r g n rest) (regions_then margin x (r + 1) rs) one (puts_regions margin x (r + 1) rs)
 
-  puts_region : (margin : List ℕ) (x r : ℕ) (g : Region) → Puts (put_region margin x r g) (region_names x r g) (region_then margin x r g)
+  puts_region : (margin : List ℕ) (x r : ℕ) (g : Region) → Puts (print_region margin x r g) (region_names x r g) (region_then margin x r g)
   puts_region margin x r empty = puts_text (codes "{}")
   puts_region margin x r (block args os) =
       let named = arguments_names x r 0 args in
-      let label = puts_then (put (codes "{\n")) (put_label margin x r args os) (λ n. n) named (λ n rest. codes "{\n" ++ rest) (label_then margin args os) (puts_text (codes "{\n")) (puts_label margin x r args os) in
-      let inner = puts_then (λ o. put_label margin x r args os (put (codes "{\n") o)) (put_ops (deeper margin) os) named (ops_names os) (λ n rest. codes "{\n" ++ label_then margin args os n rest) (ops_then (deeper margin) os) label (puts_ops (deeper margin) os) in
-      puts_then (λ o. put_ops (deeper margin) os (put_label margin x r args os (put (codes "{\n") o))) (λ o. put (codes "}") (put margin o)) (λ n. ops_names os (named n)) (λ n. n) (λ n rest. codes "{\n" ++ label_then margin args os n (ops_then (deeper margin) os (named n) rest)) (λ n rest. margin ++ (codes "}" ++ rest)) inner (puts_two margin (codes "}"))
+      let label = puts_then (put (codes "{\n")) (print_label margin x r args os) (λ n. n) named (λ n rest. codes "{\n" ++ rest) (label_then margin args os) (puts_text (codes "{\n")) (puts_label margin x r args os) in
+      let inner = puts_then (λ o. print_label margin x r args os (put (codes "{\n") o)) (print_ops (deeper margin) os) named (ops_names os) (λ n rest. codes "{\n" ++ label_then margin args os n rest) (ops_then (deeper margin) os) label (puts_ops (deeper margin) os) in
+      puts_then (λ o. print_ops (deeper margin) os (print_label margin x r args os (put (codes "{\n") o))) (λ o. put (codes "}") (put margin o)) (λ n. ops_names os (named n)) (λ n. n) (λ n rest. codes "{\n" ++ label_then margin args os n (ops_then (deeper margin) os (named n) rest)) (λ n rest. margin ++ (codes "}" ++ rest)) inner (puts_two margin (codes "}"))
 
-  puts_ops : (margin : List ℕ) (os : Ops) → Puts (put_ops margin os) (ops_names os) (ops_then margin os)
+  puts_ops : (margin : List ℕ) (os : Ops) → Puts (print_ops margin os) (ops_names os) (ops_then margin os)
   puts_ops margin no_ops = puts_nothing
-  puts_ops margin (next t ts) = puts_then (put_op margin t) (put_ops margin ts) (op_names t) (ops_names ts) (λ n rest. margin ++ op_then margin t n rest) (ops_then margin ts) (puts_op margin t) (puts_ops margin ts)
+  puts_ops margin (next t ts) = puts_then (printed_op margin t) (print_ops margin ts) (op_names t) (ops_names ts) (λ n rest. margin ++ op_then margin t n rest) (ops_then margin ts) (puts_op margin t) (puts_ops margin ts)
 
 -- ---- after the text that is already printed
 
-pub op_appended : (margin : List ℕ) (t : Operation) (o : Printed) → (put_op margin t o).text ≡ o.text ++ (put_op margin t (unwritten o)).text
+pub op_appended : (margin : List ℕ) (t : Operation) (o : Printed) → (printed_op margin t o).text ≡ o.text ++ (printed_op margin t (unwritten o)).text
 op_appended margin t o =
     let p = puts_op margin t in
-    let here = sym (append_none (put_op margin t o).text) ∙ p.text o [] in
-    let alone = sym (append_none (put_op margin t (unwritten o)).text) ∙ p.text (unwritten o) [] in
+    let here = sym (append_none (printed_op margin t o).text) ∙ p.text o [] in
+    let alone = sym (append_none (printed_op margin t (unwritten o)).text) ∙ p.text (unwritten o) [] in
     here ∙ ap (λ (l : List ℕ). o.text ++ l) (sym alone)

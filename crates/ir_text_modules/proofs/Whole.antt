@@ -10,7 +10,7 @@ use Rattle.ir_text_tokens.specs.declared.token.Mark.TheVariants.{End}
 use Rattle.ir_text_tokens.proofs.Printed.{mark_token, blank_passed}
 use Rattle.ir_text_tokens.specs.Tokens.{next as next_token}
 use Rattle.ir_text_operations.specs.Free.{no_names}
-use Rattle.ir_text_operations.specs.Seen.{seen_fresh}
+use Rattle.ir_text_operations.specs.ParseState.{initial_state}
 use Rattle.ir_text_operations.specs.Spelling.{IsSingleOp}
 use Rattle.ir_text.specs.Printing.{text_of, blank}
 use Rattle.ir_tree_laws.specs.Renumbered.{with_ids}
@@ -31,7 +31,7 @@ pub single_again : (o : Bool) (f : ℕ → ℕ) (t : Operation) → FitsOp o t �
 unfolding IsSingleOp
 single_again o f t fit dominated_by runs distinct deep few =
     let n = names_of blank in
-    let s = seen_fresh 0 (text_of t) in
+    let s = initial_state 0 (text_of t) in
     let fresh : Fresh f 1048576 [] n 0 0 (ids t) = record {
       runs = runs;
       distinct = distinct;

@@ -13,7 +13,7 @@ use Rattle.ir_text_aliases.specs.Uses.{Aliases}
 use Rattle.ir_text_aliases.specs.Values.{Ends, definition_at, is_defined}
 use Rattle.ir_text_aliases.specs.Terms.{value_end}
 use Rattle.ir_text_aliases.specs.Walk.{Walked, fault_at, walk_text}
-use Rattle.ir_text_modules.specs.Recursion.{spells_itself}
+use Rattle.ir_text_modules.specs.Recursion.{repeats_own_head}
 
 -- ---- one value
 
@@ -44,7 +44,7 @@ or_itself (Some fault) other = Some fault
 -- the fault of a value that ends: that of its expansion, or `LeftOut` if the value contains a dialect's type inside
 -- itself; the fault of a value that doesn't end is that of an alias before the end, if there is one
 abbrev pub closed_fault : List ℕ → Walked → Option Fault
-closed_fault bytes w = or_itself w.fault (if spells_itself w.text then Some (fault_at bytes LeftOut) else None)
+closed_fault bytes w = or_itself w.fault (if repeats_own_head w.text then Some (fault_at bytes LeftOut) else None)
 
 abbrev pub value_up_to : List ℕ → Aliases → List ℕ → Ends → Value
 value_up_to values env bytes (Ok rest) = rendered_or (closed_fault bytes (value_walk values env bytes (length rest))) (value_walk values env bytes (length rest)).text rest

@@ -3,7 +3,7 @@ pub mod Kept
 pub mod KeptAttributes
 pub mod Written
 pub mod WrittenAttributes
-pub mod Standing
+pub mod Denotation
 pub mod Runs
 pub mod WrittenTrees
 pub mod Recursion

@@ -19,14 +19,14 @@ abbrev pub after_scanned : List ℕ → Option (List ℕ)
 after_scanned [] = None
 after_scanned (c ∷ cs) = if c == 33 then option_and_then after_own (trailing_first 60 (drop (suffix_len cs) cs)) else None
 
-unfoldable pub stands_in : (scanned : List ℕ) → List ℕ → Bool
-stands_in scanned [] = false
-stands_in scanned (c ∷ cs) = starts_with nat_eq (c ∷ cs) scanned || stands_in scanned cs
+unfoldable pub repeats_head : (scanned : List ℕ) → List ℕ → Bool
+repeats_head scanned [] = false
+repeats_head scanned (c ∷ cs) = starts_with nat_eq (c ∷ cs) scanned || repeats_head scanned cs
 
-abbrev pub stands_again : List ℕ → Option (List ℕ) → Bool
-stands_again text None = false
-stands_again text (Some rest) = stands_in (take (length text - length rest) text) rest
+abbrev pub repeats_head_after : List ℕ → Option (List ℕ) → Bool
+repeats_head_after text None = false
+repeats_head_after text (Some rest) = repeats_head (take (length text - length rest) text) rest
 
 -- whether the text begins with the head of such a type and contains that head again
-abbrev pub spells_itself : List ℕ → Bool
-spells_itself text = stands_again text (after_scanned text)
+abbrev pub repeats_own_head : List ℕ → Bool
+repeats_own_head text = repeats_head_after text (after_scanned text)

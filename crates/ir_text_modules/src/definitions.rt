@@ -3,13 +3,13 @@ ghost use Rattle.std.specs.Prelude.{◌≡◌, ◌≤◌, ◌++◌, ◌-◌, [],
 ghost use Rattle.ir_text_tokens.specs.Bodies.{begins};
 ghost use Rattle.ir_text_aliases.specs.Lexemes.{is_gap, name_of};
 ghost use Rattle.ir_text_modules.specs.Definitions.{defined, definitions, is_known, value_at, value_of_name, value_up_to, value_walk, with_alias};
-ghost use Rattle.ir_text_modules.specs.Recursion.{spells_itself};
+ghost use Rattle.ir_text_modules.specs.Recursion.{repeats_own_head};
 ghost use Rattle.ir_text_modules.specs.Steps.{Adds};
 ghost use Rattle.ir_text_aliases.specs.Walk.{fault_at};
 ghost use Rattle.ir_text_tokens.specs.declared.refusal.TextRefusal.TheVariants.{LeftOut};
 ghost use Rattle.ir_text_tokens.specs.declared.fault.Fault.{Fault as Reason};
 
-use crate::recursion::spells_itself;
+use crate::recursion::repeats_own_head;
 use ir_text_aliases::lexemes::{after_lexeme, is_gap, name_len};
 use ir_text_aliases::part::TextPart;
 use ir_text_aliases::scan_state::BracketContents;
@@ -32,7 +32,7 @@ pub(crate) struct Known<'a> {
 // ---- one value
 
 /// Appends the expansion of the value, up to where `left` bytes of the text are left. Returns its first fault.
-fn put_value<'a>(
+fn append_value<'a>(
     alloc: Global,
     known: &Known<'a>,
     bytes: &'a [u8],
@@ -73,7 +73,7 @@ fn open_value<'a>(
     requires marks { out.old.marks.items ≡ [] }
     ensures { IfOk result (λ f. value_up_to known.now.values.items known.now.names.here bytes.now (Err fault) ≡ Err f) }
 {
-    match put_value(alloc, known, bytes, fault.left, out)? {
+    match append_value(alloc, known, bytes, fault.left, out)? {
         Some(first) => Ok(first),
         None => Ok(fault),
     }
@@ -81,9 +81,9 @@ fn open_value<'a>(
 
 /// Returns the fault `LeftOut` if the value contains a dialect's type inside itself.
 fn itself(bytes: &[u8], out: &ExpandedText) -> Option<Fault>
-    ensures { result ≡ (if spells_itself out.now.text.items then Some (fault_at bytes.now LeftOut) else None) }
+    ensures { result ≡ (if repeats_own_head out.now.text.items then Some (fault_at bytes.now LeftOut) else None) }
 {
-    if spells_itself(&out.text) {
+    if repeats_own_head(&out.text) {
         Some(Fault::at(TextRefusal::LeftOut, bytes))
     } else {
         None
@@ -103,7 +103,7 @@ fn closed_value<'a>(
     ensures ok { IfOk result (λ f. f ≡ None → value_up_to known.now.values.items known.now.names.here bytes.now (Ok rest.now) ≡ Ok (out.new.text.items, rest.now)) }
     ensures err { IfOk result (λ f. (x : Reason) → f ≡ Some x → value_up_to known.now.values.items known.now.names.here bytes.now (Ok rest.now) ≡ Err x) }
 {
-    match put_value(alloc, known, bytes, rest.len(), out)? {
+    match append_value(alloc, known, bytes, rest.len(), out)? {
         None => Ok(itself(bytes, out)),
         Some(fault) => Ok(Some(fault)),
     }

@@ -73,7 +73,7 @@ fn operations<'a>(
 }
 
 /// Appends the whole expansion.
-fn put_all<'a>(
+fn push_expansion<'a>(
     alloc: Global,
     known: &mut Known<'a>,
     bytes: &'a [u8],
@@ -113,7 +113,7 @@ pub fn expand(alloc: Global, keyed: Keyed, bytes: &[u8]) -> Result<Expansion, Al
         text: Vec::new(alloc),
         marks: Vec::new(alloc),
     };
-    let fault = put_all(alloc, &mut known, bytes, &mut out)?;
+    let fault = push_expansion(alloc, &mut known, bytes, &mut out)?;
     Ok(Expansion {
         text: out.text,
         marks: out.marks,

@@ -11,16 +11,16 @@ ghost use Rattle.ir_tree_laws.specs.Renumbered.{renumbered, with_ids};
 ghost use Rattle.ir_text_tokens.specs.Limits.{most_bytes};
 ghost use Rattle.ir_text_operations.specs.Free.{no_names};
 ghost use Rattle.ir_text_operations.specs.Spelling.{IsSingleOp, Spells, is_root};
-ghost use Rattle.ir_text.specs.Printing.{Printed, put_op, text_of};
+ghost use Rattle.ir_text.specs.Printing.{Printed, printed_op, text_of};
 ghost use Rattle.ir_text_modules.specs.Stays.{has_more};
 ghost use Rattle.ir_text_modules.specs.Modules.{SpellsModule};
 ghost use Rattle.ir_text_modules.specs.Runs.{Runs};
-ghost use Rattle.ir_text_modules.specs.Standing.{unwritten};
+ghost use Rattle.ir_text_modules.specs.Denotation.{unwritten};
 ghost use Rattle.ir_text_modules.specs.WrittenTrees.{IsWritable};
 
 /// Printing an operation appends to the text that is already printed, and doesn't depend on it.
 pub fn operations_are_appended()
-    ensures { (margin : List ℕ) (t : Operation) (o : Printed) → (put_op margin t o).text ≡ o.text ++ (put_op margin t (unwritten o)).text }
+    ensures { (margin : List ℕ) (t : Operation) (o : Printed) → (printed_op margin t o).text ≡ o.text ++ (printed_op margin t (unwritten o)).text }
 {}
 
 /// A printed operation is parsed back, with the ids 0, 1, .. in pre-order. The operation must be writable, with

@@ -3,7 +3,7 @@ ghost use Rattle.std.specs.Prelude.{◌≡◌, ◌∷◌, option_map};
 ghost use Rattle.ir_text_tokens.specs.Bytes.{is_letter};
 ghost use Rattle.ir_text_tokens.specs.Tokens.{trailing_first};
 ghost use Rattle.ir_text_aliases.specs.Lexemes.{lexeme_of};
-ghost use Rattle.ir_text_modules.specs.Recursion.{after_scanned, after_own, spells_itself, stands_in};
+ghost use Rattle.ir_text_modules.specs.Recursion.{after_scanned, after_own, repeats_own_head, repeats_head};
 
 use ir_text_aliases::lexemes::{after_lexeme, name_len};
 use ir_text_aliases::words::is_scalar;
@@ -62,9 +62,9 @@ fn after_scanned(text: &[u8]) -> Option<&[u8]>
     }
 }
 
-#[tactic(auto, unfolding(crate::specs::Recursion::stands_in))]
-fn stands_in(scanned: &[u8], bytes: &[u8]) -> bool
-    ensures { result ≡ stands_in scanned.now bytes.now }
+#[tactic(auto, unfolding(crate::specs::Recursion::repeats_head))]
+fn repeats_head(scanned: &[u8], bytes: &[u8]) -> bool
+    ensures { result ≡ repeats_head scanned.now bytes.now }
 {
     let mut rest = bytes;
     'bytes: while let [_, tail @ ..] = rest {
@@ -77,11 +77,11 @@ fn stands_in(scanned: &[u8], bytes: &[u8]) -> bool
 }
 
 /// Returns whether the text begins with the head of a named dialect type and contains that head again.
-pub(crate) fn spells_itself(text: &[u8]) -> bool
-    ensures { result ≡ spells_itself text.now }
+pub(crate) fn repeats_own_head(text: &[u8]) -> bool
+    ensures { result ≡ repeats_own_head text.now }
 {
     match after_scanned(text) {
-        Some(rest) => stands_in(&text[..text.len().saturating_sub(rest.len())], rest),
+        Some(rest) => repeats_head(&text[..text.len().saturating_sub(rest.len())], rest),
         None => false,
     }
 }

@@ -22,7 +22,7 @@ fn begins_more(byte: u8, all: &[u8], tail: &[u8]) -> bool
 }
 
 /// Returns the text from the first `l`, `#` or `!` on. The word `loc` and definitions begin with one of these bytes.
-#[tactic(auto, using(crate::proofs::Standing::quiet_up_to, crate::proofs::Standing::all_quiet))]
+#[tactic(auto, using(crate::proofs::Denotation::quiet_up_to, crate::proofs::Denotation::all_quiet))]
 fn from_sign(bytes: &[u8]) -> &[u8]
     ensures same { stands result.now ≡ stands bytes.now }
     ensures within { length result.now ≤ length bytes.now }
@@ -53,7 +53,7 @@ fn stands(bytes: &[u8]) -> bool
 
 /// Returns the rest of the text after the lexeme that begins with `byte`, or `None` if the lexeme is `loc` or begins
 /// a definition.
-#[tactic(auto, using(crate::proofs::Standing::after_other, crate::proofs::Standing::found, crate::proofs::Defining::gap_shorter))]
+#[tactic(auto, using(crate::proofs::Denotation::after_other, crate::proofs::Denotation::found, crate::proofs::Defining::gap_shorter))]
 fn after_other<'a>(byte: u8, all: &'a [u8], tail: &'a [u8]) -> Option<&'a [u8]>
     requires all { all.now ≡ byte ∷ tail.now }
     ensures on { IfSome result (λ r. has_more 0 r.now ≡ has_more 0 all.now) }
@@ -83,7 +83,7 @@ fn in_a_lexeme(bytes: &[u8]) -> bool
 
 /// Returns whether a lexeme of the text is the word `loc` or begins a definition. Otherwise the text is its own
 /// expansion. A fast test of all bytes comes first, and most texts need no lexing.
-#[tactic(auto, using(crate::proofs::Standing::in_no_lexeme))]
+#[tactic(auto, using(crate::proofs::Denotation::in_no_lexeme))]
 pub fn has_more(bytes: &[u8]) -> bool
     ensures { result ≡ has_more 0 bytes.now }
 {

@@ -37,13 +37,13 @@ use Rattle.ir_text_types.specs.Outcomes.{Outcome, Read, Wrong, Full, Parse, Fail
 use Rattle.ir_text_types.proofs.TextLaws.{after_found, after_only}
 use Rattle.ir_text_types.proofs.Worlds.{Step, Agree}
 use Rattle.ir_text_names.specs.States.{State, fresh}
-use Rattle.ir_text_operations.specs.Seen.{Seen, seen_fresh}
+use Rattle.ir_text_operations.specs.ParseState.{ParseState, initial_state}
 use Rattle.ir_tree.specs.declared.value.Value.{Value}
 use Rattle.ir_text_operations.specs.Free.{value_named, free_bound, no_types, no_names}
 use Rattle.ir_text_operations.specs.PrecedingReading.{Frees}
 use Rattle.ir_text_operations.specs.OpReading.{op_at, ops_at}
 use Rattle.ir_text_operations.specs.OpGrammar.{IsOp}
-use Rattle.ir_text_operations.specs.Standing.{Both, BoundStands, FreeStands, StateStands, OpStands}
+use Rattle.ir_text_operations.specs.Denotation.{Both, BoundDenotes, FreeDenotes, StateDenotes, OpDenotes}
 use Rattle.ir_text_operations.specs.Spelling.{begins_module, is_root, module_word, module_of, IsExplicit, IsImplicit, Spells}
 use Rattle.ir_text_operations.specs.Claims.{IsOnly, IsNone, IsBody, IsSource, IsModuleTree, module_with}
 use Rattle.ir_text_operations.proofs.NameLaws.{held, bytes_now}
@@ -55,21 +55,21 @@ use Rattle.ir_text_operations.proofs.BlockLaws.{ops_are, ops_known}
 abbrev pub no_free : Frees
 no_free = free_bound no_types
 
-nothing_free : (z : ContextModel) (v : Option Value) → Both BoundStands z (option_and_then (λ x. option_map (λ ty. record { value = x; ty = ty }) (no_types x)) v) None
+nothing_free : (z : ContextModel) (v : Option Value) → Both BoundDenotes z (option_and_then (λ x. option_map (λ ty. record { value = x; ty = ty }) (no_types x)) v) None
 nothing_free z None = tt
 nothing_free z (Some x) = tt
 
-no_frees : (c : ContextModel) → From (λ z. FreeStands z no_free no_names) c
+no_frees : (c : ContextModel) → From (λ z. FreeDenotes z no_free no_names) c
 unfolding free_bound
 no_frees c = λ z g w name. nothing_free z (value_named name)
 
 abbrev pub reading : ℕ → Parse State Op
 reading depth = op_at no_free 1048576 depth
 
-abbrev pub spelling : Bool → ℕ → Grammar Seen Operation
+abbrev pub spelling : Bool → ℕ → Grammar ParseState Operation
 spelling opaque depth = IsOp opaque no_names 1048576 depth
 
-pub fresh_agrees : (first : ℕ) (bytes : List ℕ) (c : ContextModel) → Agree held StateStands (fresh first bytes c) (seen_fresh first bytes)
+pub fresh_agrees : (first : ℕ) (bytes : List ℕ) (c : ContextModel) → Agree held StateDenotes (fresh first bytes c) (initial_state first bytes)
 fresh_agrees first bytes c z g w = (refl, (tt, tt), refl)
 
 -- a parse that succeeds
@@ -93,25 +93,25 @@ explicit_is : (bytes : List ℕ) (c : ContextModel) (x : Op) (s : State) → IsS
 unfolding IsExplicit
 explicit_is bytes c x s sound e y h = ⊎_elim
     (λ (f : reading 129 (fresh 0 bytes c) ≡ Full). absurd cc)
-    (λ (f : (x' : Op) × (s' : State) × (reading 129 (fresh 0 bytes c) ≡ Read (x', s')) × Step held StateStands OpStands (fresh 0 bytes c) x' y s' h.1.0).
+    (λ (f : (x' : Op) × (s' : State) × (reading 129 (fresh 0 bytes c) ≡ Read (x', s')) × Step held StateDenotes OpDenotes (fresh 0 bytes c) x' y s' h.1.0).
     let q = read_parts f.0 x f.1 s (sym f.2 ∙ e) in
     let r = f.3.stands f.1.things (grows_refl f.1.things) f.3.sound in (
       sym r.1 ∙ ap (λ (u : Op × State). meaning u.1.things u.0) (λ i. (q.0 i, q.1 i)),
       (h.1.1, subst (λ b. IsMark End b h.1.1) (sym (bytes_now f.1 h.1.0 f.3.sound f.3.agree) ∙ ap (λ (u : State). u.bytes) q.1) h.1.3),
       h.2,
     ))
-    ((op_exact no_free no_names 1048576 c (no_frees c) 129 c (grows_refl c)).only (fresh 0 bytes c) (seen_fresh 0 bytes) y h.1.0 (grows_refl c) sound (fresh_agrees 0 bytes c) h.1.2)
+    ((op_exact no_free no_names 1048576 c (no_frees c) 129 c (grows_refl c)).only (fresh 0 bytes c) (initial_state 0 bytes) y h.1.0 (grows_refl c) sound (fresh_agrees 0 bytes c) h.1.2)
 
 pub explicit_read : (bytes : List ℕ) (c : ContextModel) (x : Op) (s : State) (rest : List ℕ) → IsSound c → begins_module bytes ≡ true → reading 129 (fresh 0 bytes c) ≡ Read (x, s)
     → after End s.bytes ≡ Some rest → is_root (meaning s.things x) ≡ true → IsOnly (IsExplicit c.opaque bytes) s.things x
 unfolding IsExplicit
 explicit_read bytes c x s rest sound begins e ends root =
-    let f = (op_exact no_free no_names 1048576 c (no_frees c) 129 c (grows_refl c)).found (fresh 0 bytes c) (seen_fresh 0 bytes) x s (grows_refl c) sound (fresh_agrees 0 bytes c) e in
+    let f = (op_exact no_free no_names 1048576 c (no_frees c) 129 c (grows_refl c)).found (fresh 0 bytes c) (initial_state 0 bytes) x s (grows_refl c) sound (fresh_agrees 0 bytes c) e in
     let r = f.3.stands s.things (grows_refl s.things) f.3.sound in
     let mark : IsMark End f.1.bytes rest = subst (λ b. IsMark End b rest) (bytes_now s f.1 f.3.sound f.3.agree) (after_found End s.bytes rest ends) in
     record {
       known = r.0;
-      holds = (begins, (f.1, rest, subst (λ y. spelling c.opaque 129 y (seen_fresh 0 bytes) f.1) (sym r.1) f.2, mark), root);
+      holds = (begins, (f.1, rest, subst (λ y. spelling c.opaque 129 y (initial_state 0 bytes) f.1) (sym r.1) f.2, mark), root);
       only = λ y h. (explicit_is bytes c x s sound e y h).0;
     }
 
@@ -155,36 +155,36 @@ pub explicit_wrong : (bytes : List ℕ) (c : ContextModel) → IsSound c → rea
 unfolding IsExplicit
 explicit_wrong bytes c sound e y h = ⊎_elim
     (λ (f : reading 129 (fresh 0 bytes c) ≡ Full). absurd cc)
-    (λ (f : (x' : Op) × (s' : State) × (reading 129 (fresh 0 bytes c) ≡ Read (x', s')) × Step held StateStands OpStands (fresh 0 bytes c) x' y s' h.1.0). let g = f.2 in absurd cc)
-    ((op_exact no_free no_names 1048576 c (no_frees c) 129 c (grows_refl c)).only (fresh 0 bytes c) (seen_fresh 0 bytes) y h.1.0 (grows_refl c) sound (fresh_agrees 0 bytes c) h.1.2)
+    (λ (f : (x' : Op) × (s' : State) × (reading 129 (fresh 0 bytes c) ≡ Read (x', s')) × Step held StateDenotes OpDenotes (fresh 0 bytes c) x' y s' h.1.0). let g = f.2 in absurd cc)
+    ((op_exact no_free no_names 1048576 c (no_frees c) 129 c (grows_refl c)).only (fresh 0 bytes c) (initial_state 0 bytes) y h.1.0 (grows_refl c) sound (fresh_agrees 0 bytes c) h.1.2)
 
 -- ---- an implicit root
 
 name_is_there : (c d : ContextModel) (n : ℕ) → IsExtendedBy c d → IsName c n → is_name d n ≡ true
 name_is_there c d n g h = lt-ltb n (length d.names) (omega (arith, h, preceding_length c.names d.names g.names))
 
-with_parts : (z : ContextModel) (n : ℕ) (xs : List Op) (ys : List Operation) → name_term z n ≡ module_word → Each OpStands z xs ys → meaning z (module_with n xs) ≡ module_of ys
+with_parts : (z : ContextModel) (n : ℕ) (xs : List Op) (ys : List Operation) → name_term z n ≡ module_word → Each OpDenotes z xs ys → meaning z (module_with n xs) ≡ module_of ys
 with_parts z n xs ys name h = λ i. op (record { id = 0; name = name i; operands = []; results = []; properties = []; attributes = [] }) (region (block [] (ops_are z xs ys h i)) no_regions)
 
-known_parts : (z : ContextModel) (n : ℕ) (xs : List Op) (ys : List Operation) → is_name z n ≡ true → Each OpStands z xs ys → is_known z (module_with n xs) ≡ true
+known_parts : (z : ContextModel) (n : ℕ) (xs : List Op) (ys : List Operation) → is_name z n ≡ true → Each OpDenotes z xs ys → is_known z (module_with n xs) ≡ true
 known_parts z n xs ys name h = rw (name, ops_known z xs ys h) refl
 
 -- the operations that the grammar derives are the ones that were parsed
 body_is : (bytes : List ℕ) (c : ContextModel) (xs : List Op) (s : State) → IsSound c → ops_at End (reading 128) 1048576 [] (fresh 1 bytes c) ≡ Read (xs, s) → (y : Operation) → IsBody c.opaque bytes y
-    → (os : List Operation) × Each OpStands s.things xs os × (y ≡ module_of os)
+    → (os : List Operation) × Each OpDenotes s.things xs os × (y ≡ module_of os)
 unfolding IsBody
 body_is bytes c xs s sound e y h = ⊎_elim
     (λ (f : ops_at End (reading 128) 1048576 [] (fresh 1 bytes c) ≡ Full). absurd cc)
-    (λ (f : (xs' : List Op) × (s' : State) × (ops_at End (reading 128) 1048576 [] (fresh 1 bytes c) ≡ Read (xs', s')) × Step held StateStands (Each OpStands) (fresh 1 bytes c) xs' h.0 s' h.1).
+    (λ (f : (xs' : List Op) × (s' : State) × (ops_at End (reading 128) 1048576 [] (fresh 1 bytes c) ≡ Read (xs', s')) × Step held StateDenotes (Each OpDenotes) (fresh 1 bytes c) xs' h.0 s' h.1).
     let q = read_parts f.0 xs f.1 s (sym f.2 ∙ e) in
-    (h.0, subst (λ (u : List Op × State). Each OpStands u.1.things u.0 h.0) (λ i. (q.0 i, q.1 i)) (f.3.stands f.1.things (grows_refl f.1.things) f.3.sound), h.3))
-    ((source_exact no_free no_names 1048576 c (no_frees c) 128 c (grows_refl c)).only (fresh 1 bytes c) (seen_fresh 1 bytes) h.0 h.1 (grows_refl c) sound (fresh_agrees 1 bytes c) h.2)
+    (h.0, subst (λ (u : List Op × State). Each OpDenotes u.1.things u.0 h.0) (λ i. (q.0 i, q.1 i)) (f.3.stands f.1.things (grows_refl f.1.things) f.3.sound), h.3))
+    ((source_exact no_free no_names 1048576 c (no_frees c) 128 c (grows_refl c)).only (fresh 1 bytes c) (initial_state 1 bytes) h.0 h.1 (grows_refl c) sound (fresh_agrees 1 bytes c) h.2)
 
 body_read : (bytes : List ℕ) (c : ContextModel) (n : ℕ) (xs : List Op) (s : State) → IsSound c → IsName c n → name_term c n ≡ module_word → ops_at End (reading 128) 1048576 [] (fresh 1 bytes c) ≡ Read (xs, s)
     → IsOnly (IsBody c.opaque bytes) s.things (module_with n xs)
 unfolding IsBody
 body_read bytes c n xs s sound of_c name e =
-    let f = (source_exact no_free no_names 1048576 c (no_frees c) 128 c (grows_refl c)).found (fresh 1 bytes c) (seen_fresh 1 bytes) xs s (grows_refl c) sound (fresh_agrees 1 bytes c) e in
+    let f = (source_exact no_free no_names 1048576 c (no_frees c) 128 c (grows_refl c)).found (fresh 1 bytes c) (initial_state 1 bytes) xs s (grows_refl c) sound (fresh_agrees 1 bytes c) e in
     let r = f.3.stands s.things (grows_refl s.things) f.3.sound in
     let named : name_term s.things n ≡ module_word = name_stays c s.things n f.3.grows of_c ∙ name in
     record {
@@ -197,8 +197,8 @@ body_wrong : (bytes : List ℕ) (c : ContextModel) → IsSound c → ops_at End 
 unfolding IsBody
 body_wrong bytes c sound e y h = ⊎_elim
     (λ (f : ops_at End (reading 128) 1048576 [] (fresh 1 bytes c) ≡ Full). absurd cc)
-    (λ (f : (xs' : List Op) × (s' : State) × (ops_at End (reading 128) 1048576 [] (fresh 1 bytes c) ≡ Read (xs', s')) × Step held StateStands (Each OpStands) (fresh 1 bytes c) xs' h.0 s' h.1). let g = f.2 in absurd cc)
-    ((source_exact no_free no_names 1048576 c (no_frees c) 128 c (grows_refl c)).only (fresh 1 bytes c) (seen_fresh 1 bytes) h.0 h.1 (grows_refl c) sound (fresh_agrees 1 bytes c) h.2)
+    (λ (f : (xs' : List Op) × (s' : State) × (ops_at End (reading 128) 1048576 [] (fresh 1 bytes c) ≡ Read (xs', s')) × Step held StateDenotes (Each OpDenotes) (fresh 1 bytes c) xs' h.0 s' h.1). let g = f.2 in absurd cc)
+    ((source_exact no_free no_names 1048576 c (no_frees c) 128 c (grows_refl c)).only (fresh 1 bytes c) (initial_state 1 bytes) h.0 h.1 (grows_refl c) sound (fresh_agrees 1 bytes c) h.2)
 
 -- in a context with the given flag
 pub body_read_in : (o : Bool) (bytes : List ℕ) (c : ContextModel) (n : ℕ) (xs : List Op) (s : State) → c.opaque ≡ o → IsSound c → IsName c n → name_term c n ≡ module_word → ops_at End (reading 128) 1048576 [] (fresh 1 bytes c) ≡ Read (xs, s)

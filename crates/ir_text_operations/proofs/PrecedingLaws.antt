@@ -26,11 +26,11 @@ use Rattle.ir_text_names.specs.declared.bound.TypedValue.{TypedValue}
 use Rattle.ir_text_types.specs.Typed.{Text}
 use Rattle.ir_text_names.specs.NameReading.{name_from, value_name_at, number_from, nonzero_at, some_count, count_at, result_at, names_at, results_from, results_at}
 use Rattle.ir_text_operations.specs.PrecedingReading.{Frees, member_of, op_name_from, op_name_at, place_of, place_from, place_at, member_at, use_from, use_at, uses_at, start_at}
-use Rattle.ir_text_operations.specs.Free.{seen_as}
+use Rattle.ir_text_operations.specs.Free.{pack_denoted_by}
 use Rattle.ir_text_names.specs.Packs.{counts}
-use Rattle.ir_text_operations.specs.Seen.{BoundTerm, PackTerm}
+use Rattle.ir_text_operations.specs.ParseState.{BoundTerm, PackTerm}
 use Rattle.ir_text_operations.specs.OpGrammar.{FreeTerms, IsName, IsNumber, IsCount, IsResult, IsNames, IsResultsFrom, IsResults, IsOpName, IsPlace, IsUse, IsStart}
-use Rattle.ir_text_operations.specs.Standing.{Equals, Both, BoundStands, PackStands, HereStands, FreeStands, StartStands}
+use Rattle.ir_text_operations.specs.Denotation.{Equals, Both, BoundDenotes, PackDenotes, HereDenotes, FreeDenotes, StartDenotes}
 use Rattle.ir_text_names.proofs.Counts.{if_read}
 
 -- ---- parsers over any state
@@ -350,14 +350,14 @@ test_both R z true x y h = h
 test_both R z false x y h = tt
 
 -- the bindings of a name, with ids and with terms, are related
-pub find_stands : (z : ContextModel) (name : List ℕ) (here : List (Binding (List TypedValue))) (there : List (Binding PackTerm)) → HereStands z here there → Both PackStands z (find name here) (find name there)
+pub find_stands : (z : ContextModel) (name : List ℕ) (here : List (Binding (List TypedValue))) (there : List (Binding PackTerm)) → HereDenotes z here there → Both PackDenotes z (find name here) (find name there)
 unfolding find
 find_stands z name [] [] h = tt
 find_stands z name [] (y ∷ ys) h = absurd h
 find_stands z name (b ∷ bs) [] h = absurd h
 find_stands z name (b ∷ bs) (y ∷ ys) h =
-    other_both PackStands z (find name bs) (if bytes_eq b.name name then Some b.value else None) (find name ys) (if bytes_eq y.name name then Some y.value else None) (find_stands z name bs ys h.1)
-    (subst (λ n. Both PackStands z (if bytes_eq b.name name then Some b.value else None) (if bytes_eq n name then Some y.value else None)) h.0.0 (test_both PackStands z (bytes_eq b.name name) b.value y.value h.0.1))
+    other_both PackDenotes z (find name bs) (if bytes_eq b.name name then Some b.value else None) (find name ys) (if bytes_eq y.name name then Some y.value else None) (find_stands z name bs ys h.1)
+    (subst (λ n. Both PackDenotes z (if bytes_eq b.name name then Some b.value else None) (if bytes_eq n name then Some y.value else None)) h.0.0 (test_both PackDenotes z (bytes_eq b.name name) b.value y.value h.0.1))
 
 abbrev names_hash : Lexeme → Bool
 names_hash (hash word) = true
@@ -407,7 +407,7 @@ place_exact : (c : ContextModel) → Plain c Equals place_at IsPlace
 place_exact c = plain_equal place_at IsPlace place_found place_only c
 
 -- the values at an index are related
-place_stands : (z : ContextModel) (k : ℕ) (xs : List TypedValue) (ys : PackTerm) → PackStands z xs ys → Both BoundStands z (slice_get xs k) (slice_get ys k)
+place_stands : (z : ContextModel) (k : ℕ) (xs : List TypedValue) (ys : PackTerm) → PackDenotes z xs ys → Both BoundDenotes z (slice_get xs k) (slice_get ys k)
 place_stands z k [] [] h = tt
 place_stands z k [] (y ∷ ys) h = absurd h
 place_stands z k (x ∷ xs) [] h = absurd h
@@ -420,30 +420,30 @@ MemberAt pack k y old new = (slice_get pack k ≡ Some y) × (new ≡ old)
 abbrev IsMember : PackTerm → Grammar Text BoundTerm
 IsMember pack = Then IsPlace (MemberAt pack)
 
-member_exact : (c d : ContextModel) (xs : List TypedValue) (ys : PackTerm) → From (λ z. PackStands z xs ys) d → Exact (known c) SameText d BoundStands (member_at xs) (IsMember ys)
+member_exact : (c d : ContextModel) (xs : List TypedValue) (ys : PackTerm) → From (λ z. PackDenotes z xs ys) d → Exact (known c) SameText d BoundDenotes (member_at xs) (IsMember ys)
 unfolding member_at
 member_exact c d xs ys stand =
-    then_exact (known c) SameText d Equals BoundStands place_at IsPlace (λ k s. of_option (slice_get xs k) >>= λ b. Read (b, s)) (MemberAt ys) (plain_from c Equals place_at IsPlace (place_exact c) d) (λ e k n g same.
-    both_exact (known c) SameText e BoundStands (slice_get xs k) (slice_get ys n) (λ z j w.
-    subst (λ m. Both BoundStands z (slice_get xs k) (slice_get ys m)) (same z j w) (place_stands z k xs ys (stand z (grows_trans d e z g j) w))))
+    then_exact (known c) SameText d Equals BoundDenotes place_at IsPlace (λ k s. of_option (slice_get xs k) >>= λ b. Read (b, s)) (MemberAt ys) (plain_from c Equals place_at IsPlace (place_exact c) d) (λ e k n g same.
+    both_exact (known c) SameText e BoundDenotes (slice_get xs k) (slice_get ys n) (λ z j w.
+    subst (λ m. Both BoundDenotes z (slice_get xs k) (slice_get ys m)) (same z j w) (place_stands z k xs ys (stand z (grows_trans d e z g j) w))))
 
 -- the value of a free name as a pack
-one_stands : (z : ContextModel) (o : Option TypedValue) (u : Option BoundTerm) → Both BoundStands z o u → Both PackStands z (option_map (λ b. b ∷ []) o) (option_map (λ b. b ∷ []) u)
+one_stands : (z : ContextModel) (o : Option TypedValue) (u : Option BoundTerm) → Both BoundDenotes z o u → Both PackDenotes z (option_map (λ b. b ∷ []) o) (option_map (λ b. b ∷ []) u)
 one_stands z None None h = tt
 one_stands z None (Some y) h = absurd h
 one_stands z (Some x) None h = absurd h
 one_stands z (Some x) (Some y) h = (h, tt)
 
-seen_stands : (z : ContextModel) (free : Frees) (outer : FreeTerms) (n : List ℕ) (here : List (Binding (List TypedValue))) (there : List (Binding PackTerm)) → FreeStands z free outer → HereStands z here there → Both PackStands z (seen_as free here n) (seen_as outer there n)
+seen_stands : (z : ContextModel) (free : Frees) (outer : FreeTerms) (n : List ℕ) (here : List (Binding (List TypedValue))) (there : List (Binding PackTerm)) → FreeDenotes z free outer → HereDenotes z here there → Both PackDenotes z (pack_denoted_by free here n) (pack_denoted_by outer there n)
 seen_stands z free outer n here there frees h =
-    other_both PackStands z (find n here) (option_map (λ b. b ∷ []) (free n)) (find n there) (option_map (λ b. b ∷ []) (outer n)) (find_stands z n here there h) (one_stands z (free n) (outer n) (frees n))
+    other_both PackDenotes z (find n here) (option_map (λ b. b ∷ []) (free n)) (find n there) (option_map (λ b. b ∷ []) (outer n)) (find_stands z n here there h) (one_stands z (free n) (outer n) (frees n))
 
-module _ (c : ContextModel) (free : Frees) (outer : FreeTerms) (here : List (Binding (List TypedValue))) (there : List (Binding PackTerm)) (frees : From (λ z. FreeStands z free outer) c) (stand : From (λ z. HereStands z here there) c) where
+module _ (c : ContextModel) (free : Frees) (outer : FreeTerms) (here : List (Binding (List TypedValue))) (there : List (Binding PackTerm)) (frees : From (λ z. FreeDenotes z free outer) c) (stand : From (λ z. HereDenotes z here there) c) where
   abbrev found_at : List ℕ → Parse Text (List TypedValue)
-  found_at n s = of_option (seen_as free here n) >>= λ pack. Read (pack, s)
+  found_at n s = of_option (pack_denoted_by free here n) >>= λ pack. Read (pack, s)
 
   abbrev Found : List ℕ → Grammar Text PackTerm
-  Found n pack old new = (seen_as outer there n ≡ Some pack) × (new ≡ old)
+  Found n pack old new = (pack_denoted_by outer there n ≡ Some pack) × (new ≡ old)
 
   abbrev UseOf : List ℕ → Grammar Text BoundTerm
   UseOf n = Then (Found n) IsMember
@@ -452,15 +452,15 @@ module _ (c : ContextModel) (free : Frees) (outer : FreeTerms) (here : List (Bin
   UseFrom (value n) rest y old new = UseOf n y rest new
   UseFrom _ rest y old new = ⊥
 
-  use_of_exact : (n : List ℕ) → Plain c BoundStands (member_of (seen_as free here n)) (UseOf n)
+  use_of_exact : (n : List ℕ) → Plain c BoundDenotes (member_of (pack_denoted_by free here n)) (UseOf n)
   use_of_exact n =
-      exact_where (known c) SameText c BoundStands (member_of (seen_as free here n)) (λ s. found_at n s >>= λ x. member_at x.0 x.1) (UseOf n) (λ s g sound. sym (bind_assoc (of_option (seen_as free here n)) (λ pack. Read (pack, s)) (λ x. member_at x.0 x.1)))
-      (then_exact (known c) SameText c PackStands BoundStands (found_at n) (Found n) member_at IsMember (both_exact (known c) SameText c PackStands (seen_as free here n) (seen_as outer there n) (λ z g w. seen_stands z free outer n here there (frees z g w) (stand z g w)))
+      exact_where (known c) SameText c BoundDenotes (member_of (pack_denoted_by free here n)) (λ s. found_at n s >>= λ x. member_at x.0 x.1) (UseOf n) (λ s g sound. sym (bind_assoc (of_option (pack_denoted_by free here n)) (λ pack. Read (pack, s)) (λ x. member_at x.0 x.1)))
+      (then_exact (known c) SameText c PackDenotes BoundDenotes (found_at n) (Found n) member_at IsMember (both_exact (known c) SameText c PackDenotes (pack_denoted_by free here n) (pack_denoted_by outer there n) (λ z g w. seen_stands z free outer n here there (frees z g w) (stand z g w)))
       (λ d xs ys g r. member_exact c d xs ys r))
 
-  use_from_exact : (l : Lexeme) (rest : Text) → Plain c BoundStands (λ s. use_from free here l rest) (UseFrom l rest)
-  use_from_exact (value n) rest = plain_after c BoundStands rest (member_of (seen_as free here n)) (UseOf n) (use_of_exact n)
-  use_from_exact _ rest = nothing_exact (known c) SameText c BoundStands
+  use_from_exact : (l : Lexeme) (rest : Text) → Plain c BoundDenotes (λ s. use_from free here l rest) (UseFrom l rest)
+  use_from_exact (value n) rest = plain_after c BoundDenotes rest (member_of (pack_denoted_by free here n)) (UseOf n) (use_of_exact n)
+  use_from_exact _ rest = nothing_exact (known c) SameText c BoundDenotes
 
   use_into : (y : BoundTerm) (t t' : Text) → (l : Lexeme) × (rest : Text) × Token l t rest × UseFrom l rest y t t' → IsUse outer there y t t'
   use_into y t t' k = by_token k.0 k.1 k.2 k.3
@@ -474,23 +474,23 @@ module _ (c : ContextModel) (free : Frees) (outer : FreeTerms) (here : List (Bin
   use_back : (y : BoundTerm) (t t' : Text) → IsUse outer there y t t' → (l : Lexeme) × (rest : Text) × Token l t rest × UseFrom l rest y t t'
   use_back y t t' k = (value k.0, k.1, k.4, (k.2, k.1, (k.5, refl), (k.3, t', k.6, (k.7, refl))))
 
-  use_exact : Plain c BoundStands (use_at free here) (IsUse outer there)
+  use_exact : Plain c BoundDenotes (use_at free here) (IsUse outer there)
   unfolding use_at
   use_exact =
-      exact_rendered (known c) SameText c BoundStands (use_at free here) (λ y old new. (l : Lexeme) × (rest : Text) × Token l old rest × UseFrom l rest y old new) (IsUse outer there) use_into use_back
-      (plain_token c BoundStands (λ s. use_from free here) UseFrom use_from_exact)
+      exact_rendered (known c) SameText c BoundDenotes (use_at free here) (λ y old new. (l : Lexeme) × (rest : Text) × Token l old rest × UseFrom l rest y old new) (IsUse outer there) use_into use_back
+      (plain_token c BoundDenotes (λ s. use_from free here) UseFrom use_from_exact)
 
-  uses_exact : Plain c (Each BoundStands) (uses_at free here) (IsList IsMark CloseRound (λ before. IsUse outer there) 256)
+  uses_exact : Plain c (Each BoundDenotes) (uses_at free here) (IsList IsMark CloseRound (λ before. IsUse outer there) 256)
   unfolding uses_at
-  uses_exact = list_exact (known c) SameText after IsMark (text_marks c) BoundStands CloseRound (λ before. use_at free here) (λ before. IsUse outer there) (λ d xs ys r. plain_from c BoundStands (use_at free here) (IsUse outer there) use_exact d) 256 c
+  uses_exact = list_exact (known c) SameText after IsMark (text_marks c) BoundDenotes CloseRound (λ before. use_at free here) (λ before. IsUse outer there) (λ d xs ys r. plain_from c BoundDenotes (use_at free here) (IsUse outer there) use_exact d) 256 c
 
   -- the header of an operation
-  pub start_exact : Plain c StartStands (start_at free here) (IsStart outer there)
+  pub start_exact : Plain c StartDenotes (start_at free here) (IsStart outer there)
   unfolding start_at
   start_exact =
-      then_exact (known c) SameText c Equals StartStands _ _ _ _ (results_exact c) (λ d1 results results' g1 r1.
-      then_exact (known c) SameText d1 Equals StartStands _ _ _ _ (plain_from c Equals op_name_at IsOpName (op_name_exact c) d1) (λ d2 name name' g2 r2.
-      after_exact (known c) SameText after IsMark (text_marks c) d2 StartStands OpenRound _ _
-      (then_exact (known c) SameText d2 (Each BoundStands) StartStands _ _ _ _ (plain_from c (Each BoundStands) (uses_at free here) (IsList IsMark CloseRound (λ before. IsUse outer there) 256) uses_exact d2) (λ d3 operands operands' g3 r3.
-      done_exact (known c) SameText d3 StartStands (record { results = results; name = name; operands = operands }) (record { results = results'; name = name'; operands = operands' })
+      then_exact (known c) SameText c Equals StartDenotes _ _ _ _ (results_exact c) (λ d1 results results' g1 r1.
+      then_exact (known c) SameText d1 Equals StartDenotes _ _ _ _ (plain_from c Equals op_name_at IsOpName (op_name_exact c) d1) (λ d2 name name' g2 r2.
+      after_exact (known c) SameText after IsMark (text_marks c) d2 StartDenotes OpenRound _ _
+      (then_exact (known c) SameText d2 (Each BoundDenotes) StartDenotes _ _ _ _ (plain_from c (Each BoundDenotes) (uses_at free here) (IsList IsMark CloseRound (λ before. IsUse outer there) 256) uses_exact d2) (λ d3 operands operands' g3 r3.
+      done_exact (known c) SameText d3 StartDenotes (record { results = results; name = name; operands = operands }) (record { results = results'; name = name'; operands = operands' })
       (λ z k w. (r1 z (grows_trans d1 d2 z g2 (grows_trans d2 d3 z g3 k)) w, r2 z (grows_trans d2 d3 z g3 k) w, r3 z k w))))))

@@ -29,9 +29,9 @@ use Rattle.ir_text_operations.specs.declared.single.OpError.TheVariants.{Text}
 use Rattle.ir_text_operations.specs.Free.{value_named, free_bound, free_term, bound_term}
 use Rattle.ir_text_operations.specs.PrecedingReading.{Frees}
 use Rattle.ir_text_operations.specs.OpReading.{op_at}
-use Rattle.ir_text_operations.specs.Seen.{seen_fresh}
+use Rattle.ir_text_operations.specs.ParseState.{initial_state}
 use Rattle.ir_text_operations.specs.OpGrammar.{FreeTerms, IsOp}
-use Rattle.ir_text_operations.specs.Standing.{Both, BoundStands, FreeStands, StateStands, OpStands}
+use Rattle.ir_text_operations.specs.Denotation.{Both, BoundDenotes, FreeDenotes, StateDenotes, OpDenotes}
 use Rattle.ir_text_operations.specs.SingleReading.{single_op_at}
 use Rattle.ir_text_operations.specs.Spelling.{last_from, IsSingleOp, SpellsOp}
 use Rattle.ir_text_operations.specs.Claims.{IsOnly, IsNone, IsLoneTree}
@@ -46,45 +46,45 @@ text_is {X} {Y} e g k = let same : e ≡ g = cc in λ i. Err (same i)
 -- ---- the values of free names
 
 module _ (types : Value → Option ℕ) (c : ContextModel) (known : (v : Value) → IfSome (types v) (λ ty. IsType c ty)) where
-  type_free : (z : ContextModel) → IsExtendedBy c z → (v : Value) (o : Option ℕ) → types v ≡ o → Both BoundStands z (option_map (λ ty. record { value = v; ty = ty }) o) (option_map (bound_term c) (option_map (λ ty. record { value = v; ty = ty }) o))
+  type_free : (z : ContextModel) → IsExtendedBy c z → (v : Value) (o : Option ℕ) → types v ≡ o → Both BoundDenotes z (option_map (λ ty. record { value = v; ty = ty }) o) (option_map (bound_term c) (option_map (λ ty. record { value = v; ty = ty }) o))
   type_free z g v None e = tt
   type_free z g v (Some ty) e =
       let of_c : IsType c ty = subst (λ o. IfSome o (λ ty. IsType c ty)) e (known v) in
       (refl, (omega (arith, of_c, preceding_length c.types z.types g.types), type_stays c z ty g of_c))
 
-  name_free : (z : ContextModel) → IsExtendedBy c z → (o : Option Value) → Both BoundStands z (option_and_then (λ v. option_map (λ ty. record { value = v; ty = ty }) (types v)) o) (option_map (bound_term c) (option_and_then (λ v. option_map (λ ty. record { value = v; ty = ty }) (types v)) o))
+  name_free : (z : ContextModel) → IsExtendedBy c z → (o : Option Value) → Both BoundDenotes z (option_and_then (λ v. option_map (λ ty. record { value = v; ty = ty }) (types v)) o) (option_map (bound_term c) (option_and_then (λ v. option_map (λ ty. record { value = v; ty = ty }) (types v)) o))
   name_free z g None = tt
   name_free z g (Some v) = type_free z g v (types v) refl
 
-  pub frees_stand : From (λ z. FreeStands z (free_bound types) (free_term types c)) c
+  pub frees_stand : From (λ z. FreeDenotes z (free_bound types) (free_term types c)) c
   unfolding free_bound
   frees_stand = λ z g w name. name_free z g (value_named name)
 
 -- ---- one operation, and the end
 
-module _ (free : Frees) (outer : FreeTerms) (last first : ℕ) (bytes : List ℕ) (c : ContextModel) (sound : IsSound c) (frees : From (λ z. FreeStands z free outer) c) where
+module _ (free : Frees) (outer : FreeTerms) (last first : ℕ) (bytes : List ℕ) (c : ContextModel) (sound : IsSound c) (frees : From (λ z. FreeDenotes z free outer) c) where
   -- an operation that the grammar derives is the one that was parsed
   single_is : (x : Op) (s : State) → op_at free last 129 (fresh first bytes c) ≡ Read (x, s) → (y : Operation) → IsSingleOp c.opaque outer last first bytes y → (y ≡ meaning s.things x) × ((rest : List ℕ) × IsMark End s.bytes rest)
   unfolding IsSingleOp
   single_is x s e y h = ⊎_elim
       (λ (f : op_at free last 129 (fresh first bytes c) ≡ Full). absurd cc)
-      (λ (f : (x' : Op) × (s' : State) × (op_at free last 129 (fresh first bytes c) ≡ Read (x', s')) × Step held StateStands OpStands (fresh first bytes c) x' y s' h.0).
+      (λ (f : (x' : Op) × (s' : State) × (op_at free last 129 (fresh first bytes c) ≡ Read (x', s')) × Step held StateDenotes OpDenotes (fresh first bytes c) x' y s' h.0).
       let q = read_parts f.0 x f.1 s (sym f.2 ∙ e) in
       let r = f.3.stands f.1.things (grows_refl f.1.things) f.3.sound in (
         sym r.1 ∙ ap (λ (u : Op × State). meaning u.1.things u.0) (λ i. (q.0 i, q.1 i)),
         (h.1, subst (λ b. IsMark End b h.1) (sym (bytes_now f.1 h.0 f.3.sound f.3.agree) ∙ ap (λ (u : State). u.bytes) q.1) h.3),
       ))
-      ((op_exact free outer last c frees 129 c (grows_refl c)).only (fresh first bytes c) (seen_fresh first bytes) y h.0 (grows_refl c) sound (fresh_agrees first bytes c) h.2)
+      ((op_exact free outer last c frees 129 c (grows_refl c)).only (fresh first bytes c) (initial_state first bytes) y h.0 (grows_refl c) sound (fresh_agrees first bytes c) h.2)
 
   pub single_read : (x : Op) (s : State) (rest : List ℕ) → op_at free last 129 (fresh first bytes c) ≡ Read (x, s) → after End s.bytes ≡ Some rest → IsOnly (IsSingleOp c.opaque outer last first bytes) s.things x
   unfolding IsSingleOp
   single_read x s rest e ends =
-      let f = (op_exact free outer last c frees 129 c (grows_refl c)).found (fresh first bytes c) (seen_fresh first bytes) x s (grows_refl c) sound (fresh_agrees first bytes c) e in
+      let f = (op_exact free outer last c frees 129 c (grows_refl c)).found (fresh first bytes c) (initial_state first bytes) x s (grows_refl c) sound (fresh_agrees first bytes c) e in
       let r = f.3.stands s.things (grows_refl s.things) f.3.sound in
       let mark : IsMark End f.1.bytes rest = subst (λ b. IsMark End b rest) (bytes_now s f.1 f.3.sound f.3.agree) (after_found End s.bytes rest ends) in
       record {
         known = r.0;
-        holds = (f.1, rest, subst (λ y. IsOp c.opaque outer last 129 y (seen_fresh first bytes) f.1) (sym r.1) f.2, mark);
+        holds = (f.1, rest, subst (λ y. IsOp c.opaque outer last 129 y (initial_state first bytes) f.1) (sym r.1) f.2, mark);
         only = λ y h. (single_is x s e y h).0;
       }
 
@@ -98,8 +98,8 @@ module _ (free : Frees) (outer : FreeTerms) (last first : ℕ) (bytes : List ℕ
   unfolding IsSingleOp
   single_wrong e y h = ⊎_elim
       (λ (f : op_at free last 129 (fresh first bytes c) ≡ Full). absurd cc)
-      (λ (f : (x' : Op) × (s' : State) × (op_at free last 129 (fresh first bytes c) ≡ Read (x', s')) × Step held StateStands OpStands (fresh first bytes c) x' y s' h.0). let g = f.2 in absurd cc)
-      ((op_exact free outer last c frees 129 c (grows_refl c)).only (fresh first bytes c) (seen_fresh first bytes) y h.0 (grows_refl c) sound (fresh_agrees first bytes c) h.2)
+      (λ (f : (x' : Op) × (s' : State) × (op_at free last 129 (fresh first bytes c) ≡ Read (x', s')) × Step held StateDenotes OpDenotes (fresh first bytes c) x' y s' h.0). let g = f.2 in absurd cc)
+      ((op_exact free outer last c frees 129 c (grows_refl c)).only (fresh first bytes c) (initial_state first bytes) y h.0 (grows_refl c) sound (fresh_agrees first bytes c) h.2)
 
   abbrev told : Op → ContextModel → List ℕ → Outcome (Op × ContextModel)
   told x d rest = Read (x, d)

@@ -8,12 +8,12 @@ use Rattle.ir_text_types.proofs.ListSteps.{fails_with}
 use Rattle.ir_text_names.specs.declared.bound.TypedValue.{TypedValue}
 use Rattle.ir_text_types.specs.Typed.{Text}
 use Rattle.ir_text_names.specs.NameReading.{name_from, value_name_at}
-use Rattle.ir_text_operations.specs.Free.{seen_as}
+use Rattle.ir_text_operations.specs.Free.{pack_denoted_by}
 use Rattle.ir_text_operations.specs.PrecedingReading.{Frees, member_of, use_from, use_at}
 
 module _ (free : Frees) (here : List (Binding (List TypedValue))) where
   abbrev seen : List ℕ × Text → Outcome (TypedValue × Text)
-  seen n = member_of (seen_as free here n.0) n.1
+  seen n = member_of (pack_denoted_by free here n.0) n.1
 
   by_token : (l : Lexeme) (rest : Text) → use_from free here l rest ≡ (name_from l rest >>= seen)
   by_token (value n) rest = refl

@@ -9,7 +9,7 @@ use Rattle.ir_tree.specs.Meaning.{Operation, meaning, is_known, isolated_in, IsS
 use Rattle.ir_tree.specs.WellFormed.{IsValidTree}
 use Rattle.ir_text_operations.specs.declared.module.Root.{Root}
 use Rattle.ir_text_operations.specs.declared.module.Root.TheVariants as root
-use Rattle.ir_text_operations.specs.Seen.{Seen, seen_fresh}
+use Rattle.ir_text_operations.specs.ParseState.{ParseState, initial_state}
 use Rattle.ir_text_operations.specs.Free.{no_names}
 use Rattle.ir_text_operations.specs.OpGrammar.{IsOp, IsOps}
 use Rattle.ir_text_operations.specs.Spelling.{IsExplicit, IsImplicit, module_of}
@@ -31,7 +31,7 @@ IsRootOrNone opaque bytes c (root.Other fault) = IsNone (IsExplicit opaque bytes
 
 -- the operations of an implicit root
 unfoldable pub IsBody : Bool → List ℕ → Operation → Type 0
-IsBody opaque bytes t = (os : List Operation) × (end : Seen) × IsOps End (IsOp opaque no_names most_ops most_around) most_ops [] os (seen_fresh 1 bytes) end × (t ≡ module_of os)
+IsBody opaque bytes t = (os : List Operation) × (end : ParseState) × IsOps End (IsOp opaque no_names most_ops most_around) most_ops [] os (initial_state 1 bytes) end × (t ≡ module_of os)
 
 -- an explicit or an implicit root
 abbrev pub IsSource : Bool → List ℕ → Operation → Type 0

@@ -9,7 +9,7 @@ use Rattle.ir_types.specs.Terms.{type_term}
 use Rattle.ir_tree.specs.declared.value.Value.{Value}
 use Rattle.ir_tree.specs.declared.value.Value.TheVariants as values
 use Rattle.ir_text_names.specs.declared.bound.TypedValue.{TypedValue}
-use Rattle.ir_text_operations.specs.Seen.{BoundTerm}
+use Rattle.ir_text_operations.specs.ParseState.{BoundTerm}
 
 -- ---- the value of a name
 
@@ -71,5 +71,5 @@ abbrev pub no_names : List ℕ → Option BoundTerm
 no_names name = None
 
 -- the pack of a name: the bound pack, or the one value that a free name denotes
-abbrev pub seen_as : {B : Type 0} → (List ℕ → Option B) → List (Binding (List B)) → List ℕ → Option (List B)
-seen_as free here name = or_else (find name here) (option_map (λ b. b ∷ []) (free name))
+abbrev pub pack_denoted_by : {B : Type 0} → (List ℕ → Option B) → List (Binding (List B)) → List ℕ → Option (List B)
+pack_denoted_by free here name = or_else (find name here) (option_map (λ b. b ∷ []) (free name))

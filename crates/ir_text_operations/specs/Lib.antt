@@ -6,12 +6,12 @@ pub mod EntryReading
 pub mod Made
 pub mod OpReading
 pub mod Filling
-pub mod Seen
+pub mod ParseState
 pub mod SingleReading
 pub mod OpGrammar
 pub mod Spelling
 pub mod Claims
-pub mod Standing
+pub mod Denotation
 pub mod Openings
 pub use Rattle.ir_text_attributes.specs as attributes
 pub use Rattle.ir_text_names.specs as names

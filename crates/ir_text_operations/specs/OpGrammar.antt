@@ -24,9 +24,9 @@ use Rattle.ir_text_attributes.specs.AttrGrammar.{EntryTerm, IsKey, IsValue, IsAt
 use Rattle.ir_text_operations.specs.Limits.{most_written}
 use Rattle.ir_text_operations.specs.Entries.{is_refused}
 use Rattle.ir_text_operations.specs.Made.{region_of, made}
-use Rattle.ir_text_operations.specs.Free.{seen_as}
+use Rattle.ir_text_operations.specs.Free.{pack_denoted_by}
 use Rattle.ir_text_names.specs.Packs.{Counted, counts}
-use Rattle.ir_text_operations.specs.Seen.{BoundTerm, PackTerm, Seen, seen_rest, seen_scopes, seen_inside, seen_outside, IsMarkSeen, InText, IsBound}
+use Rattle.ir_text_operations.specs.ParseState.{BoundTerm, PackTerm, ParseState, state_with_rest, state_with_scopes, state_inside, state_outside, IsMarkToken, InText, IsBound}
 
 -- ---- the header
 
@@ -75,7 +75,7 @@ FreeTerms = List ℕ → Option BoundTerm
 -- a name that is visible or free, and one of its values
 abbrev pub IsUse : FreeTerms → List (Binding PackTerm) → Grammar Text BoundTerm
 IsUse free here b old new =
-    (n : List ℕ) × (mid : Text) × (pack : PackTerm) × (k : ℕ) × Token (value n) old mid × (seen_as free here n ≡ Some pack) × IsPlace k mid new × (slice_get pack k ≡ Some b)
+    (n : List ℕ) × (mid : Text) × (pack : PackTerm) × (k : ℕ) × Token (value n) old mid × (pack_denoted_by free here n ≡ Some pack) × IsPlace k mid new × (slice_get pack k ≡ Some b)
 
 pub record StartTerm : Type 0 where
   pub results : Option (List Counted)
@@ -119,50 +119,50 @@ module _ (opaque : Bool) where
   -- ---- blocks
 
   -- an argument, whose name is visible from then on
-  abbrev pub IsArg : ℕ → ℕ → List TypeTerm → Grammar Seen TypeTerm
-  IsArg id r before = Then (InText IsName) (λ n. After IsMarkSeen Colon (Then (InText (IsType opaque most_depth)) (λ t. binds n t)))
+  abbrev pub IsArg : ℕ → ℕ → List TypeTerm → Grammar ParseState TypeTerm
+  IsArg id r before = Then (InText IsName) (λ n. After IsMarkToken Colon (Then (InText (IsType opaque most_depth)) (λ t. binds n t)))
     where
-      binds : List ℕ → TypeTerm → Grammar Seen TypeTerm
-      binds n t y old new = (scopes : Scopes PackTerm) × IsBound n ((record { value = values.Arg id r (length before); type = t }) ∷ []) old.scopes scopes × (y ≡ t) × (new ≡ seen_scopes old scopes)
+      binds : List ℕ → TypeTerm → Grammar ParseState TypeTerm
+      binds n t y old new = (scopes : Scopes PackTerm) × IsBound n ((record { value = values.Arg id r (length before); type = t }) ∷ []) old.scopes scopes × (y ≡ t) × (new ≡ state_with_scopes old scopes)
 
   -- optional arguments in parentheses, and a colon
-  abbrev pub IsLabelArgs : ℕ → ℕ → Grammar Seen (List TypeTerm)
-  IsLabelArgs id r = Then (Either IsMarkSeen OpenRound (IsList IsMarkSeen CloseRound (IsArg id r) most_items) (Done [])) (λ args. After IsMarkSeen Colon (Done args))
+  abbrev pub IsLabelArgs : ℕ → ℕ → Grammar ParseState (List TypeTerm)
+  IsLabelArgs id r = Then (Either IsMarkToken OpenRound (IsList IsMarkToken CloseRound (IsArg id r) most_items) (Done [])) (λ args. After IsMarkToken Colon (Done args))
 
-  abbrev pub IsHeadFrom : ℕ → ℕ → Lexeme → Text → Grammar Seen (Option (List TypeTerm))
-  IsHeadFrom id r (label l) rest y old new = (args : List TypeTerm) × IsLabelArgs id r args (seen_rest old rest) new × (y ≡ Some args)
+  abbrev pub IsHeadFrom : ℕ → ℕ → Lexeme → Text → Grammar ParseState (Option (List TypeTerm))
+  IsHeadFrom id r (label l) rest y old new = (args : List TypeTerm) × IsLabelArgs id r args (state_with_rest old rest) new × (y ≡ Some args)
   IsHeadFrom id r _ rest y old new = (y ≡ None) × (new ≡ old)
 
   -- a label with the arguments of the block, if a label comes first
-  abbrev pub IsHead : ℕ → ℕ → Grammar Seen (Option (List TypeTerm))
+  abbrev pub IsHead : ℕ → ℕ → Grammar ParseState (Option (List TypeTerm))
   IsHead id r y old new = (t : Lexeme) × (rest : Text) × Token t old.bytes rest × IsHeadFrom id r t rest y old new
 
 -- ---- operations up to a closing mark after those of `front`, at most `room`
 
-module _ (close : Mark) (P : Grammar Seen Operation) where
-  unfoldable pub IsOps : ℕ → List Operation → Grammar Seen (List Operation)
+module _ (close : Mark) (P : Grammar ParseState Operation) where
+  unfoldable pub IsOps : ℕ → List Operation → Grammar ParseState (List Operation)
   IsOps zero preceding ys old new = ⊥
   IsOps (suc headroom) preceding ys old new =
-      (IsMarkSeen close old new × (ys ≡ preceding))
-      ⊎ (Not IsMarkSeen close old × (y : Operation) × (mid : Seen) × P y old mid × IsOps headroom (preceding ++ y ∷ []) ys mid new)
+      (IsMarkToken close old new × (ys ≡ preceding))
+      ⊎ (Not IsMarkToken close old × (y : Operation) × (mid : ParseState) × P y old mid × IsOps headroom (preceding ++ y ∷ []) ys mid new)
 
 abbrev pub RegionTerm : Type 0
 RegionTerm = RegionOf (List ℕ) TypeTerm AttrTerm
 
 module _ (opaque : Bool) where
   -- a region; its names go out of scope at its end, and no outer name is visible in a region of an isolated operation
-  abbrev pub IsRegion : Grammar Seen (List Operation) → ℕ → Bool → List RegionTerm → Grammar Seen RegionTerm
-  IsRegion P id isolated before = After IsMarkSeen OpenCurly inner
+  abbrev pub IsRegion : Grammar ParseState (List Operation) → ℕ → Bool → List RegionTerm → Grammar ParseState RegionTerm
+  IsRegion P id isolated before = After IsMarkToken OpenCurly inner
     where
-      leaves : RegionTerm → Grammar Seen RegionTerm
-      leaves g y old new = (y ≡ g) × (new ≡ seen_outside old)
+      leaves : RegionTerm → Grammar ParseState RegionTerm
+      leaves g y old new = (y ≡ g) × (new ≡ state_outside old)
 
-      inner : Grammar Seen RegionTerm
-      inner y old new = Then (IsHead opaque id (length before)) (λ h. Then P (λ os. leaves (region_of h os))) y (seen_inside isolated old) new
+      inner : Grammar ParseState RegionTerm
+      inner y old new = Then (IsHead opaque id (length before)) (λ h. Then P (λ os. leaves (region_of h os))) y (state_inside isolated old) new
 
   -- regions in parentheses, or none
-  abbrev pub IsRegions : Grammar Seen (List Operation) → ℕ → Bool → Grammar Seen (List RegionTerm)
-  IsRegions P id isolated = Either IsMarkSeen OpenRound (IsMore IsMarkSeen CloseRound (IsRegion P id isolated) most_regions []) (Done [])
+  abbrev pub IsRegions : Grammar ParseState (List Operation) → ℕ → Bool → Grammar ParseState (List RegionTerm)
+  IsRegions P id isolated = Either IsMarkToken OpenRound (IsMore IsMarkToken CloseRound (IsRegion P id isolated) most_regions []) (Done [])
 
 -- ---- operations
 
@@ -183,22 +183,22 @@ IsFinished id (Some names) outputs old new = (counts names ≡ length outputs) �
 
 module _ (opaque : Bool) where
   -- after the regions: the attributes, and the function type, whose inputs are the types of the operands
-  abbrev pub IsTail : ℕ → StartTerm → List EntryTerm → List RegionTerm → Grammar Seen Operation
+  abbrev pub IsTail : ℕ → StartTerm → List EntryTerm → List RegionTerm → Grammar ParseState Operation
   IsTail id h properties regions =
-      Then (InText (IsAttributes opaque h.name properties)) (λ es. After IsMarkSeen Colon (Then (InText (IsFunctionType opaque)) (λ t. When (map (λ b. b.type) h.operands ≡ t.0) (ends es t.1))))
+      Then (InText (IsAttributes opaque h.name properties)) (λ es. After IsMarkToken Colon (Then (InText (IsFunctionType opaque)) (λ t. When (map (λ b. b.type) h.operands ≡ t.0) (ends es t.1))))
     where
-      ends : List EntryTerm → List TypeTerm → Grammar Seen Operation
+      ends : List EntryTerm → List TypeTerm → Grammar ParseState Operation
       ends es outputs y old new =
-          (scopes : Scopes PackTerm) × IsFinished id h.results outputs old.scopes scopes × (new ≡ seen_scopes old scopes)
+          (scopes : Scopes PackTerm) × IsFinished id h.results outputs old.scopes scopes × (new ≡ state_with_scopes old scopes)
           × (y ≡ made (is_property (Some h.name)) key_before id h.name (map (λ b. b.value) h.operands) properties es outputs regions)
 
-  abbrev pub IsOpWith : FreeTerms → Grammar Seen (List Operation) → Grammar Seen Operation
+  abbrev pub IsOpWith : FreeTerms → Grammar ParseState (List Operation) → Grammar ParseState Operation
   IsOpWith free P y old new =
       (h : StartTerm) × (mid : Text) × (properties : List EntryTerm) × (rest : Text)
       × IsStart free old.scopes.here h old.bytes mid × IsProperties opaque properties mid rest
       × Then (IsRegions opaque P old.next (is_isolated h.name)) (λ regions. IsTail old.next h properties regions) y (record { bytes = rest; scopes = old.scopes; next = old.next + 1 }) new
 
   -- an operation of at most this many levels, including its own; ids are assigned in pre-order, each less than `last`
-  unfoldable pub IsOp : FreeTerms → ℕ → ℕ → Grammar Seen Operation
+  unfoldable pub IsOp : FreeTerms → ℕ → ℕ → Grammar ParseState Operation
   IsOp free last zero y old new = ⊥
   IsOp free last (suc depth) y old new = (old.next < last) × IsOpWith free (IsOps CloseCurly (IsOp free last depth) most_ops []) y old new

@@ -17,7 +17,7 @@ use Rattle.ir_text_names.specs.Packs.{Counted, named_view}
 use Rattle.ir_text_types.specs.Typed.{Text}
 use Rattle.ir_text_names.specs.NameReading.{results_at}
 use Rattle.ir_text_operations.specs.declared.op_header.OpHeader.{OpHeader}
-use Rattle.ir_text_operations.specs.Free.{seen_as}
+use Rattle.ir_text_operations.specs.Free.{pack_denoted_by}
 
 abbrev pub op_name_from : Lexeme → List ℕ → Outcome (List ℕ × Text)
 op_name_from (string raw) rest = if length (string_bytes raw) == 0 then Wrong else Read (string_bytes raw, rest)
@@ -55,7 +55,7 @@ abbrev pub Frees : Type 0
 Frees = List ℕ → Option TypedValue
 
 abbrev pub use_from : Frees → List (Binding (List TypedValue)) → Lexeme → List ℕ → Outcome (TypedValue × Text)
-use_from free here (value n) rest = member_of (seen_as free here n) rest
+use_from free here (value n) rest = member_of (pack_denoted_by free here n) rest
 use_from free here _ rest = Wrong
 
 -- a name that is visible or free

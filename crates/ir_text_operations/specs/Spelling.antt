@@ -13,7 +13,7 @@ use Rattle.ir_tree.specs.Meaning.{Operation, key_before, dictionaries_rise}
 use Rattle.ir_tree.specs.Ids.{IsNumberedFrom}
 use Rattle.ir_tree.specs.WellFormed.{IsValidTree}
 use Rattle.ir_text_types.specs.Grammars.{IsMark}
-use Rattle.ir_text_operations.specs.Seen.{Seen, seen_fresh}
+use Rattle.ir_text_operations.specs.ParseState.{ParseState, initial_state}
 use Rattle.ir_text_operations.specs.Free.{no_names}
 use Rattle.ir_text_operations.specs.Limits.{most_levels}
 use Rattle.ir_text_operations.specs.OpGrammar.{FreeTerms, IsOp, IsOps}
@@ -40,7 +40,7 @@ is_root t = is_table (head t).name && (length (head t).operands == 0 && length (
 -- an explicit root: the text is one operation, which is such a module
 unfoldable pub IsExplicit : Bool → List ℕ → Operation → Type 0
 IsExplicit opaque bytes t =
-    (begins_module bytes ≡ true) × ((end : Seen) × (rest : List ℕ) × IsOp opaque no_names most_ops most_levels t (seen_fresh 0 bytes) end × IsMark End end.bytes rest) × (is_root t ≡ true)
+    (begins_module bytes ≡ true) × ((end : ParseState) × (rest : List ℕ) × IsOp opaque no_names most_ops most_levels t (initial_state 0 bytes) end × IsMark End end.bytes rest) × (is_root t ≡ true)
 
 -- a module of these operations
 abbrev pub module_of : List Operation → Operation
@@ -50,7 +50,7 @@ module_of os = op (record { id = 0; name = module_word; operands = []; results =
 unfoldable pub IsImplicit : Bool → List ℕ → Operation → Type 0
 IsImplicit opaque bytes t =
     ((o : Operation) → IsExplicit opaque bytes o → ⊥)
-    × ((os : List Operation) × (end : Seen) × IsOps End (IsOp opaque no_names most_ops most_around) most_ops [] os (seen_fresh 1 bytes) end × (t ≡ module_of os))
+    × ((os : List Operation) × (end : ParseState) × IsOps End (IsOp opaque no_names most_ops most_around) most_ops [] os (initial_state 1 bytes) end × (t ≡ module_of os))
 
 -- the text denotes a tree whose ids are 0, 1, .. in pre-order, whose operands are visible, which is within all
 -- limits, and whose dictionaries are sorted by distinct keys; `opaque` says whether opaque types and attributes are
@@ -70,7 +70,7 @@ last_from next = min (next + most_ops) most_next
 
 -- the text is one operation, and the end; its free names denote values of the outer module
 unfoldable pub IsSingleOp : Bool → FreeTerms → ℕ → ℕ → List ℕ → Operation → Type 0
-IsSingleOp opaque free last next bytes t = (end : Seen) × (rest : List ℕ) × IsOp opaque free last most_levels t (seen_fresh next bytes) end × IsMark End end.bytes rest
+IsSingleOp opaque free last next bytes t = (end : ParseState) × (rest : List ℕ) × IsOp opaque free last most_levels t (initial_state next bytes) end × IsMark End end.bytes rest
 
 -- the text denotes an operation whose ids are next, next + 1, .. in pre-order, each less than the limit, which is
 -- within all limits, and whose dictionaries are sorted by distinct keys; its operands are visible by the rules of the

@@ -2,7 +2,7 @@
 ghost use Rattle.std.specs.Prelude.{◌≡◌, ◌≤◌, OnOk, IfOk, not, length, Some};
 ghost use Rattle.std.specs.List.{prefix_len};
 ghost use Rattle.ir_tree.specs.Meaning.{key_before_in};
-ghost use Rattle.ir_text_attributes.specs.Keyed.{put_among, put_all};
+ghost use Rattle.ir_text_attributes.specs.Keyed.{insert_sorted, insert_entries};
 ghost use Rattle.ir_text_operations.specs.Entries.{moved, staying, no_headroom, properties_of, attributes_of};
 ghost use Rattle.ir_text_operations.specs.EntryReading.{is_property_in, refused_in};
 
@@ -79,7 +79,7 @@ fn place_of(ctx: &Context, sorted: &[Entry], key: NameId) -> usize
 
 /// Inserts an entry into a sorted list.
 fn push_among(ctx: &Context, sorted: &mut Vec<Entry>, entry: Entry) -> Result<(), AllocError>
-    ensures { OnOk result (sorted.new.items ≡ put_among (key_before_in ctx.now) entry sorted.old.items) }
+    ensures { OnOk result (sorted.new.items ≡ insert_sorted (key_before_in ctx.now) entry sorted.old.items) }
 {
     let place = place_of(ctx, sorted, entry.0);
     sorted.insert(place, entry)?;
@@ -88,7 +88,7 @@ fn push_among(ctx: &Context, sorted: &mut Vec<Entry>, entry: Entry) -> Result<()
 
 /// Inserts entries into a sorted list, the last one first.
 fn push_all(ctx: &Context, sorted: &mut Vec<Entry>, entries: &[Entry]) -> Result<(), AllocError>
-    ensures { OnOk result (sorted.new.items ≡ put_all (key_before_in ctx.now) sorted.old.items entries.now) }
+    ensures { OnOk result (sorted.new.items ≡ insert_entries (key_before_in ctx.now) sorted.old.items entries.now) }
 {
     let [entry, trailing @ ..] = entries else {
         return Ok(());
@@ -98,18 +98,18 @@ fn push_all(ctx: &Context, sorted: &mut Vec<Entry>, entries: &[Entry]) -> Result
 }
 
 /// Inserts the entries that are properties into a sorted list, the last one first.
-fn put_moved(
+fn insert_properties(
     ctx: &Context,
     op: &Option<NameId>,
     sorted: &mut Vec<Entry>,
     entries: &[Entry],
 ) -> Result<(), AllocError>
-    ensures { OnOk result (sorted.new.items ≡ put_all (key_before_in ctx.now) sorted.old.items (moved (is_property_in ctx.now op.now) entries.now)) }
+    ensures { OnOk result (sorted.new.items ≡ insert_entries (key_before_in ctx.now) sorted.old.items (moved (is_property_in ctx.now op.now) entries.now)) }
 {
     let [entry, trailing @ ..] = entries else {
         return Ok(());
     };
-    put_moved(ctx, op, sorted, trailing)?;
+    insert_properties(ctx, op, sorted, trailing)?;
     if is_property(ctx, op, entry.0) {
         push_among(ctx, sorted, *entry)?;
     }
@@ -117,18 +117,18 @@ fn put_moved(
 }
 
 /// Inserts the entries that are no properties into a sorted list, the last one first.
-fn put_staying(
+fn insert_attributes(
     ctx: &Context,
     op: &Option<NameId>,
     sorted: &mut Vec<Entry>,
     entries: &[Entry],
 ) -> Result<(), AllocError>
-    ensures { OnOk result (sorted.new.items ≡ put_all (key_before_in ctx.now) sorted.old.items (staying (is_property_in ctx.now op.now) entries.now)) }
+    ensures { OnOk result (sorted.new.items ≡ insert_entries (key_before_in ctx.now) sorted.old.items (staying (is_property_in ctx.now op.now) entries.now)) }
 {
     let [entry, trailing @ ..] = entries else {
         return Ok(());
     };
-    put_staying(ctx, op, sorted, trailing)?;
+    insert_attributes(ctx, op, sorted, trailing)?;
     if !is_property(ctx, op, entry.0) {
         push_among(ctx, sorted, *entry)?;
     }
@@ -147,7 +147,7 @@ pub fn properties_of(
     ensures { IfOk result (λ v. v.items ≡ properties_of (is_property_in ctx.now (Some op)) (key_before_in ctx.now) properties.now attributes.now) }
 {
     let mut sorted = Vec::with_capacity(alloc, properties.len())?;
-    put_moved(ctx, &Some(op), &mut sorted, attributes)?;
+    insert_properties(ctx, &Some(op), &mut sorted, attributes)?;
     push_all(ctx, &mut sorted, properties)?;
     Ok(sorted)
 }
@@ -162,6 +162,6 @@ pub fn attributes_of(
     ensures { IfOk result (λ v. v.items ≡ attributes_of (is_property_in ctx.now (Some op)) (key_before_in ctx.now) attributes.now) }
 {
     let mut sorted = Vec::with_capacity(alloc, attributes.len())?;
-    put_staying(ctx, &Some(op), &mut sorted, attributes)?;
+    insert_attributes(ctx, &Some(op), &mut sorted, attributes)?;
     Ok(sorted)
 }

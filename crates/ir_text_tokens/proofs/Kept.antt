@@ -9,7 +9,7 @@ use Rattle.std.proofs.lemmas.Slice.Eq.{bytes_eq-Decides}
 use Rattle.std.specs.HashMap.{HashMap, get}
 use Rattle.ir_text_tokens.specs.Scopes.{Binding, Scopes, or_else, find, bound, entered, left}
 use Rattle.ir_text_tokens.specs.Places.{key_eq, joined, binding_view, views, top, pick, Linked, Agrees}
-use Rattle.ir_text_tokens.specs.Inside.{seen_at, seen_onto, Standing}
+use Rattle.ir_text_tokens.specs.Inside.{visible_at, visible_onto, Standing}
 use Rattle.ir_text_tokens.specs.declared.names.Entry.{Entry}
 use Rattle.ir_text_tokens.specs.declared.names.ScopeStart.{ScopeStart}
 use Rattle.ir_types.proofs.Truths.{drop_all, zero_le}
@@ -118,20 +118,20 @@ module _ {T : Type 0} where
 
   -- ---- marks
 
-  pub seen_push : (bs : List (Binding T)) (done : List (List (Binding T))) (ms : List ScopeStart) (m : ScopeStart) → seen_onto bs done (ms ++ m ∷ []) ≡ seen_at bs m ∷ seen_onto bs done ms
-  unfolding seen_onto
+  pub seen_push : (bs : List (Binding T)) (done : List (List (Binding T))) (ms : List ScopeStart) (m : ScopeStart) → visible_onto bs done (ms ++ m ∷ []) ≡ visible_at bs m ∷ visible_onto bs done ms
+  unfolding visible_onto
   seen_push bs done [] m = refl
-  seen_push bs done (k ∷ ms) m = seen_push bs (seen_at bs k ∷ done) ms m
+  seen_push bs done (k ∷ ms) m = seen_push bs (visible_at bs k ∷ done) ms m
 
-  seen_same : (bs cs : List (Binding T)) (done : List (List (Binding T))) (ms : List ScopeStart) → ((i : ℕ) (k : ScopeStart) → slice_get ms i ≡ Some k → take k.count cs ≡ take k.count bs) → seen_onto cs done ms ≡ seen_onto bs done ms
-  unfolding seen_onto
+  seen_same : (bs cs : List (Binding T)) (done : List (List (Binding T))) (ms : List ScopeStart) → ((i : ℕ) (k : ScopeStart) → slice_get ms i ≡ Some k → take k.count cs ≡ take k.count bs) → visible_onto cs done ms ≡ visible_onto bs done ms
+  unfolding visible_onto
   seen_same bs cs done [] h = refl
-  seen_same bs cs done (k ∷ ms) h = ap (λ l. seen_onto cs (drop k.first l ∷ done) ms) (h 0 k refl) ∙ seen_same bs cs (seen_at bs k ∷ done) ms (λ i j at. h (suc i) j at)
+  seen_same bs cs done (k ∷ ms) h = ap (λ l. visible_onto cs (drop k.first l ∷ done) ms) (h 0 k refl) ∙ seen_same bs cs (visible_at bs k ∷ done) ms (λ i j at. h (suc i) j at)
 
-  pub seen_more : (bs : List (Binding T)) (b : Binding T) (ms : List ScopeStart) → Standing ms (length bs) → seen_onto (bs ++ b ∷ []) [] ms ≡ seen_onto bs [] ms
+  pub seen_more : (bs : List (Binding T)) (b : Binding T) (ms : List ScopeStart) → Standing ms (length bs) → visible_onto (bs ++ b ∷ []) [] ms ≡ visible_onto bs [] ms
   seen_more bs b ms h = seen_same bs (bs ++ b ∷ []) [] ms (λ i k at. take-append-le k.count bs (b ∷ []) (h.marked i k at).1)
 
-  pub seen_cut : (bs : List (Binding T)) (ms : List ScopeStart) (m : ScopeStart) (count : ℕ) → Standing (ms ++ m ∷ []) count → seen_onto (take m.count bs) [] ms ≡ seen_onto bs [] ms
+  pub seen_cut : (bs : List (Binding T)) (ms : List ScopeStart) (m : ScopeStart) (count : ℕ) → Standing (ms ++ m ∷ []) count → visible_onto (take m.count bs) [] ms ≡ visible_onto bs [] ms
   seen_cut bs ms m count h = seen_same bs (take m.count bs) [] ms (λ i k at. take-take k.count m.count bs (h.rising i (length ms) k m (slice_get_within ms i k at) (place_stays ms (m ∷ []) i k at) (last_place ms m)))
 
   module _ {S : Type 0} (m n : HashMap (Bor (List ℕ)) (Option ℕ) S) (es : List (Entry T)) (e : Entry T) where
@@ -175,7 +175,7 @@ module _ {T : Type 0} where
   drop_count es n e = ap (λ k. drop k (views es)) (e ∙ sym (length-map es _)) ∙ drop_all (views es)
 
   abbrev at_marks : List (Binding T) → List ScopeStart → ℕ → Scopes T
-  at_marks bs ms floor = record { here = drop floor bs; outer = seen_onto bs [] ms }
+  at_marks bs ms floor = record { here = drop floor bs; outer = visible_onto bs [] ms }
 
   abbrev with_outer : List (Binding T) → List (List (Binding T)) → Scopes T
   with_outer here outer = record { here = here; outer = outer }
@@ -185,7 +185,7 @@ module _ {T : Type 0} where
       → (isolated : Bool) (next : ℕ) → next ≡ cond isolated n floor → at_marks (views es) new next ≡ entered isolated (at_marks (views es) ms floor)
   enters es ms new floor n e f isolated next g =
       rw (f, seen_push (views es) [] ms (record { count = n; first = floor }), take_count es n e, g)
-      (elim isolated as (λ b. with_outer (drop (cond b n floor) (views es)) (drop floor (views es) ∷ seen_onto (views es) [] ms) ≡ entered b (at_marks (views es) ms floor)) [ true ↦ rw (drop_count es n e) refl | false ↦ refl ])
+      (elim isolated as (λ b. with_outer (drop (cond b n floor) (views es)) (drop floor (views es) ∷ visible_onto (views es) [] ms) ≡ entered b (at_marks (views es) ms floor)) [ true ↦ rw (drop_count es n e) refl | false ↦ refl ])
 
   -- the scopes at the end of a region
   pub leaves : (es cut : List (Entry T)) (ms old : List ScopeStart) (m : ScopeStart) (floor count : ℕ) → old ≡ ms ++ m ∷ [] → cut ≡ take m.count es → Standing old count → at_marks (views cut) ms m.first ≡ left (at_marks (views es) old floor)
@@ -194,7 +194,7 @@ module _ {T : Type 0} where
       rw (k, e, seen_push (views es) [] ms m, seen_cut (views es) ms m count (subst (λ o. Standing o count) e h)) refl
 
   pub leaves_none : (es : List (Entry T)) (new old : List ScopeStart) (floor : ℕ) → length old ≡ 0 → length new ≡ 0 → at_marks (views es) new floor ≡ left (at_marks (views es) old floor)
-  unfolding seen_onto
+  unfolding visible_onto
   leaves_none es new old floor e f = rw (nil_from_length old e, nil_from_length new f) refl
 
   -- the scopes with one more name

@@ -6,16 +6,16 @@ use Rattle.ir_text_tokens.specs.declared.names.ScopeStart.{ScopeStart}
 use Rattle.ir_text_tokens.specs.declared.names.ScopedNames.TheInside.{Inside}
 
 -- the bindings that were visible at the start of a region
-abbrev pub seen_at : {T : Type 0} → List (Binding T) → ScopeStart → List (Binding T)
-seen_at bs m = drop m.first (take m.count bs)
+abbrev pub visible_at : {T : Type 0} → List (Binding T) → ScopeStart → List (Binding T)
+visible_at bs m = drop m.first (take m.count bs)
 
 -- the bindings that were visible at the start of each region, the last region first
-unfoldable pub seen_onto : {T : Type 0} → List (Binding T) → List (List (Binding T)) → List ScopeStart → List (List (Binding T))
-seen_onto bs done [] = done
-seen_onto bs done (m ∷ ms) = seen_onto bs (seen_at bs m ∷ done) ms
+unfoldable pub visible_onto : {T : Type 0} → List (Binding T) → List (List (Binding T)) → List ScopeStart → List (List (Binding T))
+visible_onto bs done [] = done
+visible_onto bs done (m ∷ ms) = visible_onto bs (visible_at bs m ∷ done) ms
 
 abbrev pub scopes_of : {T : Type 0} → Inside T → Scopes T
-scopes_of n = record { here = drop n.first (views n.entries.items); outer = seen_onto (views n.entries.items) [] n.floors.items }
+scopes_of n = record { here = drop n.first (views n.entries.items); outer = visible_onto (views n.entries.items) [] n.floors.items }
 
 -- each region start has its first entry within its count, the counts rise, and none is more than `count`
 pub record Standing (ms : List ScopeStart) (count : ℕ) : Type 0 where

@@ -38,8 +38,8 @@ use Rattle.ir_text_types.specs.TypeReading.{many, type_done, scalar_from, scalar
 use Rattle.ir_text_types.specs.Grammars.{Grammar, Then, Done, DoneIf, After, IsMark, Token}
 use Rattle.ir_text_types.specs.TypeGrammar.{types_of, IsScalar, IsOpaque, IsWordFrom, IsAfter, IsWordType, IsElement, IsMemref, IsTypes, IsOutputs, IsSignature, IsFunction, IsType, IsFunctionType}
 use Rattle.ir_text_types.specs.Worlds.{From}
-use Rattle.ir_text_types.specs.Standing.{TypeStands}
-use Rattle.ir_text_types.specs.Laws.{TypesStand, SignatureStands}
+use Rattle.ir_text_types.specs.Denotation.{TypeDenotes}
+use Rattle.ir_text_types.specs.Laws.{TypesDenote, SignatureDenotes}
 use Rattle.ir_text_types.proofs.Worlds.{bind_read, option_read, Exact, Step, Comes, Reads, step_on, reads_on, exact_rendered, nothing_exact, choice_exact, guard_exact, some_exact, then_exact, done_exact, after_exact, either_exact, list_exact}
 use Rattle.ir_text_types.proofs.TextLaws.{things, Same, text_now, typed_marks}
 use Rattle.ir_text_types.proofs.TokenLaws.{text_exact, trailing_exact, token_exact}
@@ -70,7 +70,7 @@ moved s n = (n.0, (s.0, n.1))
 abbrev done : ℕ × Typed → Outcome (ℕ × Typed)
 done x = Read x
 
-done_step : (node : TypeNode) (y : TypeTerm) (s : Typed) (t : List ℕ) → IsSound s.1 → s.0 ≡ t → From (IsNodeOf node y) s.1 → type_reason node s.1 ≡ None → Step things Same TypeStands s (with_type node s.1).0 y (s.0, (with_type node s.1).1) t
+done_step : (node : TypeNode) (y : TypeTerm) (s : Typed) (t : List ℕ) → IsSound s.1 → s.0 ≡ t → From (IsNodeOf node y) s.1 → type_reason node s.1 ≡ None → Step things Same TypeDenotes s (with_type node s.1).0 y (s.0, (with_type node s.1).1) t
 done_step node y s t sound same r fine = record {
   grows = grows_type node s.1;
   sound = accepted_type node s.1 sound (r s.1 (grows_refl s.1) sound).0 fine;
@@ -81,7 +81,7 @@ done_step node y s t sound same r fine = record {
   agree = λ z g w. same;
 }
 
-pub type_done_exact : (c : ContextModel) (node : TypeNode) (y : TypeTerm) → From (IsNodeOf node y) c → Exact things Same c TypeStands (type_done node) (DoneIf (type_fault y ≡ None) y)
+pub type_done_exact : (c : ContextModel) (node : TypeNode) (y : TypeTerm) → From (IsNodeOf node y) c → Exact things Same c TypeDenotes (type_done node) (DoneIf (type_fault y ≡ None) y)
 unfolding type_done type_step
 type_done_exact c node y r = record {
   found = λ s t x s' g sound h e.
@@ -90,7 +90,7 @@ type_done_exact c node y r = record {
       let same : moved s (with_type node s.1) ≡ (x, s') = ap (moved s) a.1 ∙ cc (b.2) in
       let no_fault = (neither (type_fault (type_node_term s.1 node)) (full_reason (same_type node) s.1.types) a.0).0 in
       let r' : From (IsNodeOf node y) s.1 = λ z k w. r z (grows_trans c s.1 z g k) w in
-      subst (λ (q : ℕ × Typed). Comes things Same TypeStands (DoneIf (type_fault y ≡ None) y) s t q.0 q.1) same
+      subst (λ (q : ℕ × Typed). Comes things Same TypeDenotes (DoneIf (type_fault y ≡ None) y) s t q.0 q.1) same
       (y, t, (subst (λ y'. type_fault y' ≡ None) (r s.1 g sound).1 no_fault, refl, refl), done_step node y s t sound (text_now s t sound h) r' a.0);
   only = λ s t y' t' g sound h k.
       let r' : From (IsNodeOf node y) s.1 = λ z k w. r z (grows_trans c s.1 z g k) w in
@@ -98,7 +98,7 @@ type_done_exact c node y r = record {
       rw (k.1, k.2) (⊎_elim
       (λ (f : full_reason (same_type node) s.1.types ≡ None).
       let fine : type_reason node s.1 ≡ None = neither_back (type_fault (type_node_term s.1 node)) (full_reason (same_type node) s.1.types) no_fault f in
-      subst (λ o. Reads things Same TypeStands s (interned o (with_type node s.1) >>= λ n. Read (moved s n)) y t) (sym fine)
+      subst (λ o. Reads things Same TypeDenotes s (interned o (with_type node s.1) >>= λ n. Read (moved s n)) y t) (sym fine)
       (inr ((with_type node s.1).0, (s.0, (with_type node s.1).1), refl, done_step node y s t sound (text_now s t sound h) r' fine)))
       (λ (f : full_reason (same_type node) s.1.types ≡ Some TooMany). inl (rw (no_fault, f) refl))
       (full_cases (same_type node) s.1.types));
@@ -164,16 +164,16 @@ word_fine (node.Func inputs outputs) h = absurd h
 word_fine (node.Memref dims elem) h = absurd h
 word_fine (node.Opaque text) h = absurd h
 
-scalar_found : (s : Typed) (t : List ℕ) (x : ℕ) (s' : Typed) (l : Lexeme) (rest : List ℕ) → next s.0 ≡ Some (l, rest) → IsSound s.1 → s.0 ≡ t → scalar_from s.1 l rest ≡ Read (x, s') → Comes things Same TypeStands IsScalar s t x s'
+scalar_found : (s : Typed) (t : List ℕ) (x : ℕ) (s' : Typed) (l : Lexeme) (rest : List ℕ) → next s.0 ≡ Some (l, rest) → IsSound s.1 → s.0 ≡ t → scalar_from s.1 l rest ≡ Read (x, s') → Comes things Same TypeDenotes IsScalar s t x s'
 scalar_found s t x s' (bare word) rest token sound same e =
     let o = option_read (scalar_of word) (λ node. type_done node (rest, s.1)) (x, s') e in
     let w = scalar_word word o.0 o.1 in
     let n = (type_done_exact s.1 o.0 (type_from [] o.0) (λ z g k. word_stands o.0 z w)).found (rest, s.1) rest x s' (grows_refl s.1) sound (λ z g k. refl) o.2 in
     let read : Token (bare word) t n.1 = subst (λ b. Token (bare word) b n.1) same (rw n.2.2 token) in
-    (n.0, n.1, (word, o.0, read, o.1, n.2.1), step_on things Same TypeStands s (rest, s.1) x n.0 s' n.1 (grows_refl s.1) n.3)
+    (n.0, n.1, (word, o.0, read, o.1, n.2.1), step_on things Same TypeDenotes s (rest, s.1) x n.0 s' n.1 (grows_refl s.1) n.3)
 scalar_found s t x s' _ rest token sound same e = absurd cc
 
-pub scalar_exact : (c : ContextModel) → Exact things Same c TypeStands scalar_at IsScalar
+pub scalar_exact : (c : ContextModel) → Exact things Same c TypeDenotes scalar_at IsScalar
 unfolding scalar_at
 scalar_exact c = record {
   found = λ s t x s' g sound h e.
@@ -182,7 +182,7 @@ scalar_exact c = record {
   only = λ s t y t' g sound h k.
       let token : next s.0 ≡ Some (bare k.0, t') = subst (λ b. Token (bare k.0) b t') (sym (text_now s t sound h)) k.2 in
       let w = scalar_word k.0 k.1 k.3 in
-      rw (token, k.3) (reads_on things Same TypeStands s (t', s.1) (type_done k.1 (t', s.1)) y t' (grows_refl s.1)
+      rw (token, k.3) (reads_on things Same TypeDenotes s (t', s.1) (type_done k.1 (t', s.1)) y t' (grows_refl s.1)
       ((type_done_exact s.1 k.1 (type_from [] k.1) (λ z g k'. word_stands k.1 z w)).only (t', s.1) t' y t' (grows_refl s.1) sound (λ z g k'. refl) (word_fine k.1 w, k.4, refl)));
 }
 
@@ -207,129 +207,129 @@ dims_fine dims elem e = by_case (list_all is_dimension dims) refl e
     by_case true h e = h
     by_case false h e = absurd cc
 
-memref_stands : (z : ContextModel) (dims ds : List (Option ℕ)) (n : ℕ) (y : TypeTerm) → dims ≡ ds → TypeStands z n y → IsNodeOf (node.Memref dims n) (terms.Memref ds y) z
+memref_stands : (z : ContextModel) (dims ds : List (Option ℕ)) (n : ℕ) (y : TypeTerm) → dims ≡ ds → TypeDenotes z n y → IsNodeOf (node.Memref dims n) (terms.Memref ds y) z
 memref_stands z dims ds n y e h = (h.0, λ i. terms.Memref (e i) (h.1 i))
 
 -- the type of a word, if it has one
 node_exact : (word : List ℕ) (c : ContextModel) (o : Option TypeNode) → scalar_of word ≡ o
-    → Exact things Same c TypeStands (λ s. of_option o >>= λ n. type_done n s) (λ y old new. (n : TypeNode) × (o ≡ Some n) × (y ≡ type_from [] n) × (new ≡ old))
+    → Exact things Same c TypeDenotes (λ s. of_option o >>= λ n. type_done n s) (λ y old new. (n : TypeNode) × (o ≡ Some n) × (y ≡ type_from [] n) × (new ≡ old))
 node_exact word c None e =
-    exact_rendered things Same c TypeStands (λ s. Wrong) (λ y old new. ⊥) (λ y old new. (n : TypeNode) × (None ≡ Some n) × (y ≡ type_from [] n) × (new ≡ old))
-    (λ y t t' k. absurd k) (λ y t t' k. let no : None ≡ Some k.0 = k.1 in absurd cc) (nothing_exact things Same c TypeStands)
+    exact_rendered things Same c TypeDenotes (λ s. Wrong) (λ y old new. ⊥) (λ y old new. (n : TypeNode) × (None ≡ Some n) × (y ≡ type_from [] n) × (new ≡ old))
+    (λ y t t' k. absurd k) (λ y t t' k. let no : None ≡ Some k.0 = k.1 in absurd cc) (nothing_exact things Same c TypeDenotes)
 node_exact word c (Some v) e =
     let w = scalar_word word v e in
-    exact_rendered things Same c TypeStands (type_done v) (DoneIf (type_fault (type_from [] v) ≡ None) (type_from [] v)) (λ y old new. (n : TypeNode) × (Some v ≡ Some n) × (y ≡ type_from [] n) × (new ≡ old))
+    exact_rendered things Same c TypeDenotes (type_done v) (DoneIf (type_fault (type_from [] v) ≡ None) (type_from [] v)) (λ y old new. (n : TypeNode) × (Some v ≡ Some n) × (y ≡ type_from [] n) × (new ≡ old))
     (λ y t t' k. (v, refl, k.1, k.2)) (λ y t t' k. let same : v ≡ k.0 = cc (k.1) in (word_fine v w, k.2 ∙ ap (type_from []) (sym same), k.3))
     (type_done_exact c v (type_from [] v) (λ z g k. word_stands v z w))
 
 -- ---- opaque types
 
-opaque_exact : (found : Option (List ℕ × List ℕ)) (c : ContextModel) → Exact things Same c TypeStands (λ s. opaque_done found s.1) (λ y old new. IsOpaque found y new)
+opaque_exact : (found : Option (List ℕ × List ℕ)) (c : ContextModel) → Exact things Same c TypeDenotes (λ s. opaque_done found s.1) (λ y old new. IsOpaque found y new)
 opaque_exact found c =
-    exact_rendered things Same c TypeStands (λ s. opaque_done found s.1)
+    exact_rendered things Same c TypeDenotes (λ s. opaque_done found s.1)
     (λ y old new. (x : List ℕ × List ℕ) × (found ≡ Some x) × DoneIf (type_fault (terms.OpaqueType x.0) ≡ None) (terms.OpaqueType x.0) y x.1 new)
     (λ y old new. IsOpaque found y new)
     (λ y t t' k. (k.0, k.1, k.2.1, k.2.2)) (λ y t t' k. (k.0, k.1, (refl, k.2, k.3)))
-    (some_exact things Same c TypeStands found (λ x s. type_done (node.Opaque x.0) (x.1, s.1)) (λ x y old new. DoneIf (type_fault (terms.OpaqueType x.0) ≡ None) (terms.OpaqueType x.0) y x.1 new)
-    (λ x. trailing_exact c TypeStands x.1 (type_done (node.Opaque x.0)) (DoneIf (type_fault (terms.OpaqueType x.0) ≡ None) (terms.OpaqueType x.0)) (type_done_exact c (node.Opaque x.0) (terms.OpaqueType x.0) (λ z g w. (tt, refl)))))
+    (some_exact things Same c TypeDenotes found (λ x s. type_done (node.Opaque x.0) (x.1, s.1)) (λ x y old new. DoneIf (type_fault (terms.OpaqueType x.0) ≡ None) (terms.OpaqueType x.0) y x.1 new)
+    (λ x. trailing_exact c TypeDenotes x.1 (type_done (node.Opaque x.0)) (DoneIf (type_fault (terms.OpaqueType x.0) ≡ None) (terms.OpaqueType x.0)) (type_done_exact c (node.Opaque x.0) (terms.OpaqueType x.0) (λ z g w. (tt, refl)))))
 
 -- ---- types that begin with a word or a dialect's name
 
-module _ (o : Bool) (m : Parse Typed ℕ) (M : Grammar (List ℕ) TypeTerm) (inner : (c : ContextModel) → Exact things Same c TypeStands m M) where
-  word_exact : (b memref : Bool) (word rest : List ℕ) (c : ContextModel) → Exact things Same c TypeStands (λ s. word_from m b memref word rest s.1) (λ y old new. IsWordFrom M b memref word y rest new)
+module _ (o : Bool) (m : Parse Typed ℕ) (M : Grammar (List ℕ) TypeTerm) (inner : (c : ContextModel) → Exact things Same c TypeDenotes m M) where
+  word_exact : (b memref : Bool) (word rest : List ℕ) (c : ContextModel) → Exact things Same c TypeDenotes (λ s. word_from m b memref word rest s.1) (λ y old new. IsWordFrom M b memref word y rest new)
   word_exact true memref word rest c = opaque_exact (word_text word rest) c
-  word_exact false true word rest c = trailing_exact c TypeStands rest m M (inner c)
+  word_exact false true word rest c = trailing_exact c TypeDenotes rest m M (inner c)
   word_exact false false word rest c =
-      trailing_exact c TypeStands rest (scalar_done word) (λ y old new. (n : TypeNode) × (scalar_of word ≡ Some n) × (y ≡ type_from [] n) × (new ≡ old)) (node_exact word c (scalar_of word) refl)
+      trailing_exact c TypeDenotes rest (scalar_done word) (λ y old new. (n : TypeNode) × (scalar_of word ≡ Some n) × (y ≡ type_from [] n) × (new ≡ old)) (node_exact word c (scalar_of word) refl)
 
-  after_word : (c : ContextModel) (l : Lexeme) (rest : List ℕ) → Exact things Same c TypeStands (λ s. word_type_from o m s.1 l rest) (λ y old new. IsAfter o M l y rest new)
+  after_word : (c : ContextModel) (l : Lexeme) (rest : List ℕ) → Exact things Same c TypeDenotes (λ s. word_type_from o m s.1 l rest) (λ y old new. IsAfter o M l y rest new)
   after_word c (bare word) rest = word_exact (o && is_opaque_word word rest) (bytes_eq word memref_word) word rest c
-  after_word c (bang name) rest = guard_exact things Same c TypeStands o (λ s. opaque_done (dialect_text 33 name rest) s.1) (λ y old new. IsOpaque (dialect_text 33 name rest) y new) (opaque_exact (dialect_text 33 name rest) c)
-  after_word c _ rest = nothing_exact things Same c TypeStands
+  after_word c (bang name) rest = guard_exact things Same c TypeDenotes o (λ s. opaque_done (dialect_text 33 name rest) s.1) (λ y old new. IsOpaque (dialect_text 33 name rest) y new) (opaque_exact (dialect_text 33 name rest) c)
+  after_word c _ rest = nothing_exact things Same c TypeDenotes
 
-  pub word_type_exact : (c : ContextModel) → Exact things Same c TypeStands (word_type_at o m) (IsWordType o M)
+  pub word_type_exact : (c : ContextModel) → Exact things Same c TypeDenotes (word_type_at o m) (IsWordType o M)
   unfolding word_type_at
-  word_type_exact c = token_exact c TypeStands (λ s l rest. word_type_from o m s.1 l rest) (λ l rest y old new. IsAfter o M l y rest new) (after_word c)
+  word_type_exact c = token_exact c TypeDenotes (λ s l rest. word_type_from o m s.1 l rest) (λ l rest y old new. IsAfter o M l y rest new) (after_word c)
 
-  pub element_exact : (c : ContextModel) → Exact things Same c TypeStands (element_at o m) (IsElement o M)
-  element_exact c = choice_exact things Same c TypeStands o (word_type_at o m) scalar_at (IsWordType o M) IsScalar (word_type_exact c) (scalar_exact c)
+  pub element_exact : (c : ContextModel) → Exact things Same c TypeDenotes (element_at o m) (IsElement o M)
+  element_exact c = choice_exact things Same c TypeDenotes o (word_type_at o m) scalar_at (IsWordType o M) IsScalar (word_type_exact c) (scalar_exact c)
 
 -- the text after the dimensions
 abbrev Elements : Bool → ℕ → List (Option ℕ) → Grammar (List ℕ) TypeTerm
 Elements o depth dims = Then (IsElement o (IsMemref o depth)) (λ elem. After IsMark Greater (DoneIf (type_fault (terms.Memref dims elem) ≡ None) (terms.Memref dims elem)))
 
-pub memref_exact : (o : Bool) (depth : ℕ) (c : ContextModel) → Exact things Same c TypeStands (memref_at o depth) (IsMemref o depth)
+pub memref_exact : (o : Bool) (depth : ℕ) (c : ContextModel) → Exact things Same c TypeDenotes (memref_at o depth) (IsMemref o depth)
 unfolding memref_at IsMemref
 memref_exact o zero c = record { found = λ s t x s' g sound h e. absurd cc; only = λ s t y t' g sound h k. absurd k }
 memref_exact o (suc depth) c =
-    exact_rendered things Same c TypeStands (memref_at o (suc depth)) (After IsMark Less (Then IsGoodShape (Elements o depth))) (IsMemref o (suc depth))
+    exact_rendered things Same c TypeDenotes (memref_at o (suc depth)) (After IsMark Less (Then IsGoodShape (Elements o depth))) (IsMemref o (suc depth))
     (λ y t t' k. (k.0, k.1, (k.2.0, k.2.1, k.2.2.1, k.2.3)))
     (λ y t t' k. (k.0, k.1, (k.2.0, k.2.1, (dims_fine k.2.0 k.2.3.0 k.2.3.3.2.0, k.2.2), k.2.3)))
-    (after_exact things Same after_typed IsMark typed_marks c TypeStands Less _ _
-    (then_exact things Same c (λ z x y. x ≡ y) TypeStands shape_at IsGoodShape _ (Elements o depth) (shape_exact c) (λ d dims ds g r.
-    then_exact things Same d TypeStands TypeStands (element_at o (memref_at o depth)) (IsElement o (IsMemref o depth)) _ _ (element_exact o (memref_at o depth) (IsMemref o depth) (memref_exact o depth) d) (λ e n y h k.
-    after_exact things Same after_typed IsMark typed_marks e TypeStands Greater _ _
+    (after_exact things Same after_typed IsMark typed_marks c TypeDenotes Less _ _
+    (then_exact things Same c (λ z x y. x ≡ y) TypeDenotes shape_at IsGoodShape _ (Elements o depth) (shape_exact c) (λ d dims ds g r.
+    then_exact things Same d TypeDenotes TypeDenotes (element_at o (memref_at o depth)) (IsElement o (IsMemref o depth)) _ _ (element_exact o (memref_at o depth) (IsMemref o depth) (memref_exact o depth) d) (λ e n y h k.
+    after_exact things Same after_typed IsMark typed_marks e TypeDenotes Greater _ _
     (type_done_exact e (node.Memref dims n) (terms.Memref ds y) (λ z l w. memref_stands z dims ds n y (r z (grows_trans d e z h l) w) (k z l w)))))))
 
 -- ---- types in parentheses
 
-each_below : (z : ContextModel) (xs : List ℕ) (ys : List TypeTerm) → TypesStand z xs ys → AllByRecursion (λ t. t < length z.types) xs
+each_below : (z : ContextModel) (xs : List ℕ) (ys : List TypeTerm) → TypesDenote z xs ys → AllByRecursion (λ t. t < length z.types) xs
 each_below z [] [] h = tt
 each_below z [] (y ∷ ys) h = absurd h
 each_below z (x ∷ xs) [] h = absurd h
 each_below z (x ∷ xs) (y ∷ ys) h = (h.0.0, each_below z xs ys h.1)
 
-each_term : (z : ContextModel) (xs : List ℕ) (ys : List TypeTerm) → TypesStand z xs ys → terms.types_at (type_terms z) xs ≡ types_of ys
+each_term : (z : ContextModel) (xs : List ℕ) (ys : List TypeTerm) → TypesDenote z xs ys → terms.types_at (type_terms z) xs ≡ types_of ys
 each_term z [] [] h = refl
 each_term z [] (y ∷ ys) h = absurd h
 each_term z (x ∷ xs) [] h = absurd h
 each_term z (x ∷ xs) (y ∷ ys) h = λ i. terms.next_type (h.0.1 i) (each_term z xs ys h.1 i)
 
-pub func_stands : (z : ContextModel) (x : List ℕ × List ℕ) (y : List TypeTerm × List TypeTerm) → SignatureStands z x y → IsNodeOf (node.Func x.0 x.1) (Function (types_of y.0) (types_of y.1)) z
+pub func_stands : (z : ContextModel) (x : List ℕ × List ℕ) (y : List TypeTerm × List TypeTerm) → SignatureDenotes z x y → IsNodeOf (node.Func x.0 x.1) (Function (types_of y.0) (types_of y.1)) z
 func_stands z x y h = (
   (All-from_recursion (λ t. t < length z.types) x.0 (each_below z x.0 y.0 h.0), All-from_recursion (λ t. t < length z.types) x.1 (each_below z x.1 y.1 h.1)),
   λ i. Function (each_term z x.0 y.0 h.0 i) (each_term z x.1 y.1 h.1 i),
 )
 
-module _ (p : Parse Typed ℕ) (P : Grammar (List ℕ) TypeTerm) (item : (c : ContextModel) → Exact things Same c TypeStands p P) where
-  pub types_exact : (headroom : ℕ) (c : ContextModel) → Exact things Same c TypesStand (types_at p headroom) (IsTypes P headroom)
+module _ (p : Parse Typed ℕ) (P : Grammar (List ℕ) TypeTerm) (item : (c : ContextModel) → Exact things Same c TypeDenotes p P) where
+  pub types_exact : (headroom : ℕ) (c : ContextModel) → Exact things Same c TypesDenote (types_at p headroom) (IsTypes P headroom)
   unfolding types_at IsTypes
-  types_exact headroom c = list_exact things Same after_typed IsMark typed_marks TypeStands CloseRound (λ before. p) (λ before. P) (λ d xs ys r. item d) headroom c
+  types_exact headroom c = list_exact things Same after_typed IsMark typed_marks TypeDenotes CloseRound (λ before. p) (λ before. P) (λ d xs ys r. item d) headroom c
 
-  pub outputs_exact : (headroom : ℕ) (c : ContextModel) → Exact things Same c TypesStand (outputs_at p headroom) (IsOutputs P headroom)
+  pub outputs_exact : (headroom : ℕ) (c : ContextModel) → Exact things Same c TypesDenote (outputs_at p headroom) (IsOutputs P headroom)
   unfolding outputs_at IsOutputs
   outputs_exact headroom c =
-      either_exact things Same after_typed IsMark typed_marks c TypesStand OpenRound (outputs_from p headroom) (types_at p headroom) (λ s. p s >>= λ x. Read (x.0 ∷ [], x.1)) (IsTypes P headroom) (Then P (λ y. Done (y ∷ [])))
+      either_exact things Same after_typed IsMark typed_marks c TypesDenote OpenRound (outputs_from p headroom) (types_at p headroom) (λ s. p s >>= λ x. Read (x.0 ∷ [], x.1)) (IsTypes P headroom) (Then P (λ y. Done (y ∷ [])))
       (λ s mid. refl) (λ s. refl) (types_exact headroom c)
-      (then_exact things Same c TypeStands TypesStand p P (λ x s. Read (x ∷ [], s)) (λ y. Done (y ∷ [])) (item c) (λ d x y g r.
-      done_exact things Same d TypesStand (x ∷ []) (y ∷ []) (λ z k w. (r z k w, tt))))
+      (then_exact things Same c TypeDenotes TypesDenote p P (λ x s. Read (x ∷ [], s)) (λ y. Done (y ∷ [])) (item c) (λ d x y g r.
+      done_exact things Same d TypesDenote (x ∷ []) (y ∷ []) (λ z k w. (r z k w, tt))))
 
-  pub signature_exact : (headroom : ℕ) (c : ContextModel) → Exact things Same c SignatureStands (signature_at p headroom) (IsSignature P headroom)
+  pub signature_exact : (headroom : ℕ) (c : ContextModel) → Exact things Same c SignatureDenotes (signature_at p headroom) (IsSignature P headroom)
   unfolding signature_at IsSignature
   signature_exact headroom c =
-      then_exact things Same c TypesStand SignatureStands _ _ _ _ (types_exact many c) (λ d inputs ins g r.
-      after_exact things Same after_typed IsMark typed_marks d SignatureStands Arrow _ _ (then_exact things Same d TypesStand SignatureStands _ _ _ _ (outputs_exact headroom d) (λ e outputs outs h k.
-      done_exact things Same e SignatureStands (inputs, outputs) (ins, outs) (λ z l w. (r z (grows_trans d e z h l) w, k z l w)))))
+      then_exact things Same c TypesDenote SignatureDenotes _ _ _ _ (types_exact many c) (λ d inputs ins g r.
+      after_exact things Same after_typed IsMark typed_marks d SignatureDenotes Arrow _ _ (then_exact things Same d TypesDenote SignatureDenotes _ _ _ _ (outputs_exact headroom d) (λ e outputs outs h k.
+      done_exact things Same e SignatureDenotes (inputs, outputs) (ins, outs) (λ z l w. (r z (grows_trans d e z h l) w, k z l w)))))
 
-  pub function_exact : (c : ContextModel) → Exact things Same c TypeStands (function_at p) (IsFunction P)
+  pub function_exact : (c : ContextModel) → Exact things Same c TypeDenotes (function_at p) (IsFunction P)
   unfolding function_at IsFunction
   function_exact c =
-      then_exact things Same c SignatureStands TypeStands (signature_at p many) (IsSignature P many) (λ x. type_done (node.Func x.0 x.1)) (λ y. DoneIf (type_fault (Function (types_of y.0) (types_of y.1)) ≡ None) (Function (types_of y.0) (types_of y.1)))
+      then_exact things Same c SignatureDenotes TypeDenotes (signature_at p many) (IsSignature P many) (λ x. type_done (node.Func x.0 x.1)) (λ y. DoneIf (type_fault (Function (types_of y.0) (types_of y.1)) ≡ None) (Function (types_of y.0) (types_of y.1)))
       (signature_exact many c) (λ d x y g r. type_done_exact d (node.Func x.0 x.1) (Function (types_of y.0) (types_of y.1)) (λ z k w. func_stands z x y (r z k w)))
 
 -- ---- types, and the function types of operations
 
-pub type_exact : (o : Bool) (depth : ℕ) (c : ContextModel) → Exact things Same c TypeStands (type_at o depth) (IsType o depth)
+pub type_exact : (o : Bool) (depth : ℕ) (c : ContextModel) → Exact things Same c TypeDenotes (type_at o depth) (IsType o depth)
 unfolding type_at IsType
 type_exact o zero c = record { found = λ s t x s' g sound h e. absurd cc; only = λ s t y t' g sound h k. absurd k }
 type_exact o (suc depth) c =
-    either_exact things Same after_typed IsMark typed_marks c TypeStands OpenRound (type_read_from (type_at o depth) (word_type_at o (memref_at o (suc depth)))) (function_at (type_at o depth)) (word_type_at o (memref_at o (suc depth))) (IsFunction (IsType o depth)) (IsWordType o (IsMemref o (suc depth)))
+    either_exact things Same after_typed IsMark typed_marks c TypeDenotes OpenRound (type_read_from (type_at o depth) (word_type_at o (memref_at o (suc depth)))) (function_at (type_at o depth)) (word_type_at o (memref_at o (suc depth))) (IsFunction (IsType o depth)) (IsWordType o (IsMemref o (suc depth)))
     (λ s mid. refl) (λ s. refl) (function_exact (type_at o depth) (IsType o depth) (type_exact o depth) c) (word_type_exact o (memref_at o (suc depth)) (IsMemref o (suc depth)) (memref_exact o (suc depth)) c)
 
-pub function_type_exact : (o : Bool) (c : ContextModel) → Exact things Same c SignatureStands (function_type_at o) (IsFunctionType o)
+pub function_type_exact : (o : Bool) (c : ContextModel) → Exact things Same c SignatureDenotes (function_type_at o) (IsFunctionType o)
 unfolding function_type_at IsFunctionType
 function_type_exact o c =
-    after_exact things Same after_typed IsMark typed_marks c SignatureStands OpenRound (signature_at (type_at o 32) 256) (IsSignature (IsType o 32) 256) (signature_exact (type_at o 32) (IsType o 32) (type_exact o 32) 256 c)
+    after_exact things Same after_typed IsMark typed_marks c SignatureDenotes OpenRound (signature_at (type_at o 32) 256) (IsSignature (IsType o 32) 256) (signature_exact (type_at o 32) (IsType o 32) (type_exact o 32) 256 c)
 
 -- ---- from a text
 
@@ -343,19 +343,19 @@ type_read o depth c d bytes rest n sound e =
 abbrev pair : {A : Type 0} → A → ContextModel → List ℕ → Outcome (A × Typed)
 pair x d b = Read (x, (b, d))
 
-pub type_rendered : (o : Bool) (depth : ℕ) (c : ContextModel) (bytes rest : List ℕ) (y : TypeTerm) → IsSound c → IsType o depth y bytes rest → (type_at o depth (bytes, c) ≡ Full) ⊎ ((n : ℕ) × (d : ContextModel) × (type_at o depth (bytes, c) ≡ Read (n, (rest, d))) × IsExtendedBy c d × IsSound d × TypeStands d n y)
+pub type_rendered : (o : Bool) (depth : ℕ) (c : ContextModel) (bytes rest : List ℕ) (y : TypeTerm) → IsSound c → IsType o depth y bytes rest → (type_at o depth (bytes, c) ≡ Full) ⊎ ((n : ℕ) × (d : ContextModel) × (type_at o depth (bytes, c) ≡ Read (n, (rest, d))) × IsExtendedBy c d × IsSound d × TypeDenotes d n y)
 type_rendered o depth c bytes rest y sound k = ⊎_elim
     (λ (e : type_at o depth (bytes, c) ≡ Full). inl e)
-    (λ (f : (n : ℕ) × (s : Typed) × (type_at o depth (bytes, c) ≡ Read (n, s)) × Step things Same TypeStands (bytes, c) n y s rest).
+    (λ (f : (n : ℕ) × (s : Typed) × (type_at o depth (bytes, c) ≡ Read (n, s)) × Step things Same TypeDenotes (bytes, c) n y s rest).
     inr (f.0, f.1.1, f.2 ∙ ap (pair f.0 f.1.1) (text_now f.1 rest f.3.sound f.3.agree), f.3.grows, f.3.sound, f.3.stands f.1.1 (grows_refl f.1.1) f.3.sound))
     ((type_exact o depth c).only (bytes, c) bytes y rest (grows_refl c) sound (λ z g w. refl) k)
 
 -- ---- and function types
 
-stand_map : (z : ContextModel) (xs : List ℕ) (ys : List TypeTerm) → TypesStand z xs ys → All (of.IsType z) xs × (map (type_term z) xs ≡ ys)
+stand_map : (z : ContextModel) (xs : List ℕ) (ys : List TypeTerm) → TypesDenote z xs ys → All (of.IsType z) xs × (map (type_term z) xs ≡ ys)
 stand_map z xs ys h = (All-from_recursion (of.IsType z) xs (each_below z xs ys h), terms_are z xs ys h)
   where
-    terms_are : (z : ContextModel) (xs : List ℕ) (ys : List TypeTerm) → TypesStand z xs ys → map (type_term z) xs ≡ ys
+    terms_are : (z : ContextModel) (xs : List ℕ) (ys : List TypeTerm) → TypesDenote z xs ys → map (type_term z) xs ≡ ys
     terms_are z [] [] h = refl
     terms_are z [] (y ∷ ys) h = absurd h
     terms_are z (x ∷ xs) [] h = absurd h
@@ -374,9 +374,9 @@ function_type_read o c d bytes rest x sound e =
     (f.3.grows, f.3.sound, ins.0, outs.0, subst (λ b. IsFunctionType o y bytes b) (sym (text_now (rest, d) f.1 f.3.sound f.3.agree)) rendered)
 
 pub function_type_rendered : (o : Bool) (c : ContextModel) (bytes rest : List ℕ) (y : List TypeTerm × List TypeTerm) → IsSound c → IsFunctionType o y bytes rest
-    → (function_type_at o (bytes, c) ≡ Full) ⊎ ((x : List ℕ × List ℕ) × (d : ContextModel) × (function_type_at o (bytes, c) ≡ Read (x, (rest, d))) × IsExtendedBy c d × IsSound d × SignatureStands d x y)
+    → (function_type_at o (bytes, c) ≡ Full) ⊎ ((x : List ℕ × List ℕ) × (d : ContextModel) × (function_type_at o (bytes, c) ≡ Read (x, (rest, d))) × IsExtendedBy c d × IsSound d × SignatureDenotes d x y)
 function_type_rendered o c bytes rest y sound k = ⊎_elim
     (λ (e : function_type_at o (bytes, c) ≡ Full). inl e)
-    (λ (f : (x : List ℕ × List ℕ) × (s : Typed) × (function_type_at o (bytes, c) ≡ Read (x, s)) × Step things Same SignatureStands (bytes, c) x y s rest).
+    (λ (f : (x : List ℕ × List ℕ) × (s : Typed) × (function_type_at o (bytes, c) ≡ Read (x, s)) × Step things Same SignatureDenotes (bytes, c) x y s rest).
     inr (f.0, f.1.1, f.2 ∙ ap (pair f.0 f.1.1) (text_now f.1 rest f.3.sound f.3.agree), f.3.grows, f.3.sound, f.3.stands f.1.1 (grows_refl f.1.1) f.3.sound))
     ((function_type_exact o c).only (bytes, c) bytes y rest (grows_refl c) sound (λ z g w. refl) k)

@@ -5,7 +5,7 @@ pub mod Lists
 pub mod Grammars
 pub mod Worlds
 pub mod Typed
-pub mod Standing
+pub mod Denotation
 pub mod Laws
 pub mod Scalars
 pub mod PlainTypes

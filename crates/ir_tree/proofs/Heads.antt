@@ -9,11 +9,11 @@ use Rattle.ir_tree.specs.Ids.{ids, regions_ids, region_ids, ops_ids, first_of, f
 use Rattle.ir_tree.specs.Limits.{depth, regions_depth, region_depth, ops_depth}
 use Rattle.ir_tree.specs.Uses.{operand_uses, uses_of, regions_uses, region_uses, ops_uses}
 use Rattle.ir_tree.specs.Sites.{Frame, results, arguments, shows, in_scope, results_of, visible, operands_visible}
-use Rattle.ir_tree.specs.Seen.{seen_at, regions_seen, region_seen, ops_seen}
-use Rattle.ir_tree.specs.Scope.{operands_dominate, regions_operands_seen, region_operands_seen, ops_operands_seen}
+use Rattle.ir_tree.specs.VisibleValues.{visible_at, regions_visible, region_visible, ops_visible}
+use Rattle.ir_tree.specs.Scope.{operands_dominate, regions_operands_visible, region_operands_visible, ops_operands_visible}
 use Rattle.ir_tree.specs.Edits.{each_head, regions_each_head, region_each_head, ops_each_head, at, put_operand, put_values, change_entry, change_part}
 use Rattle.ir_tree.specs.Places.{first_id, place_of, regions_place, region_place, ops_place}
-use Rattle.ir_tree.proofs.SeenSites.{seen_visible}
+use Rattle.ir_tree.proofs.VisibleSites.{seen_visible}
 use Rattle.ir_tree.proofs.Checked.{seen_operands_visible}
 
 -- a head with the same id, name and number of results
@@ -106,24 +106,24 @@ module _ {N T A : Type 0} (f : HeadOf N T A → HeadOf N T A) (alike : (h : Head
 
   module _ (isolated : N → Bool) where
     mutual
-      head_seen : (x : ℕ) (v : Value) (b : Bool) (t : OpOf N T A) → seen_at isolated x v b (each_head f t) ≡ seen_at isolated x v b t
+      head_seen : (x : ℕ) (v : Value) (b : Bool) (t : OpOf N T A) → visible_at isolated x v b (each_head f t) ≡ visible_at isolated x v b t
       head_seen x v b (op h rs) =
-          (λ i. eqb ((alike h).id i) x && b || regions_seen isolated x v (not (isolated ((alike h).name i)) && b) ((alike h).id i) 0 (regions_each_head f rs))
-          ∙ ap (λ c. eqb h.id x && b || c) (regions_head_seen x v (not (isolated h.name) && b) h.id 0 rs)
+          (λ i. eqb ((alike h).id i) x && b || regions_visible isolated x v (not (isolated ((alike h).name i)) && b) ((alike h).id i) 0 (regions_each_head f rs))
+          ∙ ap (λ c. eqb h.id x && b || c) (regions_head_visible x v (not (isolated h.name) && b) h.id 0 rs)
 
-      regions_head_seen : (x : ℕ) (v : Value) (b : Bool) (o r : ℕ) (rs : RegionsOf N T A) → regions_seen isolated x v b o r (regions_each_head f rs) ≡ regions_seen isolated x v b o r rs
-      regions_head_seen x v b o r no_regions = refl
-      regions_head_seen x v b o r (region g rs) = λ i. region_head_seen x v b o r g i || regions_head_seen x v b o (r + 1) rs i
+      regions_head_visible : (x : ℕ) (v : Value) (b : Bool) (o r : ℕ) (rs : RegionsOf N T A) → regions_visible isolated x v b o r (regions_each_head f rs) ≡ regions_visible isolated x v b o r rs
+      regions_head_visible x v b o r no_regions = refl
+      regions_head_visible x v b o r (region g rs) = λ i. region_head_visible x v b o r g i || regions_head_visible x v b o (r + 1) rs i
 
-      region_head_seen : (x : ℕ) (v : Value) (b : Bool) (o r : ℕ) (g : RegionOf N T A) → region_seen isolated x v b o r (region_each_head f g) ≡ region_seen isolated x v b o r g
-      region_head_seen x v b o r empty = refl
-      region_head_seen x v b o r (block args os) = ops_head_seen x v (b || shows v (arguments o r (length args))) os
+      region_head_visible : (x : ℕ) (v : Value) (b : Bool) (o r : ℕ) (g : RegionOf N T A) → region_visible isolated x v b o r (region_each_head f g) ≡ region_visible isolated x v b o r g
+      region_head_visible x v b o r empty = refl
+      region_head_visible x v b o r (block args os) = ops_head_visible x v (b || shows v (arguments o r (length args))) os
 
-      ops_head_seen : (x : ℕ) (v : Value) (b : Bool) (os : OpsOf N T A) → ops_seen isolated x v b (ops_each_head f os) ≡ ops_seen isolated x v b os
-      ops_head_seen x v b no_ops = refl
-      ops_head_seen x v b (next o os) =
-          (λ i. head_seen x v b o i || ops_seen isolated x v (b || shows v (same_results o i)) (ops_each_head f os))
-          ∙ ap (λ c. seen_at isolated x v b o || c) (ops_head_seen x v (b || shows v (results_of o)) os)
+      ops_head_visible : (x : ℕ) (v : Value) (b : Bool) (os : OpsOf N T A) → ops_visible isolated x v b (ops_each_head f os) ≡ ops_visible isolated x v b os
+      ops_head_visible x v b no_ops = refl
+      ops_head_visible x v b (next o os) =
+          (λ i. head_seen x v b o i || ops_visible isolated x v (b || shows v (same_results o i)) (ops_each_head f os))
+          ∙ ap (λ c. visible_at isolated x v b o || c) (ops_head_visible x v (b || shows v (results_of o)) os)
 
     pub head_visible : (t : OpOf N T A) (x : ℕ) (v : Value) → visible isolated (each_head f t) x v ≡ visible isolated t x v
     head_visible t x v = sym (seen_visible isolated (each_head f t) x v) ∙ head_seen x v false t ∙ seen_visible isolated t x v
@@ -150,21 +150,21 @@ module _ {N T A : Type 0} (f : HeadOf N T A → HeadOf N T A) (alike : (h : Head
       mutual
         head_operands : (s : List Frame) (t : OpOf N T A) → operands_dominate isolated s (each_head f t) ≡ operands_dominate isolated s t
         head_operands s (op h rs) =
-            (λ i. list_all (in_scope s) (same h i) && regions_operands_seen isolated (cond (isolated ((alike h).name i)) [] s) ((alike h).id i) 0 (regions_each_head f rs))
+            (λ i. list_all (in_scope s) (same h i) && regions_operands_visible isolated (cond (isolated ((alike h).name i)) [] s) ((alike h).id i) 0 (regions_each_head f rs))
             ∙ ap (λ c. list_all (in_scope s) h.operands && c) (regions_head_operands (cond (isolated h.name) [] s) h.id 0 rs)
 
-        regions_head_operands : (s : List Frame) (o r : ℕ) (rs : RegionsOf N T A) → regions_operands_seen isolated s o r (regions_each_head f rs) ≡ regions_operands_seen isolated s o r rs
+        regions_head_operands : (s : List Frame) (o r : ℕ) (rs : RegionsOf N T A) → regions_operands_visible isolated s o r (regions_each_head f rs) ≡ regions_operands_visible isolated s o r rs
         regions_head_operands s o r no_regions = refl
         regions_head_operands s o r (region g rs) = λ i. region_head_operands s o r g i && regions_head_operands s o (r + 1) rs i
 
-        region_head_operands : (s : List Frame) (o r : ℕ) (g : RegionOf N T A) → region_operands_seen isolated s o r (region_each_head f g) ≡ region_operands_seen isolated s o r g
+        region_head_operands : (s : List Frame) (o r : ℕ) (g : RegionOf N T A) → region_operands_visible isolated s o r (region_each_head f g) ≡ region_operands_visible isolated s o r g
         region_head_operands s o r empty = refl
         region_head_operands s o r (block args os) = ops_head_operands (s ++ arguments o r (length args) ∷ []) os
 
-        ops_head_operands : (s : List Frame) (os : OpsOf N T A) → ops_operands_seen isolated s (ops_each_head f os) ≡ ops_operands_seen isolated s os
+        ops_head_operands : (s : List Frame) (os : OpsOf N T A) → ops_operands_visible isolated s (ops_each_head f os) ≡ ops_operands_visible isolated s os
         ops_head_operands s no_ops = refl
         ops_head_operands s (next o os) =
-            (λ i. head_operands s o i && ops_operands_seen isolated (s ++ same_results o i ∷ []) (ops_each_head f os))
+            (λ i. head_operands s o i && ops_operands_visible isolated (s ++ same_results o i ∷ []) (ops_each_head f os))
             ∙ ap (λ c. operands_dominate isolated s o && c) (ops_head_operands (s ++ results_of o ∷ []) os)
 
       pub head_operands_visible : (t : OpOf N T A) → operands_visible isolated (each_head f t) ≡ operands_visible isolated t

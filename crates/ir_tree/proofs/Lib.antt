@@ -17,7 +17,7 @@ pub mod Meanings
 pub mod Moves
 pub mod Replaced
 pub mod Returns
-pub mod SeenSites
+pub mod VisibleSites
 pub mod SoundEdits
 pub mod Steps
 pub mod Tallies

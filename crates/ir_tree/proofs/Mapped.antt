@@ -9,11 +9,11 @@ use Rattle.ir_tree.specs.Ids.{ids, regions_ids, region_ids, ops_ids, first_of, f
 use Rattle.ir_tree.specs.Limits.{depth, regions_depth, region_depth, ops_depth, every, regions_every, region_every, ops_every, most_ops, most_items, most_regions, items_fit, arguments_pass, all_arguments_pass, op_fits, counts_fit}
 use Rattle.ir_tree.specs.Uses.{operand_uses, uses_of, regions_uses, region_uses, ops_uses}
 use Rattle.ir_tree.specs.Sites.{Frame, results, arguments, shows, in_scope, results_of, visible, operands_visible}
-use Rattle.ir_tree.specs.Seen.{seen_at, regions_seen, region_seen, ops_seen}
-use Rattle.ir_tree.specs.Scope.{operands_dominate, regions_operands_seen, region_operands_seen, ops_operands_seen}
+use Rattle.ir_tree.specs.VisibleValues.{visible_at, regions_visible, region_visible, ops_visible}
+use Rattle.ir_tree.specs.Scope.{operands_dominate, regions_operands_visible, region_operands_visible, ops_operands_visible}
 use Rattle.ir_tree.specs.Places.{first_id, place_of, regions_place, region_place, ops_place}
 use Rattle.ir_tree.specs.Maps.{map_entry, map_tree, map_regions, map_region, map_ops}
-use Rattle.ir_tree.proofs.SeenSites.{seen_visible}
+use Rattle.ir_tree.proofs.VisibleSites.{seen_visible}
 use Rattle.ir_tree.proofs.Checked.{seen_operands_visible}
 
 module _ {N T A M U B : Type 0} (f : N → M) (g : T → U) (h : A → B) where
@@ -168,41 +168,41 @@ module _ {N T A M U B : Type 0} (f : N → M) (g : T → U) (h : A → B) where
     isolated_here n = isolated (f n)
 
     mutual
-      map_seen : (y : ℕ) (v : Value) (b : Bool) (t : OpOf N T A) → seen_at isolated y v b (map_tree f g h t) ≡ seen_at (λ n. isolated (f n)) y v b t
-      map_seen y v b (op x rs) = ap (λ c. eqb x.id y && b || c) (map_regions_seen y v (not (isolated (f x.name)) && b) x.id 0 rs)
+      map_seen : (y : ℕ) (v : Value) (b : Bool) (t : OpOf N T A) → visible_at isolated y v b (map_tree f g h t) ≡ visible_at (λ n. isolated (f n)) y v b t
+      map_seen y v b (op x rs) = ap (λ c. eqb x.id y && b || c) (map_regions_visible y v (not (isolated (f x.name)) && b) x.id 0 rs)
 
-      map_regions_seen : (y : ℕ) (v : Value) (b : Bool) (o r : ℕ) (rs : RegionsOf N T A) → regions_seen isolated y v b o r (map_regions f g h rs) ≡ regions_seen (λ n. isolated (f n)) y v b o r rs
-      map_regions_seen y v b o r no_regions = refl
-      map_regions_seen y v b o r (region g' rs) = λ i. map_region_seen y v b o r g' i || map_regions_seen y v b o (r + 1) rs i
+      map_regions_visible : (y : ℕ) (v : Value) (b : Bool) (o r : ℕ) (rs : RegionsOf N T A) → regions_visible isolated y v b o r (map_regions f g h rs) ≡ regions_visible (λ n. isolated (f n)) y v b o r rs
+      map_regions_visible y v b o r no_regions = refl
+      map_regions_visible y v b o r (region g' rs) = λ i. map_region_visible y v b o r g' i || map_regions_visible y v b o (r + 1) rs i
 
-      map_region_seen : (y : ℕ) (v : Value) (b : Bool) (o r : ℕ) (g' : RegionOf N T A) → region_seen isolated y v b o r (map_region f g h g') ≡ region_seen (λ n. isolated (f n)) y v b o r g'
-      map_region_seen y v b o r empty = refl
-      map_region_seen y v b o r (block args os) =
-          ap (λ n. ops_seen isolated y v (b || shows v (arguments o r n)) (map_ops f g h os)) (length-map args g) ∙ map_ops_seen y v (b || shows v (arguments o r (length args))) os
+      map_region_visible : (y : ℕ) (v : Value) (b : Bool) (o r : ℕ) (g' : RegionOf N T A) → region_visible isolated y v b o r (map_region f g h g') ≡ region_visible (λ n. isolated (f n)) y v b o r g'
+      map_region_visible y v b o r empty = refl
+      map_region_visible y v b o r (block args os) =
+          ap (λ n. ops_visible isolated y v (b || shows v (arguments o r n)) (map_ops f g h os)) (length-map args g) ∙ map_ops_visible y v (b || shows v (arguments o r (length args))) os
 
-      map_ops_seen : (y : ℕ) (v : Value) (b : Bool) (os : OpsOf N T A) → ops_seen isolated y v b (map_ops f g h os) ≡ ops_seen (λ n. isolated (f n)) y v b os
-      map_ops_seen y v b no_ops = refl
-      map_ops_seen y v b (next o os) =
-          (λ i. map_seen y v b o i || ops_seen isolated y v (b || shows v (map_results o i)) (map_ops f g h os))
-          ∙ ap (λ c. seen_at (λ n. isolated (f n)) y v b o || c) (map_ops_seen y v (b || shows v (results_of o)) os)
+      map_ops_visible : (y : ℕ) (v : Value) (b : Bool) (os : OpsOf N T A) → ops_visible isolated y v b (map_ops f g h os) ≡ ops_visible (λ n. isolated (f n)) y v b os
+      map_ops_visible y v b no_ops = refl
+      map_ops_visible y v b (next o os) =
+          (λ i. map_seen y v b o i || ops_visible isolated y v (b || shows v (map_results o i)) (map_ops f g h os))
+          ∙ ap (λ c. visible_at (λ n. isolated (f n)) y v b o || c) (map_ops_visible y v (b || shows v (results_of o)) os)
 
     mutual
       map_operands : (s : List Frame) (t : OpOf N T A) → operands_dominate isolated s (map_tree f g h t) ≡ operands_dominate (λ n. isolated (f n)) s t
       map_operands s (op x rs) = ap (λ c. list_all (in_scope s) x.operands && c) (map_regions_operands (cond (isolated (f x.name)) [] s) x.id 0 rs)
 
-      map_regions_operands : (s : List Frame) (o r : ℕ) (rs : RegionsOf N T A) → regions_operands_seen isolated s o r (map_regions f g h rs) ≡ regions_operands_seen (λ n. isolated (f n)) s o r rs
+      map_regions_operands : (s : List Frame) (o r : ℕ) (rs : RegionsOf N T A) → regions_operands_visible isolated s o r (map_regions f g h rs) ≡ regions_operands_visible (λ n. isolated (f n)) s o r rs
       map_regions_operands s o r no_regions = refl
       map_regions_operands s o r (region g' rs) = λ i. map_region_operands s o r g' i && map_regions_operands s o (r + 1) rs i
 
-      map_region_operands : (s : List Frame) (o r : ℕ) (g' : RegionOf N T A) → region_operands_seen isolated s o r (map_region f g h g') ≡ region_operands_seen (λ n. isolated (f n)) s o r g'
+      map_region_operands : (s : List Frame) (o r : ℕ) (g' : RegionOf N T A) → region_operands_visible isolated s o r (map_region f g h g') ≡ region_operands_visible (λ n. isolated (f n)) s o r g'
       map_region_operands s o r empty = refl
       map_region_operands s o r (block args os) =
-          ap (λ n. ops_operands_seen isolated (s ++ arguments o r n ∷ []) (map_ops f g h os)) (length-map args g) ∙ map_ops_operands (s ++ arguments o r (length args) ∷ []) os
+          ap (λ n. ops_operands_visible isolated (s ++ arguments o r n ∷ []) (map_ops f g h os)) (length-map args g) ∙ map_ops_operands (s ++ arguments o r (length args) ∷ []) os
 
-      map_ops_operands : (s : List Frame) (os : OpsOf N T A) → ops_operands_seen isolated s (map_ops f g h os) ≡ ops_operands_seen (λ n. isolated (f n)) s os
+      map_ops_operands : (s : List Frame) (os : OpsOf N T A) → ops_operands_visible isolated s (map_ops f g h os) ≡ ops_operands_visible (λ n. isolated (f n)) s os
       map_ops_operands s no_ops = refl
       map_ops_operands s (next o os) =
-          (λ i. map_operands s o i && ops_operands_seen isolated (s ++ map_results o i ∷ []) (map_ops f g h os))
+          (λ i. map_operands s o i && ops_operands_visible isolated (s ++ map_results o i ∷ []) (map_ops f g h os))
           ∙ ap (λ c. operands_dominate (λ n. isolated (f n)) s o && c) (map_ops_operands (s ++ results_of o ∷ []) os)
 
     pub map_visible : (t : OpOf N T A) (y : ℕ) (v : Value) → visible isolated (map_tree f g h t) y v ≡ visible (λ n. isolated (f n)) t y v

@@ -4,7 +4,7 @@ pub mod View
 pub mod Falls
 pub mod Ids
 pub mod Sites
-pub mod Seen
+pub mod VisibleValues
 pub mod Limits
 pub mod Uses
 pub mod Numbered

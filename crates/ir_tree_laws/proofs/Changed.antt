@@ -14,7 +14,7 @@ use Rattle.ir_tree.proofs.Replaced.{same_value_true, same_value_refl}
 use Rattle.ir_tree_laws.specs.Values.{region_at, has_value}
 use Rattle.ir_tree_laws.specs.Reads.{is_among}
 use Rattle.ir_tree_laws.specs.Reasons.{is_in_list, has_place, with_id, hold_none, holds_none, leaves, unused, leads_inside, put_reason, take_reason, shift_reason}
-use Rattle.ir_tree_laws.specs.Stands.{StepOf, StandOf, stand_id, stands, dominated_by, gone_in, gather, left_step, left_stand, dropping, place_in}
+use Rattle.ir_tree_laws.specs.Stands.{StepOf, OpWithPathOf, op_with_path_id, stands, dominated_by, gone_in, gather, left_step, left_stand, dropping, place_in}
 use Rattle.ir_tree_laws.specs.Changes.{HoldNone, NextAfter, Takes, Shifts}
 use Rattle.ir_tree_laws.specs.Restores.{MayRestore, MayRetract}
 use Rattle.ir_tree_laws.specs.Members.{In}
@@ -78,17 +78,17 @@ module _ {N T A : Type 0} where
   pub unused_uses : (x : ℕ) (t : OpOf N T A) → unused x t ≡ true → (v : Value) → (owner_of v).0 ≡ x → uses_of v t ≡ []
   unused_uses x t e v own =
       sym (stands_uses v [] t)
-      ∙ gather_none (λ (s : StandOf N T A). operand_uses v (stand_id s) 0 (head s.here).operands) (stands [] t)
-      (λ s h. no_uses v x own (stand_id s) 0 (head s.here).operands (all_each (λ (u : StandOf N T A). leaves x (head u.here)) (stands [] t) (stands_every (λ o. leaves x (head o)) [] t ∙ e) s h))
+      ∙ gather_none (λ (s : OpWithPathOf N T A). operand_uses v (op_with_path_id s) 0 (head s.here).operands) (stands [] t)
+      (λ s h. no_uses v x own (op_with_path_id s) 0 (head s.here).operands (all_each (λ (u : OpWithPathOf N T A). leaves x (head u.here)) (stands [] t) (stands_every (λ o. leaves x (head o)) [] t ∙ e) s h))
 
   pub uses_unused : (x : ℕ) (t : OpOf N T A) → ((v : Value) → (owner_of v).0 ≡ x → uses_of v t ≡ []) → unused x t ≡ true
   uses_unused x t f =
       sym (stands_every (λ o. leaves x (head o)) [] t)
-      ∙ each_all (λ (u : StandOf N T A). leaves x (head u.here)) (stands [] t) (λ s h. each_all (λ v. not (eqb (owner_of v).0 x)) (head s.here).operands (λ v i. elim (bool_cases (eqb (owner_of v).0 x)) [
+      ∙ each_all (λ (u : OpWithPathOf N T A). leaves x (head u.here)) (stands [] t) (λ s h. each_all (λ v. not (eqb (owner_of v).0 x)) (head s.here).operands (λ v i. elim (bool_cases (eqb (owner_of v).0 x)) [
         | inr k ↦ ap not k
-        | inl k ↦ (let n = used_here v (stand_id s) 0 (head s.here).operands v i (same_value_refl v) in
-            let j : In (stand_id s, n.0) (uses_of v t) = subst (λ l. In (stand_id s, n.0) l) (stands_uses v [] t) (in_gather (λ (u : StandOf N T A). operand_uses v (stand_id u) 0 (head u.here).operands) (stand_id s, n.0) s (stands [] t) h n.1) in
-            absurd (subst (λ l. In (stand_id s, n.0) l) (f v (eqb-true (owner_of v).0 x k)) j))
+        | inl k ↦ (let n = used_here v (op_with_path_id s) 0 (head s.here).operands v i (same_value_refl v) in
+            let j : In (op_with_path_id s, n.0) (uses_of v t) = subst (λ l. In (op_with_path_id s, n.0) l) (stands_uses v [] t) (in_gather (λ (u : OpWithPathOf N T A). operand_uses v (op_with_path_id u) 0 (head u.here).operands) (op_with_path_id s, n.0) s (stands [] t) h n.1) in
+            absurd (subst (λ l. In (op_with_path_id s, n.0) l) (f v (eqb-true (owner_of v).0 x k)) j))
       ]))
 
   -- a take
@@ -150,7 +150,7 @@ module _ {N T A : Type 0} where
             let same : Some u ≡ Some q = sym (ap (λ z. find z (put place u m.tree)) (sym id) ∙ put_found place u m.tree may) ∙ f in
             let one : u ≡ q = cc in
             ap (λ (z : OpOf N T A). hold_none (regions z)) (sym one) ∙ own_bare m.next o leaf);
-        unused = unused_uses m.next (put place u m.tree) (sym (stands_every (λ q. leaves m.next (head q)) [] (put place u m.tree)) ∙ each_all (λ (s : StandOf N T A). leaves m.next (head s.here)) (stands [] (put place u m.tree))
+        unused = unused_uses m.next (put place u m.tree) (sym (stands_every (λ q. leaves m.next (head q)) [] (put place u m.tree)) ∙ each_all (λ (s : OpWithPathOf N T A). leaves m.next (head s.here)) (stands [] (put place u m.tree))
             (λ s h. each_all (λ v. not (eqb (owner_of v).0 m.next)) (head s.here).operands (λ v i. elim (bool_cases (eqb (owner_of v).0 m.next)) [
               | inr k ↦ ap not k
               | inl k ↦ (let seen = all_each (dominated_by isolated s.path) (head s.here).operands (g.dominated_by_own s h) v i in
@@ -164,7 +164,7 @@ module _ {N T A : Type 0} where
                         omega (arith, lt, q, own))
                     | inr c ↦ (let l = landed place u m.tree may in
                         let p = stand_present (l.step_in ∷ l.path) u s c in
-                        let same : m.next ≡ stand_id s = leaf_one m.next o leaf (stand_id s) p in
+                        let same : m.next ≡ op_with_path_id s = leaf_one m.next o leaf (op_with_path_id s) p in
                         not_own isolated (put place u m.tree) after.distinct s h v seen (own ∙ same))
                   ]))
             ])));
@@ -213,15 +213,15 @@ module _ {N T A : Type 0} where
   -- undoing a take
   longer : (b : List (StepOf N T A)) (t : OpOf N T A) (path : List (StepOf N T A)) (o : OpOf N T A) → In (stand o path) (stands b t) → length b ≤ length path
   longer b t [] o h = elim (has_around b t (stand o []) h) [
-    | inl k ↦ (let l = ap (λ (z : StandOf N T A). length z.path) k in omega (arith, l))
+    | inl k ↦ (let l = ap (λ (z : OpWithPathOf N T A). length z.path) k in omega (arith, l))
     | inr w ↦ (let bad : [] ≡ w.0 ∷ w.1 = w.2 in absurd cc)
   ]
   longer b t (a ∷ path) o h = elim (has_around b t (stand o (a ∷ path)) h) [
-    | inl k ↦ (let l = ap (λ (z : StandOf N T A). length z.path) k in omega (arith, l))
+    | inl k ↦ (let l = ap (λ (z : OpWithPathOf N T A). length z.path) k in omega (arith, l))
     | inr w ↦ (let same : a ∷ path ≡ w.0 ∷ w.1 = w.2 in
         let first : w.0 ≡ a = cc in
         let later : w.1 ≡ path = cc in
-        let m : In (stand a.parent path) (stands b t) = subst (λ (z : StandOf N T A). In z (stands b t)) (λ i. stand ((first i).parent) (later i)) w.4 in
+        let m : In (stand a.parent path) (stands b t) = subst (λ (z : OpWithPathOf N T A). In z (stands b t)) (λ i. stand ((first i).parent) (later i)) w.4 in
         let l = longer b t path a.parent m in
         omega (arith, l))
   ]
@@ -232,7 +232,7 @@ module _ {N T A : Type 0} where
     | inr k ↦ k
     | inl k ↦ (let w = gone_within x t q a.parent (around_there t o a q h).1 k in
         let same = same_stand t d (stand w.here (w.step_in ∷ w.path)) (stand o (a ∷ q)) w.there h (w.id ∙ sym id) in
-        let m : In (stand a.parent q) (stands (a ∷ q) o) = subst (λ (z : StandOf N T A). In (stand a.parent q) (stands z.path z.here)) same w.inner in
+        let m : In (stand a.parent q) (stands (a ∷ q) o) = subst (λ (z : OpWithPathOf N T A). In (stand a.parent q) (stands z.path z.here)) same w.inner in
         let l = longer (a ∷ q) o q a.parent m in
         absurd (omega (arith, l)))
   ]
@@ -269,7 +269,7 @@ module _ {N T A : Type 0} where
           let list : region_at a.region (regions a.parent) ≡ Some (block a.args (joined_ops (a.preceding ++ o ∷ []) (next p os))) = shape t o a q h ∙ ap (λ (z : OpsOf N T A). Some (block a.args (joined_ops a.preceding (next o z)))) e ∙ ap (λ z. Some (block a.args z)) (sym (joined_more a.preceding o (next p os))) in
           let m : In (stand p (c ∷ q)) (stands [] t) = within a.parent q (stand p (c ∷ q)) (child a.parent q a.region a.args (joined_ops (a.preceding ++ o ∷ []) (next p os)) (stand p (c ∷ q)) list (ops_child a.parent q a.region a.args [] (a.preceding ++ o ∷ []) p os)) [] t (around_there t o a q h).1 in
           let same = same_stand t d (stand p (c ∷ q)) (stand o (a ∷ q)) m h (eqb-true (head p).id x k ∙ sym id) in
-          let paths : c ∷ q ≡ a ∷ q = ap (λ (z : StandOf N T A). z.path) same in
+          let paths : c ∷ q ≡ a ∷ q = ap (λ (z : OpWithPathOf N T A). z.path) same in
           let steps : c ≡ a = cc in
           let l = ap (λ (z : StepOf N T A). length z.preceding) steps in
           let n = length-append a.preceding (o ∷ []) in
@@ -322,7 +322,7 @@ module _ {N T A : Type 0} where
       same_next false f h = h
       same_next true f h = absurd (true≢false f)
 
-      go : (s : StandOf N T A) → In s (stands [] n.tree) → stand_id s ≡ x → (p : List (StepOf N T A)) → s.path ≡ p → place_in s.path ≡ Some place → MayRestore x place fresh o m
+      go : (s : OpWithPathOf N T A) → In s (stands [] n.tree) → op_with_path_id s ≡ x → (p : List (StepOf N T A)) → s.path ≡ p → place_in s.path ≡ Some place → MayRestore x place fresh o m
       go s h id [] p e = (let bad : None ≡ Some place = sym (ap place_in p) ∙ e in absurd cc)
       go s h id (a ∷ q) p e =
           let there : In (stand s.here (a ∷ q)) (stands [] n.tree) = subst (λ l. In (stand s.here l) (stands [] n.tree)) p h in

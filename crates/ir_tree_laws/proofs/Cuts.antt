@@ -12,7 +12,7 @@ use Rattle.ir_tree_laws.specs.Members.{In}
 use Rattle.ir_tree_laws.specs.Preorder.{first_ids, IsCutBefore, IsCutAt}
 use Rattle.ir_tree_laws.specs.Restores.{MayPut}
 use Rattle.ir_tree_laws.specs.Values.{region_at}
-use Rattle.ir_tree_laws.specs.Stands.{StepOf, StandOf, stand_id, stands, dropping, left_stand}
+use Rattle.ir_tree_laws.specs.Stands.{StepOf, OpWithPathOf, op_with_path_id, stands, dropping, left_stand}
 use Rattle.ir_tree_laws.proofs.Listed.{neither}
 use Rattle.ir_tree_laws.proofs.Members.{stand, has_around, joined_ops, stand_found}
 use Rattle.ir_tree_laws.proofs.Around.{around_there, stand_present}
@@ -100,7 +100,7 @@ module _ {N T A : Type 0} where
 
   pub preorder : (t o : OpOf N T A) (path : List (StepOf N T A)) → In (stand o path) (stands [] t) → ids t ≡ before path ++ (ids o ++ trailing path)
   preorder t o [] h = elim (has_around [] t (stand o []) h) [
-    | inl k ↦ ap (λ (z : StandOf N T A). ids z.here) (sym k) ∙ sym (append-nil (ids o))
+    | inl k ↦ ap (λ (z : OpWithPathOf N T A). ids z.here) (sym k) ∙ sym (append-nil (ids o))
     | inr w ↦ (let bad : [] ≡ w.0 ∷ w.1 = w.2 in absurd cc)
   ]
   preorder t o (a ∷ q) h =
@@ -155,17 +155,17 @@ module _ {N T A : Type 0} (place : Place) (o t : OpOf N T A) (may : MayPut place
   pub put_part : Parted (head o).id ((landed place o t may).step_in ∷ (landed place o t may).path) o (put place o t)
   put_part = part after distinct o a here.path here.there
 
-  pub put_left_ids : ids t ≡ map (λ (z : StandOf N T A). stand_id z) put_part.preceding ++ map (λ (z : StandOf N T A). stand_id z) put_part.back
+  pub put_left_ids : ids t ≡ map (λ (z : OpWithPathOf N T A). op_with_path_id z) put_part.preceding ++ map (λ (z : OpWithPathOf N T A). op_with_path_id z) put_part.back
   put_left_ids = ap ids (sym (put_back place o t may)) ∙ left_ids x path o after put_part
 
-  pub put_ids : ids (put place o t) ≡ map (λ (z : StandOf N T A). stand_id z) put_part.preceding ++ (ids o ++ map (λ (z : StandOf N T A). stand_id z) put_part.back)
+  pub put_ids : ids (put place o t) ≡ map (λ (z : OpWithPathOf N T A). op_with_path_id z) put_part.preceding ++ (ids o ++ map (λ (z : OpWithPathOf N T A). op_with_path_id z) put_part.back)
   put_ids = parted_ids x path o after put_part
 
   abbrev preceding : List ℕ
-  preceding = map (λ (z : StandOf N T A). stand_id z) put_part.preceding
+  preceding = map (λ (z : OpWithPathOf N T A). op_with_path_id z) put_part.preceding
 
   abbrev back : List ℕ
-  back = map (λ (z : StandOf N T A). stand_id z) put_part.back
+  back = map (λ (z : OpWithPathOf N T A). op_with_path_id z) put_part.back
 
   own : (o : OpOf N T A) (l : List ℕ) → ids o ++ l ≡ (head o).id ∷ (regions_ids (regions o) ++ l)
   own (op h rs) l = refl
@@ -217,7 +217,7 @@ module _ {N T A : Type 0} (place : Place) (o t : OpOf N T A) (may : MayPut place
       ∙ ap (λ n. first_ids n (regions parent)) (sym more))
 
   -- the inserted operation is at the position of the place
-  pub put_cut : IsCutAt place t (map (λ (z : StandOf N T A). stand_id z) put_part.preceding) (map (λ (z : StandOf N T A). stand_id z) put_part.back)
+  pub put_cut : IsCutAt place t (map (λ (z : OpWithPathOf N T A). op_with_path_id z) put_part.preceding) (map (λ (z : OpWithPathOf N T A). op_with_path_id z) put_part.back)
   put_cut = go place.before a.rest refl here.before
     where
       go : (b : Option ℕ) (os : OpsOf N T A) → a.rest ≡ os → first_id a.rest ≡ b → IsCutBefore b place t preceding back

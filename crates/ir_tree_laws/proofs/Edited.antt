@@ -15,7 +15,7 @@ use Rattle.ir_tree_laws.specs.Members.{In}
 use Rattle.ir_tree_laws.specs.Preorder.{IsCutAt}
 use Rattle.ir_tree_laws.specs.Reads.{around}
 use Rattle.ir_tree_laws.specs.Restores.{MayPut}
-use Rattle.ir_tree_laws.specs.Stands.{StepOf, StandOf, stand_id, stands, stand_of, gather, is_gone, left_step, left_stand, dropping, place_in, table_in}
+use Rattle.ir_tree_laws.specs.Stands.{StepOf, OpWithPathOf, op_with_path_id, stands, op_with_path, gather, is_gone, left_step, left_stand, dropping, place_in, table_in}
 use Rattle.ir_tree_laws.specs.Tables.{table_of}
 use Rattle.ir_tree_laws.proofs.Readings.{stands_table}
 use Rattle.ir_tree_laws.proofs.Members.{stand, stand_of_member, stand_found}
@@ -43,7 +43,7 @@ module _ {N T A : Type 0} (place : Place) (o t : OpOf N T A) (may : MayPut place
   pub put_order : (preceding back : List ℕ) × (ids t ≡ preceding ++ back) × (ids (put place o t) ≡ preceding ++ (ids o ++ back)) × IsCutAt place t preceding back
   put_order =
       let w = put_part place o t may in
-      (map (λ (z : StandOf N T A). stand_id z) w.preceding, map (λ (z : StandOf N T A). stand_id z) w.back, put_left_ids place o t may, put_ids place o t may, put_cut place o t may)
+      (map (λ (z : OpWithPathOf N T A). op_with_path_id z) w.preceding, map (λ (z : OpWithPathOf N T A). op_with_path_id z) w.back, put_left_ids place o t may, put_ids place o t may, put_cut place o t may)
 
   pub put_op_count : op_count (put place o t) ≡ op_count t + op_count o
   put_op_count =
@@ -54,8 +54,8 @@ module _ {N T A : Type 0} (place : Place) (o t : OpOf N T A) (may : MayPut place
   put_uses v =
       let l = landed place o t may in
       let w = put_part place o t may in (
-        gather (λ s. operand_uses v (stand_id s) 0 (head s.here).operands) w.preceding,
-        gather (λ s. operand_uses v (stand_id s) 0 (head s.here).operands) w.back,
+        gather (λ s. operand_uses v (op_with_path_id s) 0 (head s.here).operands) w.preceding,
+        gather (λ s. operand_uses v (op_with_path_id s) 0 (head s.here).operands) w.back,
         ap (uses_of v) (sym (put_back place o t may)) ∙ left_uses_of (head o).id (l.step_in ∷ l.path) o (put place o t) w v,
         parted_uses (head o).id (l.step_in ∷ l.path) o (put place o t) w v,
       )
@@ -72,14 +72,14 @@ module _ {N T A : Type 0} (x : ℕ) (t o : OpOf N T A) (d : HasDistinctIds t) (f
   taken_inside = (
     inner.step_in ∷ inner.path,
     sym (inner_place x t o d inner),
-    sym (stands_around x [] t) ∙ ap (option_map (λ (s : StandOf N T A). length s.path)) (ap (λ z. stand_of z t) (sym inner.id) ∙ stand_of_member t d (stand o (inner.step_in ∷ inner.path)) inner.there),
+    sym (stands_around x [] t) ∙ ap (option_map (λ (s : OpWithPathOf N T A). length s.path)) (ap (λ z. op_with_path z t) (sym inner.id) ∙ stand_of_member t d (stand o (inner.step_in ∷ inner.path)) inner.there),
     taken_part.gone,
   )
 
   pub taken_order : (preceding back : List ℕ) × (ids t ≡ preceding ++ (ids o ++ back)) × (ids (without x t) ≡ preceding ++ back)
   taken_order =
       let w = taken_part in
-      (map (λ (z : StandOf N T A). stand_id z) w.preceding, map (λ (z : StandOf N T A). stand_id z) w.back, parted_ids x (inner.step_in ∷ inner.path) o t w, left_ids x (inner.step_in ∷ inner.path) o t w)
+      (map (λ (z : OpWithPathOf N T A). op_with_path_id z) w.preceding, map (λ (z : OpWithPathOf N T A). op_with_path_id z) w.back, parted_ids x (inner.step_in ∷ inner.path) o t w, left_ids x (inner.step_in ∷ inner.path) o t w)
 
   pub taken_op_count : op_count t ≡ op_count (without x t) + op_count o
   taken_op_count = parted_count x (inner.step_in ∷ inner.path) o t taken_part
@@ -87,8 +87,8 @@ module _ {N T A : Type 0} (x : ℕ) (t o : OpOf N T A) (d : HasDistinctIds t) (f
   pub taken_uses : (v : Value) → (preceding back : List (ℕ × ℕ)) × (uses_of v t ≡ preceding ++ (uses_of v o ++ back)) × (uses_of v (without x t) ≡ preceding ++ back)
   taken_uses v =
       let w = taken_part in (
-        gather (λ s. operand_uses v (stand_id s) 0 (head s.here).operands) w.preceding,
-        gather (λ s. operand_uses v (stand_id s) 0 (head s.here).operands) w.back,
+        gather (λ s. operand_uses v (op_with_path_id s) 0 (head s.here).operands) w.preceding,
+        gather (λ s. operand_uses v (op_with_path_id s) 0 (head s.here).operands) w.back,
         parted_uses x (inner.step_in ∷ inner.path) o t w v,
         left_uses_of x (inner.step_in ∷ inner.path) o t w v,
       )
@@ -96,24 +96,24 @@ module _ {N T A : Type 0} (x : ℕ) (t o : OpOf N T A) (d : HasDistinctIds t) (f
 module _ {N T A : Type 0} (x : ℕ) (t : OpOf N T A) (d : HasDistinctIds t) (y : ℕ) (there : has_id y (without x t) ≡ true) where
   -- an operation that remains, with its old path
   pub record Stayed : Type 0 where
-    pub was : StandOf N T A
+    pub was : OpWithPathOf N T A
     pub old : In was (stands [] t)
-    pub id : stand_id was ≡ y
+    pub id : op_with_path_id was ≡ y
     pub new : In (left_stand x was) (stands [] (without x t))
-    pub same : stand_id (left_stand x was) ≡ y
+    pub same : op_with_path_id (left_stand x was) ≡ y
 
   pub stayed : Stayed
   stayed =
       let u = present_stand [] (without x t) y there in
       let m = member_left x t u.0 u.1 in
-      let same : stand_id (left_stand x m.0) ≡ y = ap (λ (z : StandOf N T A). stand_id z) (sym m.3) ∙ u.2 in
-      record { was = m.0; old = m.1; id = ap (λ (h : HeadOf N T A). h.id) (sym (same_head x (dropping x) m.0.here)) ∙ same; new = subst (λ (z : StandOf N T A). In z (stands [] (without x t))) m.3 u.1; same = same }
+      let same : op_with_path_id (left_stand x m.0) ≡ y = ap (λ (z : OpWithPathOf N T A). op_with_path_id z) (sym m.3) ∙ u.2 in
+      record { was = m.0; old = m.1; id = ap (λ (h : HeadOf N T A). h.id) (sym (same_head x (dropping x) m.0.here)) ∙ same; new = subst (λ (z : OpWithPathOf N T A). In z (stands [] (without x t))) m.3 u.1; same = same }
 
-  stand_was : stand_of y t ≡ Some stayed.was
-  stand_was = ap (λ z. stand_of z t) (sym stayed.id) ∙ stand_of_member t d stayed.was stayed.old
+  stand_was : op_with_path y t ≡ Some stayed.was
+  stand_was = ap (λ z. op_with_path z t) (sym stayed.id) ∙ stand_of_member t d stayed.was stayed.old
 
-  stand_is : stand_of y (without x t) ≡ Some (left_stand x stayed.was)
-  stand_is = ap (λ z. stand_of z (without x t)) (sym stayed.same) ∙ stand_of_member (without x t) (left_distinct x t d) (left_stand x stayed.was) stayed.new
+  stand_is : op_with_path y (without x t) ≡ Some (left_stand x stayed.was)
+  stand_is = ap (λ z. op_with_path z (without x t)) (sym stayed.same) ∙ stand_of_member (without x t) (left_distinct x t d) (left_stand x stayed.was) stayed.new
 
   pub head_stays : option_map head (find y (without x t)) ≡ option_map head (find y t)
   head_stays =
@@ -125,9 +125,9 @@ module _ {N T A : Type 0} (x : ℕ) (t : OpOf N T A) (d : HasDistinctIds t) (y :
   pub around_stays : around y (without x t) ≡ around y t
   around_stays =
       sym (stands_around y [] (without x t))
-      ∙ ap (option_map (λ (s : StandOf N T A). length s.path)) stand_is
+      ∙ ap (option_map (λ (s : OpWithPathOf N T A). length s.path)) stand_is
       ∙ ap Some (length-map stayed.was.path (left_step x))
-      ∙ sym (sym (stands_around y [] t) ∙ ap (option_map (λ (s : StandOf N T A). length s.path)) stand_was)
+      ∙ sym (sym (stands_around y [] t) ∙ ap (option_map (λ (s : OpWithPathOf N T A). length s.path)) stand_was)
 
   table_stays_in : (is_table : N → Bool) (path : List (StepOf N T A)) → table_in is_table (map (left_step x) path) ≡ table_in is_table path
   table_stays_in is_table [] = refl
@@ -136,9 +136,9 @@ module _ {N T A : Type 0} (x : ℕ) (t : OpOf N T A) (d : HasDistinctIds t) (y :
   pub table_stays : (is_table : N → Bool) → table_of is_table y (without x t) ≡ table_of is_table y t
   table_stays is_table =
       sym (stands_table is_table y [] (without x t))
-      ∙ ap (option_map (λ (s : StandOf N T A). table_in is_table s.path)) stand_is
+      ∙ ap (option_map (λ (s : OpWithPathOf N T A). table_in is_table s.path)) stand_is
       ∙ ap Some (table_stays_in is_table stayed.was.path)
-      ∙ sym (sym (stands_table is_table y [] t) ∙ ap (option_map (λ (s : StandOf N T A). table_in is_table s.path)) stand_was)
+      ∙ sym (sym (stands_table is_table y [] t) ∙ ap (option_map (λ (s : OpWithPathOf N T A). table_in is_table s.path)) stand_was)
 
   pub dominance_stays : (isolated : N → Bool) (v : Value) → eqb (owner_of v).0 x ≡ false → visible isolated (without x t) y v ≡ visible isolated t y v
   dominance_stays isolated v e =

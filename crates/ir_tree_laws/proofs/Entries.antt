@@ -15,7 +15,7 @@ use Rattle.ir_tree_laws.specs.Reasons.{entry_reason, set_entry_reason}
 use Rattle.ir_tree_laws.specs.Members.{In}
 use Rattle.ir_tree_laws.specs.Changes.{SetsEntry}
 use Rattle.ir_tree_laws.specs.Keys.{Ordered}
-use Rattle.ir_tree_laws.specs.Stands.{StepOf, StandOf, stand_id, stands, regions_stands, region_stands, ops_stands}
+use Rattle.ir_tree_laws.specs.Stands.{StepOf, OpWithPathOf, op_with_path_id, stands, regions_stands, region_stands, ops_stands}
 use Rattle.ir_tree_laws.proofs.Listed.{in_left, in_right, all_each, both, bool_cases}
 use Rattle.ir_tree_laws.proofs.Readings.{step, stands_every}
 use Rattle.ir_tree_laws.proofs.Members.{stand_found, found_stands}
@@ -124,19 +124,19 @@ module _ {N A : Type 0} (before : N → N → Bool) (o : Ordered before) where
 module _ {N T A : Type 0} (f : HeadOf N T A → HeadOf N T A) where
   mutual
     -- an edit that leaves each head unchanged
-    pub each_same : (path : List (StepOf N T A)) (t : OpOf N T A) → ((s : StandOf N T A) → In s (stands path t) → f (head s.here) ≡ head s.here) → each_head f t ≡ t
+    pub each_same : (path : List (StepOf N T A)) (t : OpOf N T A) → ((s : OpWithPathOf N T A) → In s (stands path t) → f (head s.here) ≡ head s.here) → each_head f t ≡ t
     each_same path (op h rs) c = λ i. op (c (record { here = op h rs; path = path }) (inl refl) i) (regions_each_same (op h rs) path 0 rs (λ s k. c s (inr k)) i)
 
-    regions_each_same : (p : OpOf N T A) (path : List (StepOf N T A)) (r : ℕ) (rs : RegionsOf N T A) → ((s : StandOf N T A) → In s (regions_stands p path r rs) → f (head s.here) ≡ head s.here) → regions_each_head f rs ≡ rs
+    regions_each_same : (p : OpOf N T A) (path : List (StepOf N T A)) (r : ℕ) (rs : RegionsOf N T A) → ((s : OpWithPathOf N T A) → In s (regions_stands p path r rs) → f (head s.here) ≡ head s.here) → regions_each_head f rs ≡ rs
     regions_each_same p path r no_regions c = refl
     regions_each_same p path r (region g rs) c = λ i.
         region (region_each_same p path r g (λ s k. c s (in_left s (region_stands p path r g) (regions_stands p path (r + 1) rs) k)) i) (regions_each_same p path (r + 1) rs (λ s k. c s (in_right s (region_stands p path r g) (regions_stands p path (r + 1) rs) k)) i)
 
-    region_each_same : (p : OpOf N T A) (path : List (StepOf N T A)) (r : ℕ) (g : RegionOf N T A) → ((s : StandOf N T A) → In s (region_stands p path r g) → f (head s.here) ≡ head s.here) → region_each_head f g ≡ g
+    region_each_same : (p : OpOf N T A) (path : List (StepOf N T A)) (r : ℕ) (g : RegionOf N T A) → ((s : OpWithPathOf N T A) → In s (region_stands p path r g) → f (head s.here) ≡ head s.here) → region_each_head f g ≡ g
     region_each_same p path r empty c = refl
     region_each_same p path r (block args os) c = ap (block args) (ops_each_same p path r args [] os c)
 
-    ops_each_same : (p : OpOf N T A) (path : List (StepOf N T A)) (r : ℕ) (args : List T) (preceding : List (OpOf N T A)) (os : OpsOf N T A) → ((s : StandOf N T A) → In s (ops_stands p path r args preceding os) → f (head s.here) ≡ head s.here) → ops_each_head f os ≡ os
+    ops_each_same : (p : OpOf N T A) (path : List (StepOf N T A)) (r : ℕ) (args : List T) (preceding : List (OpOf N T A)) (os : OpsOf N T A) → ((s : OpWithPathOf N T A) → In s (ops_stands p path r args preceding os) → f (head s.here) ≡ head s.here) → ops_each_head f os ≡ os
     ops_each_same p path r args preceding no_ops c = refl
     ops_each_same p path r args preceding (next o os) c = λ i.
         next (each_same (step p r args preceding os ∷ path) o (λ s k. c s (in_left s (stands (step p r args preceding os ∷ path) o) (ops_stands p path r args (preceding ++ o ∷ []) os) k)) i)
@@ -192,9 +192,9 @@ module _ {N T A : Type 0} (before : N → N → Bool) (o : Ordered before) (x : 
               ∙ ap Some (ap (λ (h : HeadOf N T A). entry_at before k (part_of part h)) (head_each (at x f) n.here ∙ ap (λ b. cond b (f (head n.here)) (head n.here)) id)
               ∙ ap (entry_at before k) (part_changed part (change_entry before k a) (head n.here)) ∙ change_is before o k a (part_of part (head n.here)) r);
           after = refl;
-          before = sym (each_twice (at x f) (at x g) m.tree ∙ each_same (λ h. at x g (at x f h)) [] m.tree (λ s h. elim (bool_cases (eqb (stand_id s) x)) [
+          before = sym (each_twice (at x f) (at x g) m.tree ∙ each_same (λ h. at x g (at x f h)) [] m.tree (λ s h. elim (bool_cases (eqb (op_with_path_id s) x)) [
             | inr q ↦ ap (at x g) (ap (λ b. cond b (f (head s.here)) (head s.here)) q) ∙ ap (λ b. cond b (g (head s.here)) (head s.here)) q
-            | inl q ↦ (let same : Some s.here ≡ Some n.here = sym (stand_found m.tree d s h) ∙ ap (λ z. find z m.tree) (eqb-true (stand_id s) x q) ∙ n.found in
+            | inl q ↦ (let same : Some s.here ≡ Some n.here = sym (stand_found m.tree d s h) ∙ ap (λ z. find z m.tree) (eqb-true (op_with_path_id s) x q) ∙ n.found in
                 let one : n.here ≡ s.here = cc in
                 subst (λ (z : OpOf N T A). at x g (at x f (head z)) ≡ head z) one
                 (ap (at x g) (ap (λ b. cond b (f (head n.here)) (head n.here)) id) ∙ ap (λ b. cond b (g (f (head n.here))) (f (head n.here))) (ap (λ z. eqb z x) (part_id part (change_entry before k a) (head n.here)) ∙ id)
@@ -210,6 +210,6 @@ module _ {N T A : Type 0} (before : N → N → Bool) (o : Ordered before) (x : 
       rises_there : (q : OpOf N T A) → find x m.tree ≡ Some q → rises before (part_of part (head q)) ≡ true
       rises_there q h =
           let w = found_stands x m.tree q h in
-          let all = all_each (λ (u : StandOf N T A). dictionaries_rise before u.here) (stands [] m.tree) (stands_every (dictionaries_rise before) [] m.tree ∙ sorted) w.0 w.1 in
+          let all = all_each (λ (u : OpWithPathOf N T A). dictionaries_rise before u.here) (stands [] m.tree) (stands_every (dictionaries_rise before) [] m.tree ∙ sorted) w.0 w.1 in
           let b = both (rises before (head q).properties) (rises before (head q).attributes) (ap (λ (z : OpOf N T A). dictionaries_rise before z) (sym w.3) ∙ all) in
           part_rises part (head q) b.0 b.1

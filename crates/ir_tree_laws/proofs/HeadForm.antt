@@ -17,7 +17,7 @@ use Rattle.ir_tree.specs.Edits.{each_head, regions_each_head, at, put_operand, w
 use Rattle.ir_tree.specs.Meaning.{rises, rises_after, dictionaries_rise}
 use Rattle.ir_tree.specs.WellFormed.{ModuleOf, IsValidTree, IsWellFormed}
 use Rattle.ir_tree_laws.specs.Reasons.{set_operand_reason, set_entry_reason, entry_reason, has_headroom}
-use Rattle.ir_tree_laws.specs.Stands.{StandOf, stand_id, stands, dominated_by, edit_stand, edit_step, gather}
+use Rattle.ir_tree_laws.specs.Stands.{OpWithPathOf, op_with_path_id, stands, dominated_by, edit_stand, edit_step, gather}
 use Rattle.ir_tree_laws.specs.Members.{In}
 use Rattle.ir_tree_laws.proofs.Listed.{in_mapped, in_left, in_right, all_each, each_all, both, both_hold, bool_cases, either}
 use Rattle.ir_tree_laws.proofs.Readings.{stands_ids, stands_every, stands_uses}
@@ -57,8 +57,8 @@ module _ {N T A : Type 0} (f : HeadOf N T A → HeadOf N T A) (alike : (h : Head
   pub edit_ids : (t : OpOf N T A) → ids (each_head f t) ≡ ids t
   edit_ids t =
       sym (stands_ids [] (each_head f t))
-      ∙ ap (map (λ (s : StandOf N T A). stand_id s)) (each_stands f [] t)
-      ∙ map_ids (λ (s : StandOf N T A). stand_id s) (λ (s : StandOf N T A). stand_id s) (edit_stand f) (λ (s : StandOf N T A). ap (λ (h : HeadOf N T A). h.id) (head_each s.here) ∙ (alike (head s.here)).id) (stands [] t)
+      ∙ ap (map (λ (s : OpWithPathOf N T A). op_with_path_id s)) (each_stands f [] t)
+      ∙ map_ids (λ (s : OpWithPathOf N T A). op_with_path_id s) (λ (s : OpWithPathOf N T A). op_with_path_id s) (edit_stand f) (λ (s : OpWithPathOf N T A). ap (λ (h : HeadOf N T A). h.id) (head_each s.here) ∙ (alike (head s.here)).id) (stands [] t)
       ∙ stands_ids [] t
 
   count_kept : (rs : RegionsOf N T A) → region_count (regions_each_head f rs) ≡ region_count rs
@@ -75,30 +75,30 @@ module _ {N T A : Type 0} (f : HeadOf N T A → HeadOf N T A) (alike : (h : Head
       let b = both (head_fits h) (nat_le (region_count rs) most_regions && all_arguments_pass items_fit rs) k in
       both_hold (head_fits (f h)) _ e ((λ i. nat_le (count_kept rs i) most_regions && arguments_kept rs i) ∙ b.1)
 
-  member_edited : (t : OpOf N T A) (u : StandOf N T A) → In u (stands [] (each_head f t)) → (s : StandOf N T A) × In s (stands [] t) × (u ≡ edit_stand f s)
-  member_edited t u h = in_mapped (edit_stand f) u (stands [] t) (subst (λ (l : List (StandOf N T A)). In u l) (each_stands f [] t) h)
+  member_edited : (t : OpOf N T A) (u : OpWithPathOf N T A) → In u (stands [] (each_head f t)) → (s : OpWithPathOf N T A) × In s (stands [] t) × (u ≡ edit_stand f s)
+  member_edited t u h = in_mapped (edit_stand f) u (stands [] t) (subst (λ (l : List (OpWithPathOf N T A)). In u l) (each_stands f [] t) h)
 
-  pub edit_wellformed : (isolated : N → Bool) (t : OpOf N T A) → IsValidTree isolated t → ((s : StandOf N T A) → In s (stands [] t) → list_all (dominated_by isolated s.path) (f (head s.here)).operands ≡ true)
-      → ((s : StandOf N T A) → In s (stands [] t) → head_fits (f (head s.here)) ≡ true) → IsValidTree isolated (each_head f t)
+  pub edit_wellformed : (isolated : N → Bool) (t : OpOf N T A) → IsValidTree isolated t → ((s : OpWithPathOf N T A) → In s (stands [] t) → list_all (dominated_by isolated s.path) (f (head s.here)).operands ≡ true)
+      → ((s : OpWithPathOf N T A) → In s (stands [] t) → head_fits (f (head s.here)) ≡ true) → IsValidTree isolated (each_head f t)
   edit_wellformed isolated t wellformed own fits =
       let g = from_wellformed isolated t wellformed in
       to_wellformed isolated (each_head f t) (record {
         dominated_by_own = λ u h. let m = member_edited t u h in
-            ap (λ (z : StandOf N T A). list_all (dominated_by isolated z.path) (head z.here).operands) m.2
+            ap (λ (z : OpWithPathOf N T A). list_all (dominated_by isolated z.path) (head z.here).operands) m.2
             ∙ ap (λ (h : HeadOf N T A). list_all (dominated_by isolated (map (edit_step f) m.0.path)) h.operands) (head_each m.0.here)
             ∙ all_same _ _ (f (head m.0.here)).operands (λ v k. each_dominated_by f alike isolated m.0.path v)
             ∙ own m.0 m.1;
         shallow = λ u h. let m = member_edited t u h in
             let a = g.shallow m.0 m.1 in
-            let b = ap (λ (z : StandOf N T A). length z.path) m.2 in
+            let b = ap (λ (z : OpWithPathOf N T A). length z.path) m.2 in
             let c = length-map m.0.path (edit_step f) in
             omega (arith, a, b, c);
         count = (let a = g.count in let b = ap length (edit_ids t) in omega (arith, a, b));
-        fits = λ u h. let m = member_edited t u h in ap (λ (z : StandOf N T A). op_fits z.here) m.2 ∙ edit_fits m.0.here (fits m.0 m.1) (g.fits m.0 m.1);
+        fits = λ u h. let m = member_edited t u h in ap (λ (z : OpWithPathOf N T A). op_fits z.here) m.2 ∙ edit_fits m.0.here (fits m.0 m.1) (g.fits m.0 m.1);
       })
 
-  pub edit_well_formed : (isolated : N → Bool) (m : ModuleOf N T A) → IsWellFormed isolated m → ((s : StandOf N T A) → In s (stands [] m.tree) → list_all (dominated_by isolated s.path) (f (head s.here)).operands ≡ true)
-      → ((s : StandOf N T A) → In s (stands [] m.tree) → head_fits (f (head s.here)) ≡ true) → IsWellFormed isolated (record m { tree = each_head f m.tree })
+  pub edit_well_formed : (isolated : N → Bool) (m : ModuleOf N T A) → IsWellFormed isolated m → ((s : OpWithPathOf N T A) → In s (stands [] m.tree) → list_all (dominated_by isolated s.path) (f (head s.here)).operands ≡ true)
+      → ((s : OpWithPathOf N T A) → In s (stands [] m.tree) → head_fits (f (head s.here)) ≡ true) → IsWellFormed isolated (record m { tree = each_head f m.tree })
   edit_well_formed isolated m w own fits = record {
     distinct = subst (IsDistinct eqb) (sym (edit_ids m.tree)) w.distinct;
     below = subst (λ l. All (λ y. y < m.next) l) (sym (edit_ids m.tree)) w.below;
@@ -126,9 +126,9 @@ module _ {N T A : Type 0} (isolated : N → Bool) where
   operand_keeps x k v m w seen =
       let g = from_wellformed isolated m.tree w.wellformed in
       edit_well_formed (at x (put_operand k v)) (alike_at x (put_operand k v) (λ h. record { id = refl; name = refl; results = refl })) isolated m w
-      (λ s h. elim (bool_cases (eqb (stand_id s) x)) [
+      (λ s h. elim (bool_cases (eqb (op_with_path_id s) x)) [
         | inl e ↦ ap (λ b. list_all (dominated_by isolated s.path) (cond b (put_operand k v (head s.here)) (head s.here)).operands) e
-            ∙ set_passes (dominated_by isolated s.path) (head s.here).operands k v (g.dominated_by_own s h) (sym (visible_there isolated m.tree w.distinct s h v) ∙ ap (λ z. visible isolated m.tree z v) (eqb-true (stand_id s) x e) ∙ seen)
+            ∙ set_passes (dominated_by isolated s.path) (head s.here).operands k v (g.dominated_by_own s h) (sym (visible_there isolated m.tree w.distinct s h v) ∙ ap (λ z. visible isolated m.tree z v) (eqb-true (op_with_path_id s) x e) ∙ seen)
         | inr e ↦ ap (λ b. list_all (dominated_by isolated s.path) (cond b (put_operand k v (head s.here)) (head s.here)).operands) e ∙ g.dominated_by_own s h
       ])
       (λ s h. fits_there (head s.here) (own_fits s.here (g.fits s h)))
@@ -153,11 +153,11 @@ module _ {N T A : Type 0} (isolated : N → Bool) where
       ap (dominated_by isolated s.path) r.2
       ∙ elim (bool_cases (same_value old r.0)) [
         | inr e ↦ ap (λ b. dominated_by isolated s.path (cond b new r.0)) e ∙ all_each (dominated_by isolated s.path) (head s.here).operands (g.dominated_by_own s h) r.0 r.1
-        | inl e ↦ (let n = used_here old (stand_id s) 0 (head s.here).operands r.0 r.1 e in
-            let j : In (stand_id s, n.0) (uses_of old m.tree) = subst (λ l. In (stand_id s, n.0) l) (stands_uses old [] m.tree) (in_gather (λ (u : StandOf N T A). operand_uses old (stand_id u) 0 (head u.here).operands) (stand_id s, n.0) s (stands [] m.tree) h n.1) in
+        | inl e ↦ (let n = used_here old (op_with_path_id s) 0 (head s.here).operands r.0 r.1 e in
+            let j : In (op_with_path_id s, n.0) (uses_of old m.tree) = subst (λ l. In (op_with_path_id s, n.0) l) (stands_uses old [] m.tree) (in_gather (λ (u : OpWithPathOf N T A). operand_uses old (op_with_path_id u) 0 (head u.here).operands) (op_with_path_id s, n.0) s (stands [] m.tree) h n.1) in
             ap (λ b. dominated_by isolated s.path (cond b new r.0)) e
             ∙ sym (visible_there isolated m.tree w.distinct s h new)
-            ∙ all_each (λ u. visible isolated m.tree u.0 new) (uses_of old m.tree) seen (stand_id s, n.0) j)
+            ∙ all_each (λ u. visible isolated m.tree u.0 new) (uses_of old m.tree) seen (op_with_path_id s, n.0) j)
       ]))
       (λ s h. ap (λ n. nat_le n most_items && (items_fit (head s.here).results && (items_fit (head s.here).properties && items_fit (head s.here).attributes))) (length-map (head s.here).operands (put_value old new)) ∙ own_fits s.here (g.fits s h))
 
@@ -229,13 +229,13 @@ module _ {N T A : Type 0} (isolated : N → Bool) (before : N → N → Bool) (t
       let n = no_entry_reason before x part k a m.tree e in
       let c = change_part part (change_entry before k a) in
       edit_well_formed (at x (change_part part (change_entry before k a))) (alike_at x (change_part part (change_entry before k a)) (alike_part part (change_entry before k a))) isolated m w
-      (λ s h. elim (eqb (stand_id s) x) as (λ b. list_all (dominated_by isolated s.path) (cond b (c (head s.here)) (head s.here)).operands ≡ true)
+      (λ s h. elim (eqb (op_with_path_id s) x) as (λ b. list_all (dominated_by isolated s.path) (cond b (c (head s.here)) (head s.here)).operands ≡ true)
       [ true ↦ ap (list_all (dominated_by isolated s.path)) (part_operands part (change_entry before k a) (head s.here)) ∙ g.dominated_by_own s h | false ↦ g.dominated_by_own s h ])
-      (λ s h. elim (bool_cases (eqb (stand_id s) x)) [
+      (λ s h. elim (bool_cases (eqb (op_with_path_id s) x)) [
         | inr i ↦ ap (λ b. head_fits (cond b (c (head s.here)) (head s.here))) i ∙ own_fits s.here (g.fits s h)
-        | inl i ↦ (let same : Some s.here ≡ Some n.here = sym (stand_found m.tree w.distinct s h) ∙ ap (λ z. find z m.tree) (eqb-true (stand_id s) x i) ∙ n.found in
+        | inl i ↦ (let same : Some s.here ≡ Some n.here = sym (stand_found m.tree w.distinct s h) ∙ ap (λ z. find z m.tree) (eqb-true (op_with_path_id s) x i) ∙ n.found in
             let is : s.here ≡ n.here = cc in
-            let r = both (rises before (head s.here).properties) (rises before (head s.here).attributes) (all_each (λ (u : StandOf N T A). dictionaries_rise before u.here) (stands [] m.tree) (stands_every (dictionaries_rise before) [] m.tree ∙ sorted) s h) in
+            let r = both (rises before (head s.here).properties) (rises before (head s.here).attributes) (all_each (λ (u : OpWithPathOf N T A). dictionaries_rise before u.here) (stands [] m.tree) (stands_every (dictionaries_rise before) [] m.tree ∙ sorted) s h) in
             ap (λ b. head_fits (cond b (c (head s.here)) (head s.here))) i
             ∙ part_fits part k a (head s.here) r.0 r.1 (own_fits s.here (g.fits s h)) (ap (λ (z : OpOf N T A). entry_reason before k a (part_of part (head z))) is ∙ n.may))
       ])

@@ -3,7 +3,7 @@ use Rattle.std.proofs.Common.{◌≡◌, refl, ap, sym, ◌∙◌, subst, ℕ, m
 use Rattle.std.specs.List.{list_any, list_all}
 use Rattle.ir_tree.specs.Ids.{first_of}
 use Rattle.ir_tree_laws.specs.Members.{In}
-use Rattle.ir_tree_laws.specs.Stands.{StandOf, stand_id, stand_in, gather, first_some, greatest}
+use Rattle.ir_tree_laws.specs.Stands.{OpWithPathOf, op_with_path_id, find_op_with_path, gather, first_some, greatest}
 
 pub bool_cases : (b : Bool) → (b ≡ true) ⊎ (b ≡ false)
 bool_cases true = inl refl
@@ -114,8 +114,8 @@ pub greatest-append : {X : Type 0} (f : X → ℕ) (xs ys : List X) → greatest
 greatest-append f [] ys = omega arith
 greatest-append f (x ∷ xs) ys = let e = greatest-append f xs ys in omega (arith, e)
 
-pub stand_in-append : {N T A : Type 0} (x : ℕ) (ss us : List (StandOf N T A)) → stand_in x (ss ++ us) ≡ first_of (stand_in x ss) (stand_in x us)
-stand_in-append x [] us = refl
-stand_in-append x (s ∷ ss) us =
-    ap (cond (eqb (stand_id s) x) (Some s)) (stand_in-append x ss us)
-    ∙ elim (eqb (stand_id s) x) as (λ b. cond b (Some s) (first_of (stand_in x ss) (stand_in x us)) ≡ first_of (cond b (Some s) (stand_in x ss)) (stand_in x us)) [ true ↦ refl | false ↦ refl ]
+pub find_op_with_path-append : {N T A : Type 0} (x : ℕ) (ss us : List (OpWithPathOf N T A)) → find_op_with_path x (ss ++ us) ≡ first_of (find_op_with_path x ss) (find_op_with_path x us)
+find_op_with_path-append x [] us = refl
+find_op_with_path-append x (s ∷ ss) us =
+    ap (cond (eqb (op_with_path_id s) x) (Some s)) (find_op_with_path-append x ss us)
+    ∙ elim (eqb (op_with_path_id s) x) as (λ b. cond b (Some s) (first_of (find_op_with_path x ss) (find_op_with_path x us)) ≡ first_of (cond b (Some s) (find_op_with_path x ss)) (find_op_with_path x us)) [ true ↦ refl | false ↦ refl ]

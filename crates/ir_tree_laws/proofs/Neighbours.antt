@@ -12,7 +12,7 @@ use Rattle.ir_tree.specs.Places.{first_id, place_of}
 use Rattle.ir_tree.specs.Sites.{arguments, results_of, shows, visible}
 use Rattle.ir_tree_laws.specs.Members.{In}
 use Rattle.ir_tree_laws.specs.Reads.{last_id, parent_of, next_of, ops_in, ops_at, is_among, goes_before, id_before, list_of, prev_of, in_list, is_before, is_next_to}
-use Rattle.ir_tree_laws.specs.Stands.{StepOf, StandOf, stand_id, stand_of, stands, ops_stands, place_in}
+use Rattle.ir_tree_laws.specs.Stands.{StepOf, OpWithPathOf, op_with_path_id, op_with_path, stands, ops_stands, place_in}
 use Rattle.ir_tree_laws.specs.Values.{region_at, arguments_of, arguments_at, has_value}
 use Rattle.ir_tree_laws.proofs.Listed.{bool_cases, any_one, both, in_right, one_any, or_left}
 use Rattle.ir_tree_laws.proofs.Readings.{step}
@@ -129,7 +129,7 @@ module _ {N T A : Type 0} where
       | inr e ↦ e
       | inl e ↦ (let u = preceding_stands t a.parent q a.region a.args a.preceding (next o a.rest) f up (shape t o a q h) k in
           let same = same_stand t d (stand f (u.0 ∷ q)) (stand o (a ∷ q)) u.1 h (eqb-true (head f).id x e) in
-          let paths : u.0 ∷ q ≡ a ∷ q = ap (λ (z : StandOf N T A). z.path) same in
+          let paths : u.0 ∷ q ≡ a ∷ q = ap (λ (z : OpWithPathOf N T A). z.path) same in
           let one : u.0 ≡ a = cc in
           let l = ap (λ (z : StepOf N T A). length z.preceding) one in
           let n = u.2 in
@@ -182,7 +182,7 @@ module _ {N T A : Type 0} where
             within p w.0.path (stand s.3 (c ∷ w.0.path)) (child p w.0.path place.region b.1 os (stand s.3 (c ∷ w.0.path)) b.3
             (subst (λ l. In (stand s.3 (c ∷ w.0.path)) (ops_stands p w.0.path place.region b.1 [] l)) (sym s.7) (ops_child p w.0.path place.region b.1 [] (s.0 ++ s.1 ∷ s.2) s.3 s.4))) [] t above in
             let same = same_stand t d (stand s.3 (c ∷ w.0.path)) (stand o (a ∷ q)) m h s.6 in
-            let paths : c ∷ w.0.path ≡ a ∷ q = ap (λ (z : StandOf N T A). z.path) same in
+            let paths : c ∷ w.0.path ≡ a ∷ q = ap (λ (z : OpWithPathOf N T A). z.path) same in
             let one : c ≡ a = cc in
             subst (λ (l : StepOf N T A). list_any (λ f. eqb (head f).id y) l.preceding ≡ true) one (any_one (λ f. eqb (head f).id y) (s.0 ++ s.1 ∷ s.2) s.1 (in_right s.1 s.0 (s.1 ∷ s.2) (inl refl)) (eq-eqb (head s.1).id y s.5))
 
@@ -296,7 +296,7 @@ module _ {N T A : Type 0} where
       let s = member_of_place x place t e in
       go s.0 s.1 s.2 s.0.path refl s.3
     where
-      go : (s : StandOf N T A) → In s (stands [] t) → stand_id s ≡ x → (path : List (StepOf N T A)) → s.path ≡ path → place_in s.path ≡ Some place
+      go : (s : OpWithPathOf N T A) → In s (stands [] t) → op_with_path_id s ≡ x → (path : List (StepOf N T A)) → s.path ≡ path → place_in s.path ≡ Some place
           → visible isolated t x v ≡ (has_value v t && is_next_to x place v t || not (isolated (head p).name) && visible isolated t place.parent v)
       go s h id [] r k = (let bad : None ≡ Some place = sym (ap place_in r) ∙ k in absurd cc)
       go s h id (a ∷ q) r k =
@@ -304,11 +304,11 @@ module _ {N T A : Type 0} where
           subst (λ y. visible isolated t y v ≡ (has_value v t && is_next_to y place v t || not (isolated (head p).name) && visible isolated t place.parent v)) id
           (dominated_by_by_place t d s.here a q there isolated place p v (ap (λ y. place_of y t) id ∙ e) f)
 
-  module _ (t : OpOf N T A) (d : HasDistinctIds t) (x : ℕ) (s : StandOf N T A) (a : StepOf N T A) (q : List (StepOf N T A)) (e : stand_of x t ≡ Some s) (p : s.path ≡ a ∷ q) where
+  module _ (t : OpOf N T A) (d : HasDistinctIds t) (x : ℕ) (s : OpWithPathOf N T A) (a : StepOf N T A) (q : List (StepOf N T A)) (e : op_with_path x t ≡ Some s) (p : s.path ≡ a ∷ q) where
     there_it : In (stand s.here (a ∷ q)) (stands [] t)
     there_it = subst (λ l. In (stand s.here l) (stands [] t)) p (member x (stands [] t) s e).0
 
-    id_it : stand_id s ≡ x
+    id_it : op_with_path_id s ≡ x
     id_it = (member x (stands [] t) s e).1
 
     pub list_next_to : list_of x t ≡ Some (ops_of (a.preceding ++ s.here ∷ op_list a.rest))

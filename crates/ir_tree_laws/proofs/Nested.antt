@@ -13,7 +13,7 @@ use Rattle.ir_tree_laws.specs.Reads.{ops_in}
 use Rattle.ir_tree_laws.specs.Reasons.{is_in_list, has_place}
 use Rattle.ir_tree_laws.specs.Restores.{MayPut}
 use Rattle.ir_tree_laws.specs.Values.{region_at}
-use Rattle.ir_tree_laws.specs.Stands.{StepOf, StandOf, stand_in, stands}
+use Rattle.ir_tree_laws.specs.Stands.{StepOf, OpWithPathOf, find_op_with_path, stands}
 use Rattle.ir_tree_laws.proofs.Listed.{bool_cases, neither}
 use Rattle.ir_tree_laws.proofs.Readings.{stands_find}
 use Rattle.ir_tree_laws.proofs.Members.{within, member, stand_found}
@@ -143,12 +143,12 @@ module _ {N T A : Type 0} where
 
   -- an operation inside an inserted operation is found unchanged
   pub found_along : (place : Place) (o t : OpOf N T A) (may : MayPut place o t) (y : ℕ) (z : OpOf N T A) → find y o ≡ Some z → find y (put place o t) ≡ Some z
-  found_along place o t may y z e = go (stand_in y (stands path o)) refl (stands_find y path o ∙ e)
+  found_along place o t may y z e = go (find_op_with_path y (stands path o)) refl (stands_find y path o ∙ e)
     where
       path : List (StepOf N T A)
       path = (landed place o t may).step_in ∷ (landed place o t may).path
 
-      go : (f : Option (StandOf N T A)) → stand_in y (stands path o) ≡ f → option_map (λ (s : StandOf N T A). s.here) f ≡ Some z → find y (put place o t) ≡ Some z
+      go : (f : Option (OpWithPathOf N T A)) → find_op_with_path y (stands path o) ≡ f → option_map (λ (s : OpWithPathOf N T A). s.here) f ≡ Some z → find y (put place o t) ≡ Some z
       go None k h = absurd cc
       go (Some s) k h =
           let m = member y (stands path o) s k in

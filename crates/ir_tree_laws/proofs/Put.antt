@@ -8,7 +8,7 @@ use Rattle.ir_tree.specs.Places.{first_id, each_list, regions_each_list, region_
 use Rattle.ir_tree_laws.specs.Values.{region_at}
 use Rattle.ir_tree_laws.specs.Reads.{ops_in, is_among}
 use Rattle.ir_tree_laws.specs.Reasons.{is_in_list, has_place}
-use Rattle.ir_tree_laws.specs.Stands.{StepOf, StandOf, stands, regions_stands, region_stands, ops_stands}
+use Rattle.ir_tree_laws.specs.Stands.{StepOf, OpWithPathOf, stands, regions_stands, region_stands, ops_stands}
 use Rattle.ir_tree_laws.specs.Members.{In}
 use Rattle.ir_tree_laws.proofs.Listed.{in_left, in_right}
 use Rattle.ir_tree_laws.proofs.Readings.{step, option_first}
@@ -121,7 +121,7 @@ module _ {N T A : Type 0} where
   same_among f (Some b) (next (op h rs) os) = ap (λ c. eqb h.id b || c) (same_among f (Some b) os)
 
   -- an operation in a region's block is in the operation
-  regions_child : (p : OpOf N T A) (path : List (StepOf N T A)) (r k : ℕ) (rs : RegionsOf N T A) (args : List T) (os : OpsOf N T A) (s : StandOf N T A)
+  regions_child : (p : OpOf N T A) (path : List (StepOf N T A)) (r k : ℕ) (rs : RegionsOf N T A) (args : List T) (os : OpsOf N T A) (s : OpWithPathOf N T A)
       → region_at k rs ≡ Some (block args os) → In s (ops_stands p path (r + k) args [] os) → In s (regions_stands p path r rs)
   regions_child p path r zero no_regions args os s e h = absurd cc
   regions_child p path r (suc k) no_regions args os s e h = absurd cc
@@ -133,7 +133,7 @@ module _ {N T A : Type 0} where
       let n : r + suc k ≡ r + 1 + k = omega arith in
       in_right s (region_stands p path r g) (regions_stands p path (r + 1) rs) (regions_child p path (r + 1) k rs args os s e (subst (λ m. In s (ops_stands p path m args [] os)) n h))
 
-  pub child : (p : OpOf N T A) (path : List (StepOf N T A)) (k : ℕ) (args : List T) (os : OpsOf N T A) (s : StandOf N T A) → region_at k (regions p) ≡ Some (block args os) → In s (ops_stands p path k args [] os) → In s (stands path p)
+  pub child : (p : OpOf N T A) (path : List (StepOf N T A)) (k : ℕ) (args : List T) (os : OpsOf N T A) (s : OpWithPathOf N T A) → region_at k (regions p) ≡ Some (block args os) → In s (ops_stands p path k args [] os) → In s (stands path p)
   child (op h rs) path k args os s e m = let n : k ≡ 0 + k = omega arith in inr (regions_child (op h rs) path 0 k rs args os s e (subst (λ j. In s (ops_stands (op h rs) path j args [] os)) n m))
 
   -- the path of the inserted operation

@@ -17,7 +17,7 @@ use Rattle.ir_tree.proofs.Moves.{take_put}
 use Rattle.ir_tree_laws.specs.Reads.{around}
 use Rattle.ir_tree_laws.specs.Reasons.{fits_around}
 use Rattle.ir_tree_laws.specs.Restores.{MayPut}
-use Rattle.ir_tree_laws.specs.Stands.{StandOf, stand_id, stands, stand_in, dominated_by, is_gone, left_stand, left_step, dropping}
+use Rattle.ir_tree_laws.specs.Stands.{OpWithPathOf, op_with_path_id, stands, find_op_with_path, dominated_by, is_gone, left_stand, left_step, dropping}
 use Rattle.ir_tree_laws.specs.Members.{In}
 use Rattle.ir_tree_laws.proofs.Listed.{all_each, each_all, bool_cases, or_left, or_right}
 use Rattle.ir_tree_laws.proofs.Readings.{stands_every}
@@ -64,12 +64,12 @@ module _ {N T A : Type 0} (place : Place) (o t : OpOf N T A) (may : MayPut place
   put_found = stand_found after put_distinct (stand o (landed.step_in ∷ landed.path)) landed.there
 
   -- each operation was in the tree, or is the inserted operation or within it
-  pub put_cases : (s : StandOf N T A) → In s (stands [] after) → (In (left_stand x s) (stands [] t) × (is_gone x s ≡ false)) ⊎ In s (stands (landed.step_in ∷ landed.path) o)
+  pub put_cases : (s : OpWithPathOf N T A) → In s (stands [] after) → (In (left_stand x s) (stands [] t) × (is_gone x s ≡ false)) ⊎ In s (stands (landed.step_in ∷ landed.path) o)
   put_cases s h = elim (bool_cases (is_gone x s)) [
     | inr k ↦ inl (subst (λ (u : OpOf N T A). In (left_stand x s) (stands [] u)) put_back (left_member x after s h k), k)
     | inl k ↦ (let w = gone_within x after s.path s.here h k in
         let same = same_stand after put_distinct (stand w.here (w.step_in ∷ w.path)) (stand o (landed.step_in ∷ landed.path)) w.there landed.there w.id in
-        inr (subst (λ (z : StandOf N T A). In s (stands z.path z.here)) same w.inner))
+        inr (subst (λ (z : OpWithPathOf N T A). In s (stands z.path z.here)) same w.inner))
   ]
 
   -- the depth of the place
@@ -78,9 +78,9 @@ module _ {N T A : Type 0} (place : Place) (o t : OpOf N T A) (may : MayPut place
     | inr k ↦ absurd (true≢false (sym (subst (λ z. has_id z o ≡ true) landed.parent (stand_present (landed.step_in ∷ landed.path) o (stand landed.step_in.parent landed.path) k)) ∙ parent_absent))
     | inl k ↦
         (let u = left_stand x (stand landed.step_in.parent landed.path) in
-        let id : stand_id u ≡ place.parent = ap (λ (h : HeadOf N T A). h.id) (same_head x (dropping x) landed.step_in.parent) ∙ landed.parent in
+        let id : op_with_path_id u ≡ place.parent = ap (λ (h : HeadOf N T A). h.id) (same_head x (dropping x) landed.step_in.parent) ∙ landed.parent in
         sym (stands_around place.parent [] t)
-        ∙ ap (option_map (λ (s : StandOf N T A). length s.path)) (ap (λ z. stand_in z (stands [] t)) (sym id) ∙ stand_of_member t may.distinct u k.0)
+        ∙ ap (option_map (λ (s : OpWithPathOf N T A). length s.path)) (ap (λ z. find_op_with_path z (stands [] t)) (sym id) ∙ stand_of_member t may.distinct u k.0)
         ∙ ap Some (length-map landed.path (left_step x)))
   ]
 
@@ -114,7 +114,7 @@ module _ {N T A : Type 0} (place : Place) (o t : OpOf N T A) (may : MayPut place
         | inl k ↦ each_all (dominated_by isolated s.path) (head s.here).operands (λ v m. left_dominated_by x isolated s.path v
             (all_each (dominated_by isolated (map (left_step x) s.path)) (head s.here).operands (sym (ap (λ (h : HeadOf N T A). list_all (dominated_by isolated (map (left_step x) s.path)) h.operands) (same_head x (dropping x) s.here)) ∙ f.dominated_by_own (left_stand x s) k.0) v m))
         | inr k ↦ sym (all_same _ _ (head s.here).operands (λ v m. visible_there isolated after put_distinct s h v))
-            ∙ all_each (λ (u : StandOf N T A). list_all (visible isolated after (head u.here).id) (head u.here).operands) (stands (landed.step_in ∷ landed.path) o)
+            ∙ all_each (λ (u : OpWithPathOf N T A). list_all (visible isolated after (head u.here).id) (head u.here).operands) (stands (landed.step_in ∷ landed.path) o)
             (stands_every (λ q. list_all (visible isolated after (head q).id) (head q).operands) (landed.step_in ∷ landed.path) o ∙ fit.dominated_by_own) s k
       ];
       shallow = λ s h. elim (put_cases s h) [
@@ -126,7 +126,7 @@ module _ {N T A : Type 0} (place : Place) (o t : OpOf N T A) (may : MayPut place
       count = (let a = put_count in let b = fit.count in omega (arith, a, b));
       fits = λ s h. elim (put_cases s h) [
         | inl k ↦ sym (list_fits (dropping x) s.here) ∙ f.fits (left_stand x s) k.0
-        | inr k ↦ all_each (λ (u : StandOf N T A). op_fits u.here) (stands (landed.step_in ∷ landed.path) o) (stands_every op_fits (landed.step_in ∷ landed.path) o ∙ fit.fits) s k
+        | inr k ↦ all_each (λ (u : OpWithPathOf N T A). op_fits u.here) (stands (landed.step_in ∷ landed.path) o) (stands_every op_fits (landed.step_in ∷ landed.path) o ∙ fit.fits) s k
       ];
     }
 
@@ -134,10 +134,10 @@ module _ {N T A : Type 0} (place : Place) (o t : OpOf N T A) (may : MayPut place
     put_wellformed f fit = to_wellformed isolated after (put_each (from_wellformed isolated t f) fit)
 
   -- ids below a number
-  pub put_below : (n : ℕ) → ((s : StandOf N T A) → In s (stands [] t) → stand_id s < n) → ((y : ℕ) → has_id y o ≡ true → y < n) → (s : StandOf N T A) → In s (stands [] after) → stand_id s < n
+  pub put_below : (n : ℕ) → ((s : OpWithPathOf N T A) → In s (stands [] t) → op_with_path_id s < n) → ((y : ℕ) → has_id y o ≡ true → y < n) → (s : OpWithPathOf N T A) → In s (stands [] after) → op_with_path_id s < n
   put_below n f g s h = elim (put_cases s h) [
     | inl k ↦ (let a = f (left_stand x s) k.0 in let e = ap (λ (h : HeadOf N T A). h.id) (same_head x (dropping x) s.here) in omega (arith, a, e))
-    | inr k ↦ g (stand_id s) (stand_present (landed.step_in ∷ landed.path) o s k)
+    | inr k ↦ g (op_with_path_id s) (stand_present (landed.step_in ∷ landed.path) o s k)
   ]
 
   -- the list of the old tree is the list of the new tree without the inserted operations

@@ -10,13 +10,13 @@ use Rattle.ir_tree.specs.declared.value.Value.TheVariants.{Result, Arg}
 use Rattle.ir_tree.specs.Tree.{HeadOf, OpOf, op, RegionsOf, no_regions, region, RegionOf, empty, block, OpsOf, no_ops, next, head}
 use Rattle.ir_tree.specs.Ids.{ids, regions_ids, region_ids, ops_ids, IsNumberedFrom}
 use Rattle.ir_tree.specs.Sites.{Frame, results, arguments, inside, shows, in_scope, results_of}
-use Rattle.ir_tree.specs.Scope.{operands_dominate, regions_operands_seen, region_operands_seen, ops_operands_seen}
+use Rattle.ir_tree.specs.Scope.{operands_dominate, regions_operands_visible, region_operands_visible, ops_operands_visible}
 use Rattle.ir_tree.specs.WellFormed.{IsValidTree}
 use Rattle.ir_tree.proofs.Checked.{seen_operands_visible}
 use Rattle.ir_tree_laws.specs.Renumbered.{value_with_id, with_ids, regions_with_ids, region_with_ids, ops_with_ids, place_in, renumbered}
 use Rattle.ir_tree_laws.proofs.RenumberedPlaces.{first, later}
 use Rattle.ir_tree.proofs.of_types.Sorting.{flips_eq}
-use Rattle.ir_tree.proofs.SeenSites.{shown_last}
+use Rattle.ir_tree.proofs.VisibleSites.{shown_last}
 
 -- the numbers of a range are their own positions
 range_place : (n m y : ℕ) → list_any (λ z. eqb z y) (range_with_len n m) ≡ true → n + place_in (range_with_len n m) y ≡ y
@@ -88,28 +88,28 @@ module _ (f : ℕ → ℕ) where
       mutual
         stays : (s : List Frame) (t : OpOf N T A) → LeavesSeen s → Leaves (ids t) → operands_dominate isolated s t ≡ true → with_ids f t ≡ t
         stays s (op h rs) a k e =
-            let p = and_parts (list_all (in_scope s) h.operands) (regions_operands_seen isolated (inside isolated h s) h.id 0 rs) e in
+            let p = and_parts (list_all (in_scope s) h.operands) (regions_operands_visible isolated (inside isolated h s) h.id 0 rs) e in
             let here = leaves_first h.id (regions_ids rs) k in
             let own = values_stay s h.operands a p.0 in
             let inner = regions_stay (inside isolated h s) h.id 0 rs (inside_stays h s a) here (leaves_rest h.id (regions_ids rs) k) p.1 in
             λ i. op (record h { id = here i; operands = own i }) (inner i)
 
-        regions_stay : (s : List Frame) (o r : ℕ) (rs : RegionsOf N T A) → LeavesSeen s → f o ≡ o → Leaves (regions_ids rs) → regions_operands_seen isolated s o r rs ≡ true → regions_with_ids f rs ≡ rs
+        regions_stay : (s : List Frame) (o r : ℕ) (rs : RegionsOf N T A) → LeavesSeen s → f o ≡ o → Leaves (regions_ids rs) → regions_operands_visible isolated s o r rs ≡ true → regions_with_ids f rs ≡ rs
         regions_stay s o r no_regions a t k e = refl
         regions_stay s o r (region g rs) a t k e =
-            let p = and_parts (region_operands_seen isolated s o r g) (regions_operands_seen isolated s o (r + 1) rs) e in
+            let p = and_parts (region_operands_visible isolated s o r g) (regions_operands_visible isolated s o (r + 1) rs) e in
             λ i. region (region_stays s o r g a t (leaves_left (region_ids g) (regions_ids rs) k) p.0 i) (regions_stay s o (r + 1) rs a t (leaves_right (region_ids g) (regions_ids rs) k) p.1 i)
 
-        region_stays : (s : List Frame) (o r : ℕ) (g : RegionOf N T A) → LeavesSeen s → f o ≡ o → Leaves (region_ids g) → region_operands_seen isolated s o r g ≡ true → region_with_ids f g ≡ g
+        region_stays : (s : List Frame) (o r : ℕ) (g : RegionOf N T A) → LeavesSeen s → f o ≡ o → Leaves (region_ids g) → region_operands_visible isolated s o r g ≡ true → region_with_ids f g ≡ g
         region_stays s o r empty a t k e = refl
         region_stays s o r (block args os) a t k e =
             let g = arguments o r (length args) in
             ap (block args) (ops_stay (s ++ g ∷ []) os (last_stays s g a (arguments_stay o r (length args) t)) k e)
 
-        ops_stay : (s : List Frame) (os : OpsOf N T A) → LeavesSeen s → Leaves (ops_ids os) → ops_operands_seen isolated s os ≡ true → ops_with_ids f os ≡ os
+        ops_stay : (s : List Frame) (os : OpsOf N T A) → LeavesSeen s → Leaves (ops_ids os) → ops_operands_visible isolated s os ≡ true → ops_with_ids f os ≡ os
         ops_stay s no_ops a k e = refl
         ops_stay s (next o os) a k e =
-            let p = and_parts (operands_dominate isolated s o) (ops_operands_seen isolated (s ++ results_of o ∷ []) os) e in
+            let p = and_parts (operands_dominate isolated s o) (ops_operands_visible isolated (s ++ results_of o ∷ []) os) e in
             let preceding = leaves_left (ids o) (ops_ids os) k in
             let trailing = ops_stay (s ++ results_of o ∷ []) os (last_stays s (results_of o) a (op_stays o preceding)) (leaves_right (ids o) (ops_ids os) k) p.1 in
             λ i. next (stays s o a preceding p.0 i) (trailing i)

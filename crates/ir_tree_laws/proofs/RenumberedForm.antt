@@ -6,13 +6,13 @@ use Rattle.ir_tree.specs.Ids.{ids}
 use Rattle.ir_tree.specs.Limits.{most_around}
 use Rattle.ir_tree.specs.Sites.{visible}
 use Rattle.ir_tree.specs.WellFormed.{IsValidTree}
-use Rattle.ir_tree_laws.specs.Renumbered.{value_with_id, with_ids, place_in, renumbered, TellsApart}
+use Rattle.ir_tree_laws.specs.Renumbered.{value_with_id, with_ids, place_in, renumbered, MapsApart}
 use Rattle.ir_tree_laws.proofs.RenumberedPlaces.{places_tell}
 use Rattle.ir_tree_laws.proofs.RenumberedSame.{depth_with, counts_with}
 use Rattle.ir_tree_laws.proofs.RenumberedDominance.{visible_with, operands_visible_with}
 
 module _ {N T A : Type 0} (isolated : N → Bool) where
-  pub wellformed_with : (f : ℕ → ℕ) (t : OpOf N T A) → TellsApart f (ids t) → IsValidTree isolated t → IsValidTree isolated (with_ids f t)
+  pub wellformed_with : (f : ℕ → ℕ) (t : OpOf N T A) → MapsApart f (ids t) → IsValidTree isolated t → IsValidTree isolated (with_ids f t)
   wellformed_with f t k w = record {
     visible = operands_visible_with f isolated t k ∙ w.visible;
     shallow = subst (λ n. n ≤ most_around) (sym (depth_with f t)) w.shallow;

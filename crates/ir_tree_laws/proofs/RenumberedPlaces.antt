@@ -3,7 +3,7 @@ use Rattle.std.proofs.Common.{◌≡◌, refl, ap, sym, ◌∙◌, ℕ, ◌+◌,
 use Rattle.std.proofs.lemmas.Bool.{or_left, or_right}
 use Rattle.std.proofs.lemmas.Bool.Decides.{eqb_tells}
 use Rattle.std.specs.List.{AllByRecursion, IsDistinct, list_any, range_with_len}
-use Rattle.ir_tree_laws.specs.Renumbered.{place_in, TellsApart}
+use Rattle.ir_tree_laws.specs.Renumbered.{place_in, MapsApart}
 use Rattle.ir_tree.proofs.of_types.Sorting.{flips_eq}
 
 -- the position of a number that isn't the first
@@ -52,7 +52,7 @@ first_or_later n = elim (eqb_tells 0 (1 + n)) [ inl d ↦ absurd (none n d.1) | 
     none n e = omega arith
 
 -- the positions of a list's numbers differ from those of all other numbers
-pub places_tell : (xs : List ℕ) → TellsApart (place_in xs) xs
+pub places_tell : (xs : List ℕ) → MapsApart (place_in xs) xs
 places_tell [] x y h = absurd (true≢false (sym h))
 places_tell (z ∷ zs) x y h =
     elim (eqb_tells x z) [
@@ -78,7 +78,7 @@ place_at (z ∷ zs) ys x d = later z (zs ++ x ∷ ys) x (flips_eq x z ∙ traili
     trailing (w ∷ ws) h = trailing ws h.1
 
 -- distinct numbers are mapped to distinct numbers
-pub distinct_with : (f : ℕ → ℕ) (xs : List ℕ) → TellsApart f xs → IsDistinct eqb xs → IsDistinct eqb (map f xs)
+pub distinct_with : (f : ℕ → ℕ) (xs : List ℕ) → MapsApart f xs → IsDistinct eqb xs → IsDistinct eqb (map f xs)
 unfolding IsDistinct
 distinct_with f [] t d = tt
 distinct_with f (x ∷ xs) t d = (others xs d.0, distinct_with f xs (λ y z h. t y z (or_right (eqb x z) (list_any (λ w. eqb w z) xs) h)) d.1)

@@ -8,7 +8,7 @@ use Rattle.ir_tree.specs.Ids.{ids, regions_ids, region_ids, ops_ids, HasDistinct
 use Rattle.ir_tree.specs.Limits.{depth, regions_depth, region_depth, ops_depth, every, regions_every, region_every, ops_every, most_ops, most_items, most_regions, items_fit, arguments_pass, all_arguments_pass, op_fits, counts_fit}
 use Rattle.ir_tree.specs.Meaning.{dictionaries_rise}
 use Rattle.ir_tree.specs.Passing.{head_passes, op_passes, all_pass}
-use Rattle.ir_tree_laws.specs.Renumbered.{value_with_id, head_with_ids, with_ids, regions_with_ids, region_with_ids, ops_with_ids, place_in, renumbered, TellsApart}
+use Rattle.ir_tree_laws.specs.Renumbered.{value_with_id, head_with_ids, with_ids, regions_with_ids, region_with_ids, ops_with_ids, place_in, renumbered, MapsApart}
 use Rattle.ir_tree_laws.proofs.RenumberedPlaces.{places, places_tell, distinct_with}
 
 module _ {N T A : Type 0} (f : ℕ → ℕ) where
@@ -106,7 +106,7 @@ module _ {N T A : Type 0} (f : ℕ → ℕ) where
 pub numbered : {N T A : Type 0} (t : OpOf N T A) → HasDistinctIds t → IsNumberedFrom 0 (renumbered t)
 numbered t d = ids_with (place_in (ids t)) t ∙ places (ids t) d ∙ ap (range_with_len 0) (sym (op_count_with (place_in (ids t)) t))
 
-pub distinct : {N T A : Type 0} (f : ℕ → ℕ) (t : OpOf N T A) → TellsApart f (ids t) → HasDistinctIds t → HasDistinctIds (with_ids f t)
+pub distinct : {N T A : Type 0} (f : ℕ → ℕ) (t : OpOf N T A) → MapsApart f (ids t) → HasDistinctIds t → HasDistinctIds (with_ids f t)
 distinct f t k d = subst (IsDistinct eqb) (sym (ids_with f t)) (distinct_with f (ids t) k d)
 
 pub distinct_renumbered : {N T A : Type 0} (t : OpOf N T A) → HasDistinctIds t → HasDistinctIds (renumbered t)

@@ -18,7 +18,7 @@ use Rattle.ir_tree.specs.WellFormed.{ModuleOf, IsWellFormed}
 use Rattle.ir_tree.proofs.Heads.{alike_operand, head_visible}
 use Rattle.ir_tree.proofs.Returns.{halves}
 use Rattle.ir_tree_laws.specs.Members.{In}
-use Rattle.ir_tree_laws.specs.Stands.{StepOf, StandOf, stand_id, stand_of, stands, ops_stands, dominated_by, place_in, dropping}
+use Rattle.ir_tree_laws.specs.Stands.{StepOf, OpWithPathOf, op_with_path_id, op_with_path, stands, ops_stands, dominated_by, place_in, dropping}
 use Rattle.ir_tree_laws.specs.Tables.{table_of}
 use Rattle.ir_tree_laws.specs.Values.{region_at}
 use Rattle.ir_tree_laws.specs.Reads.{around, is_among}
@@ -89,8 +89,8 @@ module _ {N T A : Type 0} where
   inside_goes t d o a q h y e = elim (bool_cases (has_id y o)) [
     | inr k ↦ k
     | inl k ↦ (let w = part t d o a q h in
-        let preceding = map (λ (z : StandOf N T A). stand_id z) w.preceding in
-        let back = map (λ (z : StandOf N T A). stand_id z) w.back in
+        let preceding = map (λ (z : OpWithPathOf N T A). op_with_path_id z) w.preceding in
+        let back = map (λ (z : OpWithPathOf N T A). op_with_path_id z) w.back in
         let all = halves preceding (ids o ++ back) (subst (IsDistinct eqb) (parted_ids (head o).id (a ∷ q) o t w) d) in
         let mid = halves (ids o) back all.right in
         absurd (elim (parts preceding back (sym (ap (list_any (λ z. eqb z y)) (left_ids (head o).id (a ∷ q) o t w)) ∙ e)) [
@@ -154,9 +154,9 @@ module _ {N T A : Type 0} where
       let s = point_of place (without x t) h in
       let w = found_stands place.parent (without x t) s.parent s.found in
       let m = member_left x t w.0 w.1 in
-      let id : stand_id m.0 ≡ place.parent = ap (λ (h : HeadOf N T A). h.id) (sym (same_head x (dropping x) m.0.here)) ∙ ap (λ (z : StandOf N T A). stand_id z) (sym m.3) ∙ w.2 in
+      let id : op_with_path_id m.0 ≡ place.parent = ap (λ (h : HeadOf N T A). h.id) (sym (same_head x (dropping x) m.0.here)) ∙ ap (λ (z : OpWithPathOf N T A). op_with_path_id z) (sym m.3) ∙ w.2 in
       let found : find place.parent t ≡ Some m.0.here = ap (λ z. find z t) (sym id) ∙ stand_found t d m.0 m.1 in
-      let is : region_at place.region (regions (each_list (dropping x) m.0.here)) ≡ Some (block s.args s.list) = ap (λ (z : OpOf N T A). region_at place.region (regions z)) (ap (λ (z : StandOf N T A). z.here) (sym m.3) ∙ w.3) ∙ s.is in
+      let is : region_at place.region (regions (each_list (dropping x) m.0.here)) ≡ Some (block s.args s.list) = ap (λ (z : OpOf N T A). region_at place.region (regions z)) (ap (λ (z : OpWithPathOf N T A). z.here) (sym m.3) ∙ w.3) ∙ s.is in
       let g = block_was m.0.here s.args s.list is in
       of_point place t (record { parent = m.0.here; found = found; args = s.args; list = g.0; is = g.1; among = in_before x place.before g.0 (ap (λ os. is_in_list place.before (Some os)) (sym g.2) ∙ s.among) })
     where
@@ -176,7 +176,7 @@ module _ {N T A : Type 0} where
   fits_there isolated m w o a q h =
       let g = from_wellformed isolated m.tree w.wellformed in
       let e = stands_depth (a ∷ q) o in
-      let n = greatest_within (λ (s : StandOf N T A). length s.path) most_around (stands (a ∷ q) o) (λ s k. g.shallow s (within o (a ∷ q) s k [] m.tree h)) in
+      let n = greatest_within (λ (s : OpWithPathOf N T A). length s.path) most_around (stands (a ∷ q) o) (λ s k. g.shallow s (within o (a ∷ q) s k [] m.tree h)) in
       omega (arith, e, n)
 
   -- an operation is shifted back
@@ -188,21 +188,21 @@ module _ {N T A : Type 0} where
       back : shifted x old n.tree ≡ m.tree
       back = shifted_back is_table x old new m n w.distinct c
 
-      z : (s : StandOf N T A) × In s (stands [] n.tree) × (stand_id s ≡ x) × (place_in s.path ≡ Some new)
+      z : (s : OpWithPathOf N T A) × In s (stands [] n.tree) × (op_with_path_id s ≡ x) × (place_in s.path ≡ Some new)
       z = member_of_place x new n.tree c.is
 
       inner : eqb (head n.tree).id x ≡ false
       inner = elim (bool_cases (eqb (head n.tree).id x)) [
         | inr k ↦ k
         | inl k ↦ (let same = same_stand n.tree u.distinct z.0 (stand n.tree []) z.1 (root n.tree) (z.2 ∙ sym (eqb-true (head n.tree).id x k)) in
-            let bad : None ≡ Some new = ap (λ (s : StandOf N T A). place_in s.path) (sym same) ∙ z.3 in
+            let bad : None ≡ Some new = ap (λ (s : OpWithPathOf N T A). place_in s.path) (sym same) ∙ z.3 in
             absurd cc)
       ]
         where
           root : (t : OpOf N T A) → In (stand t []) (stands [] t)
           root (op h rs) = inl refl
 
-      go : (s : StandOf N T A) → In s (stands [] m.tree) → stand_id s ≡ x → (p : List (StepOf N T A)) → s.path ≡ p → place_in s.path ≡ Some old → shift_reason isolated is_table x old n.tree ≡ None
+      go : (s : OpWithPathOf N T A) → In s (stands [] m.tree) → op_with_path_id s ≡ x → (p : List (StepOf N T A)) → s.path ≡ p → place_in s.path ≡ Some old → shift_reason isolated is_table x old n.tree ≡ None
       go s h id [] p e = (let bad : None ≡ Some old = sym (ap place_in p) ∙ e in absurd cc)
       go s h id (a ∷ q) p e =
           let o = s.here in
@@ -216,7 +216,7 @@ module _ {N T A : Type 0} where
           let is : Some (record { parent = (head a.parent).id; region = a.region; before = first_id a.rest }) ≡ Some old = sym (ap place_in p) ∙ e in
           let parent : (head a.parent).id ≡ old.parent = cc in
           let up = (around_there m.tree o a q there).1 in
-          let was : around old.parent m.tree ≡ Some (length q) = sym (stands_around old.parent [] m.tree) ∙ ap (option_map (λ (s : StandOf N T A). length s.path)) (ap (λ y. stand_of y m.tree) (sym parent) ∙ stand_of_member m.tree w.distinct (stand a.parent q) up) in
+          let was : around old.parent m.tree ≡ Some (length q) = sym (stands_around old.parent [] m.tree) ∙ ap (option_map (λ (s : OpWithPathOf N T A). length s.path)) (ap (λ y. op_with_path y m.tree) (sym parent) ∙ stand_of_member m.tree w.distinct (stand a.parent q) up) in
           let around_is : around old.parent n.tree ≡ Some (length q) =
           sym (around_stays x n.tree u.distinct old.parent (point_parent old (without x n.tree) left)) ∙ ap (around old.parent) c.rest ∙ around_stays x m.tree w.distinct old.parent (point_parent old (without x m.tree) left_old) ∙ was in
           passed _ NoSuchOp _ ((λ i. has_id x n.tree && point_parent old n.tree point i) ∙ ap (λ b. b && true) (subst (λ y. has_id y n.tree ≡ true) z.2 (stand_present [] n.tree z.0 z.1)))

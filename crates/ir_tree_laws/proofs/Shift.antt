@@ -16,7 +16,7 @@ use Rattle.ir_tree.proofs.Returns.{halves}
 use Rattle.ir_tree_laws.specs.Values.{region_at}
 use Rattle.ir_tree_laws.specs.Reads.{around, is_among}
 use Rattle.ir_tree_laws.specs.Reasons.{is_in_list, has_place, fits_around, leads_inside, before_within}
-use Rattle.ir_tree_laws.specs.Stands.{StepOf, StandOf, stand_id, stands, stand_in, dominated_by, is_gone, gone_in, left_stand, left_step, dropping, place_in}
+use Rattle.ir_tree_laws.specs.Stands.{StepOf, OpWithPathOf, op_with_path_id, stands, find_op_with_path, dominated_by, is_gone, gone_in, left_stand, left_step, dropping, place_in}
 use Rattle.ir_tree_laws.specs.Members.{In}
 use Rattle.ir_tree_laws.proofs.Listed.{all_each, bool_cases, either, neither, or_left, or_right}
 use Rattle.ir_tree_laws.proofs.Members.{stand, itself, within, has_around, found_stands, stand_of_member, same_stand, stand_found, found_in}
@@ -69,11 +69,11 @@ module _ {N T A : Type 0} where
   inner_of x t o e r =
       let s = found_stands x t o e in
       elim (has_around [] t s.0 s.1) [
-        | inl k ↦ absurd (true≢false (sym (eq-eqb (head t).id x (ap (λ (z : StandOf N T A). stand_id z) (sym k) ∙ s.2)) ∙ r))
+        | inl k ↦ absurd (true≢false (sym (eq-eqb (head t).id x (ap (λ (z : OpWithPathOf N T A). op_with_path_id z) (sym k) ∙ s.2)) ∙ r))
         | inr w ↦ record {
           step_in = w.0;
           path = w.1;
-          there = subst (λ (z : StandOf N T A). In z (stands [] t)) (λ i. stand (s.3 i) (w.2 i)) s.1;
+          there = subst (λ (z : OpWithPathOf N T A). In z (stands [] t)) (λ i. stand (s.3 i) (w.2 i)) s.1;
           id = ap (λ (z : OpOf N T A). (head z).id) (sym s.3) ∙ s.2;
         }
       ]
@@ -106,7 +106,7 @@ module _ {N T A : Type 0} (x : ℕ) (place : Place) (t o : OpOf N T A) (d : HasD
   own_id o = stand_present [] o (stand o []) (itself [] o)
 
   -- the operations inside it don't remain
-  in_it : (y : ℕ) → has_id y o ≡ true → (s : StandOf N T A) × In s (stands [] t) × (stand_id s ≡ y) × (is_gone x s ≡ true)
+  in_it : (y : ℕ) → has_id y o ≡ true → (s : OpWithPathOf N T A) × In s (stands [] t) × (op_with_path_id s ≡ y) × (is_gone x s ≡ true)
   in_it y h =
       let s = present_stand (inner.step_in ∷ inner.path) o y h in
       (s.0, within o (inner.step_in ∷ inner.path) s.0 s.1 [] t inner.there, s.2, within_gone x o (inner.step_in ∷ inner.path) (or_left (eqb (head o).id x) (gone_in x inner.step_in.parent inner.path) (eq-eqb (head o).id x inner.id)) s.0 s.1)
@@ -117,25 +117,25 @@ module _ {N T A : Type 0} (x : ℕ) (place : Place) (t o : OpOf N T A) (d : HasD
     | inl k ↦ (let v = present_stand [] u y k in
         let m = member_left x t v.0 v.1 in
         let z = in_it y h in
-        let id : stand_id m.0 ≡ stand_id z.0 = ap (λ (h : HeadOf N T A). h.id) (sym (same_head x (dropping x) m.0.here)) ∙ ap (λ (z : StandOf N T A). stand_id z) (sym m.3) ∙ v.2 ∙ sym z.2 in
+        let id : op_with_path_id m.0 ≡ op_with_path_id z.0 = ap (λ (h : HeadOf N T A). h.id) (sym (same_head x (dropping x) m.0.here)) ∙ ap (λ (z : OpWithPathOf N T A). op_with_path_id z) (sym m.3) ∙ v.2 ∙ sym z.2 in
         let same = same_stand t d m.0 z.0 m.1 z.1 id in
         absurd (true≢false (sym z.3 ∙ ap (is_gone x) (sym same) ∙ m.2)))
   ]
 
   -- the operations outside it remain
-  stays : (s : StandOf N T A) → In s (stands [] t) → has_id (stand_id s) o ≡ false → is_gone x s ≡ false
+  stays : (s : OpWithPathOf N T A) → In s (stands [] t) → has_id (op_with_path_id s) o ≡ false → is_gone x s ≡ false
   stays s h k = elim (bool_cases (is_gone x s)) [
     | inr l ↦ l
     | inl l ↦ (let w = gone_within x t s.path s.here h l in
         let same = same_stand t d (stand w.here (w.step_in ∷ w.path)) (stand o (inner.step_in ∷ inner.path)) w.there inner.there (w.id ∙ sym inner.id) in
-        let inside : In s (stands (inner.step_in ∷ inner.path) o) = subst (λ (z : StandOf N T A). In s (stands z.path z.here)) same w.inner in
+        let inside : In s (stands (inner.step_in ∷ inner.path) o) = subst (λ (z : OpWithPathOf N T A). In s (stands z.path z.here)) same w.inner in
         absurd (true≢false (sym (stand_present (inner.step_in ∷ inner.path) o s inside) ∙ k)))
   ]
 
   abbrev sp : Point place t
   sp = point_of place t point
 
-  parent_stand : (s : StandOf N T A) × In s (stands [] t) × (stand_id s ≡ place.parent) × (s.here ≡ sp.parent)
+  parent_stand : (s : OpWithPathOf N T A) × In s (stands [] t) × (op_with_path_id s ≡ place.parent) × (s.here ≡ sp.parent)
   parent_stand = found_stands place.parent t sp.parent sp.found
 
   parent_out : has_id place.parent o ≡ false
@@ -147,7 +147,7 @@ module _ {N T A : Type 0} (x : ℕ) (place : Place) (t o : OpOf N T A) (d : HasD
   left_parent : In (left_stand x parent_stand.0) (stands [] u)
   left_parent = left_member x t parent_stand.0 parent_stand.1 parent_stays
 
-  left_id : stand_id (left_stand x parent_stand.0) ≡ place.parent
+  left_id : op_with_path_id (left_stand x parent_stand.0) ≡ place.parent
   left_id = ap (λ (h : HeadOf N T A). h.id) (same_head x (dropping x) parent_stand.0.here) ∙ parent_stand.2
 
   left_point : has_place place u ≡ true
@@ -194,30 +194,30 @@ module _ {N T A : Type 0} (x : ℕ) (place : Place) (t o : OpOf N T A) (d : HasD
   shift_around : around place.parent (without x t) ≡ around place.parent t
   shift_around =
       sym (stands_around place.parent [] u)
-      ∙ ap (option_map (λ (s : StandOf N T A). length s.path)) (ap (λ z. stand_in z (stands [] u)) (sym left_id) ∙ stand_of_member u (left_distinct x t d) (left_stand x parent_stand.0) left_parent)
+      ∙ ap (option_map (λ (s : OpWithPathOf N T A). length s.path)) (ap (λ z. find_op_with_path z (stands [] u)) (sym left_id) ∙ stand_of_member u (left_distinct x t d) (left_stand x parent_stand.0) left_parent)
       ∙ ap Some (length-map parent_stand.0.path (left_step x))
       ∙ sym (sym (stands_around place.parent [] t)
-      ∙ ap (option_map (λ (s : StandOf N T A). length s.path)) (ap (λ z. stand_in z (stands [] t)) (sym parent_stand.2) ∙ stand_of_member t d parent_stand.0 parent_stand.1))
+      ∙ ap (option_map (λ (s : OpWithPathOf N T A). length s.path)) (ap (λ z. find_op_with_path z (stands [] t)) (sym parent_stand.2) ∙ stand_of_member t d parent_stand.0 parent_stand.1))
 
   -- each operation was in the tree before, with the same id and counts; its depth is the same, or it was shifted
-  pub shift_cases : (s : StandOf N T A) → In s (stands [] after) → (z : StandOf N T A) × In z (stands [] t) × (stand_id s ≡ stand_id z) × (op_fits s.here ≡ op_fits z.here) × ((length s.path ≡ length z.path) ⊎ In s (stands ((put_form.landed place o u may_shift).step_in ∷ (put_form.landed place o u may_shift).path) o))
+  pub shift_cases : (s : OpWithPathOf N T A) → In s (stands [] after) → (z : OpWithPathOf N T A) × In z (stands [] t) × (op_with_path_id s ≡ op_with_path_id z) × (op_fits s.here ≡ op_fits z.here) × ((length s.path ≡ length z.path) ⊎ In s (stands ((put_form.landed place o u may_shift).step_in ∷ (put_form.landed place o u may_shift).path) o))
   shift_cases s h = elim (put_form.put_cases place o u may_shift s h) [
     | inl k ↦ (let m = member_left x t (left_stand (head o).id s) k.0 in
         let y = (head o).id in (
           m.0,
           m.1,
-          ap (λ (h : HeadOf N T A). h.id) (sym (same_head y (dropping y) s.here)) ∙ ap (λ (z : StandOf N T A). stand_id z) m.3 ∙ ap (λ (h : HeadOf N T A). h.id) (same_head x (dropping x) m.0.here),
-          sym (list_fits (dropping y) s.here) ∙ ap (λ (z : StandOf N T A). op_fits z.here) m.3 ∙ list_fits (dropping x) m.0.here,
-          inl (sym (length-map s.path (left_step y)) ∙ ap (λ (z : StandOf N T A). length z.path) m.3 ∙ length-map m.0.path (left_step x)),
+          ap (λ (h : HeadOf N T A). h.id) (sym (same_head y (dropping y) s.here)) ∙ ap (λ (z : OpWithPathOf N T A). op_with_path_id z) m.3 ∙ ap (λ (h : HeadOf N T A). h.id) (same_head x (dropping x) m.0.here),
+          sym (list_fits (dropping y) s.here) ∙ ap (λ (z : OpWithPathOf N T A). op_fits z.here) m.3 ∙ list_fits (dropping x) m.0.here,
+          inl (sym (length-map s.path (left_step y)) ∙ ap (λ (z : OpWithPathOf N T A). length z.path) m.3 ∙ length-map m.0.path (left_step x)),
         ))
     | inr k ↦ (let l = put_form.landed place o u may_shift in
-        let w = present_stand (inner.step_in ∷ inner.path) o (stand_id s) (stand_present (l.step_in ∷ l.path) o s k) in
+        let w = present_stand (inner.step_in ∷ inner.path) o (op_with_path_id s) (stand_present (l.step_in ∷ l.path) o s k) in
         let e = same_here s k w.0 w.1 w.2 in
         (w.0, within o (inner.step_in ∷ inner.path) w.0 w.1 [] t inner.there, sym w.2, ap op_fits e, inr k))
   ]
     where
       -- two operations of one id inside an operation are equal
-      same_here : (s : StandOf N T A) → In s (stands ((put_form.landed place o u may_shift).step_in ∷ (put_form.landed place o u may_shift).path) o) → (z : StandOf N T A) → In z (stands (inner.step_in ∷ inner.path) o) → stand_id z ≡ stand_id s → s.here ≡ z.here
+      same_here : (s : OpWithPathOf N T A) → In s (stands ((put_form.landed place o u may_shift).step_in ∷ (put_form.landed place o u may_shift).path) o) → (z : OpWithPathOf N T A) → In z (stands (inner.step_in ∷ inner.path) o) → op_with_path_id z ≡ op_with_path_id s → s.here ≡ z.here
       same_here s k z l e =
           let own = own_distinct x t o d found in
           let a = found_in ((put_form.landed place o u may_shift).step_in ∷ (put_form.landed place o u may_shift).path) o own s k in
@@ -231,7 +231,7 @@ module _ {N T A : Type 0} (x : ℕ) (place : Place) (t o : OpOf N T A) (d : HasD
         let f = from_wellformed isolated t wellformed in
         let l = put_form.landed place o u may_shift in
         to_wellformed isolated after (record {
-          dominated_by_own = all_each (λ (s : StandOf N T A). list_all (dominated_by isolated s.path) (head s.here).operands) (stands [] after) (sym (stands_operands isolated after) ∙ seen);
+          dominated_by_own = all_each (λ (s : OpWithPathOf N T A). list_all (dominated_by isolated s.path) (head s.here).operands) (stands [] after) (sym (stands_operands isolated after) ∙ seen);
           shallow = λ s h. let c = shift_cases s h in elim c.4 [
             | inl k ↦ (let a = f.shallow c.0 c.1 in omega (arith, a, k))
             | inr k ↦ (let a = within_depth isolated (l.step_in ∷ l.path) o s k in
@@ -248,5 +248,5 @@ module _ {N T A : Type 0} (x : ℕ) (place : Place) (t o : OpOf N T A) (d : HasD
             let c = shift_cases s.0 s.1 in
             subst (λ q. list_any (λ z. eqb z q) (ids t) ≡ true) (sym c.2 ∙ s.2) (stand_present [] t c.0 c.1)
 
-  pub shift_below : (n : ℕ) → ((s : StandOf N T A) → In s (stands [] t) → stand_id s < n) → (s : StandOf N T A) → In s (stands [] after) → stand_id s < n
+  pub shift_below : (n : ℕ) → ((s : OpWithPathOf N T A) → In s (stands [] t) → op_with_path_id s < n) → (s : OpWithPathOf N T A) → In s (stands [] after) → op_with_path_id s < n
   shift_below n f s h = let c = shift_cases s h in let a = f c.0 c.1 in let e = c.2 in omega (arith, a, e)

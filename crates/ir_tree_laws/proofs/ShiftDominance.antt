@@ -15,7 +15,7 @@ use Rattle.ir_tree.specs.Places.{without, shifted}
 use Rattle.ir_tree.proofs.Replaced.{same_value_refl, same_value_true}
 use Rattle.ir_tree_laws.specs.Members.{In}
 use Rattle.ir_tree_laws.specs.Reasons.{has_place, leads_inside}
-use Rattle.ir_tree_laws.specs.Stands.{StepOf, StandOf, stand_id, stands, gather, dominated_by, gone_in, is_gone, left_stand, dropping}
+use Rattle.ir_tree_laws.specs.Stands.{StepOf, OpWithPathOf, op_with_path_id, stands, gather, dominated_by, gone_in, is_gone, left_stand, dropping}
 use Rattle.ir_tree_laws.proofs.Listed.{bool_cases, all_each, each_all, in_parts, either, both, or_left, or_right}
 use Rattle.ir_tree_laws.proofs.Readings.{stands_every, stands_uses}
 use Rattle.ir_tree_laws.proofs.Members.{stand, within, has_around, found_stands, stand_found, same_stand}
@@ -49,11 +49,11 @@ module _ {N T A : Type 0} (isolated : N → Bool) where
   abbrev dominated_by_own : OpOf N T A → OpOf N T A → Bool
   dominated_by_own t q = list_all (visible isolated t (head q).id) (head q).operands
 
-  each_dominated_by : (t : OpOf N T A) → HasDistinctIds t → operands_visible isolated t ≡ true → (s : StandOf N T A) → In s (stands [] t) → list_all (visible isolated t (stand_id s)) (head s.here).operands ≡ true
-  each_dominated_by t d e s h = all_each (λ (z : StandOf N T A). dominated_by_own t z.here) (stands [] t) (stands_every (dominated_by_own t) [] t ∙ sym (operands_visible_each isolated t d) ∙ e) s h
+  each_dominated_by : (t : OpOf N T A) → HasDistinctIds t → operands_visible isolated t ≡ true → (s : OpWithPathOf N T A) → In s (stands [] t) → list_all (visible isolated t (op_with_path_id s)) (head s.here).operands ≡ true
+  each_dominated_by t d e s h = all_each (λ (z : OpWithPathOf N T A). dominated_by_own t z.here) (stands [] t) (stands_every (dominated_by_own t) [] t ∙ sym (operands_visible_each isolated t d) ∙ e) s h
 
-  all_see : (t : OpOf N T A) → HasDistinctIds t → ((s : StandOf N T A) → In s (stands [] t) → list_all (visible isolated t (stand_id s)) (head s.here).operands ≡ true) → operands_visible isolated t ≡ true
-  all_see t d f = operands_visible_each isolated t d ∙ sym (stands_every (dominated_by_own t) [] t) ∙ each_all (λ (z : StandOf N T A). dominated_by_own t z.here) (stands [] t) f
+  all_see : (t : OpOf N T A) → HasDistinctIds t → ((s : OpWithPathOf N T A) → In s (stands [] t) → list_all (visible isolated t (op_with_path_id s)) (head s.here).operands ≡ true) → operands_visible isolated t ≡ true
+  all_see t d f = operands_visible_each isolated t d ∙ sym (stands_every (dominated_by_own t) [] t) ∙ each_all (λ (z : OpWithPathOf N T A). dominated_by_own t z.here) (stands [] t) f
 
   -- an argument is visible within its operation only
   argument_within : (x r k : ℕ) (t : OpOf N T A) → eqb (head t).id x ≡ false → (path : List (StepOf N T A)) (o : OpOf N T A) → In (stand o path) (stands [] t) → dominated_by isolated path (Arg x r k) ≡ true → gone_in x o path ≡ true
@@ -76,7 +76,7 @@ module _ {N T A : Type 0} (isolated : N → Bool) where
         where
           outermost : (t p : OpOf N T A) → In (stand p []) (stands [] t) → (head t).id ≡ (head p).id
           outermost t p h = elim (has_around [] t (stand p []) h) [
-            | inl k ↦ ap (λ (z : StandOf N T A). stand_id z) (sym k)
+            | inl k ↦ ap (λ (z : OpWithPathOf N T A). op_with_path_id z) (sym k)
             | inr w ↦ (let bad : [] ≡ w.0 ∷ w.1 = w.2 in absurd cc)
           ]
       own (b ∷ q) h s = or_left (eqb (head a.parent).id x) (gone_in x b.parent q) (eq-eqb (head a.parent).id x (sym s))
@@ -96,7 +96,7 @@ module _ {N T A : Type 0} (isolated : N → Bool) where
     after_rest = ap (without x) (shift.is_put x place t o d found root point out) ∙ shift.shift_rest x place t o d found root point out
 
     -- the shifted operations are inside it
-    inside : (u : OpOf N T A) → HasDistinctIds u → find x u ≡ Some o → (s : StandOf N T A) → In s (stands [] u) → is_gone x s ≡ true → (path : List (StepOf N T A)) × In s (stands path o)
+    inside : (u : OpOf N T A) → HasDistinctIds u → find x u ≡ Some o → (s : OpWithPathOf N T A) → In s (stands [] u) → is_gone x s ≡ true → (path : List (StepOf N T A)) × In s (stands path o)
     inside u e f s h g =
         let w = gone_within x u s.path s.here h g in
         let same : Some w.here ≡ Some o = sym (stand_found u e (stand w.here (w.step_in ∷ w.path)) w.there) ∙ ap (λ z. find z u) w.id ∙ f in
@@ -104,33 +104,33 @@ module _ {N T A : Type 0} (isolated : N → Bool) where
         (w.step_in ∷ w.path, subst (λ (z : OpOf N T A). In s (stands (w.step_in ∷ w.path) z)) one w.inner)
 
     -- the other operations have the same head before and after
-    left_there : (u : OpOf N T A) → (s : StandOf N T A) → In s (stands [] u) → is_gone x s ≡ false → has_id (stand_id s) (without x u) ≡ true
+    left_there : (u : OpOf N T A) → (s : OpWithPathOf N T A) → In s (stands [] u) → is_gone x s ≡ false → has_id (op_with_path_id s) (without x u) ≡ true
     left_there u s h g = ap (λ (z : HeadOf N T A). has_id z.id (without x u)) (sym (same_head x (dropping x) s.here)) ∙ stand_present [] (without x u) (left_stand x s) (left_member x u s h g)
 
-    abbrev Duplicate : StandOf N T A → OpOf N T A → Type 0
-    Duplicate s u = (z : StandOf N T A) × In z (stands [] u) × (head z.here ≡ head s.here)
+    abbrev Duplicate : OpWithPathOf N T A → OpOf N T A → Type 0
+    Duplicate s u = (z : OpWithPathOf N T A) × In z (stands [] u) × (head z.here ≡ head s.here)
 
-    duplicate : (u : OpOf N T A) (s : StandOf N T A) → option_map head (find (stand_id s) u) ≡ Some (head s.here) → Duplicate s u
-    duplicate u s e = go (find (stand_id s) u) refl e
+    duplicate : (u : OpOf N T A) (s : OpWithPathOf N T A) → option_map head (find (op_with_path_id s) u) ≡ Some (head s.here) → Duplicate s u
+    duplicate u s e = go (find (op_with_path_id s) u) refl e
       where
-        go : (f : Option (OpOf N T A)) → find (stand_id s) u ≡ f → option_map head f ≡ Some (head s.here) → Duplicate s u
+        go : (f : Option (OpOf N T A)) → find (op_with_path_id s) u ≡ f → option_map head f ≡ Some (head s.here) → Duplicate s u
         go None g e = absurd cc
         go (Some q) g e =
-            let w = found_stands (stand_id s) u q g in
+            let w = found_stands (op_with_path_id s) u q g in
             let same : head q ≡ head s.here = cc in
             (w.0, w.1, ap head w.3 ∙ same)
 
     -- an operation outside has a counterpart in the shifted tree
-    forth : (s : StandOf N T A) → In s (stands [] t) → is_gone x s ≡ false → Duplicate s (shifted x place t)
+    forth : (s : OpWithPathOf N T A) → In s (stands [] t) → is_gone x s ≡ false → Duplicate s (shifted x place t)
     forth s h g =
         let k = left_there t s h g in
-        duplicate after s (sym (head_stays x after after_distinct (stand_id s) (ap (has_id (stand_id s)) after_rest ∙ k)) ∙ ap (λ z. option_map head (find (stand_id s) z)) after_rest ∙ head_stays x t d (stand_id s) k ∙ ap (option_map head) (stand_found t d s h))
+        duplicate after s (sym (head_stays x after after_distinct (op_with_path_id s) (ap (has_id (op_with_path_id s)) after_rest ∙ k)) ∙ ap (λ z. option_map head (find (op_with_path_id s) z)) after_rest ∙ head_stays x t d (op_with_path_id s) k ∙ ap (option_map head) (stand_found t d s h))
 
     -- and the other way round
-    back : (s : StandOf N T A) → In s (stands [] (shifted x place t)) → is_gone x s ≡ false → Duplicate s t
+    back : (s : OpWithPathOf N T A) → In s (stands [] (shifted x place t)) → is_gone x s ≡ false → Duplicate s t
     back s h g =
         let k = left_there after s h g in
-        duplicate t s (sym (head_stays x t d (stand_id s) (ap (has_id (stand_id s)) (sym after_rest) ∙ k)) ∙ ap (λ z. option_map head (find (stand_id s) z)) (sym after_rest) ∙ head_stays x after after_distinct (stand_id s) k ∙ ap (option_map head) (stand_found after after_distinct s h))
+        duplicate t s (sym (head_stays x t d (op_with_path_id s) (ap (has_id (op_with_path_id s)) (sym after_rest) ∙ k)) ∙ ap (λ z. option_map head (find (op_with_path_id s) z)) (sym after_rest) ∙ head_stays x after after_distinct (op_with_path_id s) k ∙ ap (option_map head) (stand_found after after_distinct s h))
 
     abbrev DominatedByInside : Type 0
     DominatedByInside = every (λ q. list_all (visible isolated (shifted x place t) (head q).id) (head q).operands) o ≡ true
@@ -143,35 +143,35 @@ module _ {N T A : Type 0} (isolated : N → Bool) where
     seen_inside e =
         let w = found_stands x after o after_found in
         let there : In (stand o w.0.path) (stands [] after) = subst (λ (z : OpOf N T A). In (stand z w.0.path) (stands [] after)) w.3 w.1 in
-        sym (stands_every (dominated_by_own after) w.0.path o) ∙ each_all (λ (z : StandOf N T A). dominated_by_own after z.here) (stands w.0.path o) (λ s h. each_dominated_by after after_distinct e s (within o w.0.path s h [] after there))
+        sym (stands_every (dominated_by_own after) w.0.path o) ∙ each_all (λ (z : OpWithPathOf N T A). dominated_by_own after z.here) (stands w.0.path o) (λ s h. each_dominated_by after after_distinct e s (within o w.0.path s h [] after there))
 
     -- its results are visible at their users
-    users_see : operands_visible isolated (shifted x place t) ≡ true → (k : ℕ) → k < length (head o).results → list_all (λ u. visible isolated (shifted x place t) u.0 (Result x k)) (uses_of (Result x k) t) ≡ true
-    users_see e k n = each_all (λ u. visible isolated after u.0 (Result x k)) (uses_of (Result x k) t) (λ u h.
-        let w = of_gather (λ (s : StandOf N T A). operand_uses (Result x k) (stand_id s) 0 (head s.here).operands) u (stands [] t) (subst (In u) (sym (stands_uses (Result x k) [] t)) h) in
-        let r = of_uses (Result x k) (stand_id w.0) 0 (head w.0.here).operands u w.2 in
+    is_visible_to_users : operands_visible isolated (shifted x place t) ≡ true → (k : ℕ) → k < length (head o).results → list_all (λ u. visible isolated (shifted x place t) u.0 (Result x k)) (uses_of (Result x k) t) ≡ true
+    is_visible_to_users e k n = each_all (λ u. visible isolated after u.0 (Result x k)) (uses_of (Result x k) t) (λ u h.
+        let w = of_gather (λ (s : OpWithPathOf N T A). operand_uses (Result x k) (op_with_path_id s) 0 (head s.here).operands) u (stands [] t) (subst (In u) (sym (stands_uses (Result x k) [] t)) h) in
+        let r = of_uses (Result x k) (op_with_path_id w.0) 0 (head w.0.here).operands u w.2 in
         ap (λ z. visible isolated after z (Result x k)) r.0 ∙ seen w.0 w.1 (Result x k) r.1)
       where
-        seen : (s : StandOf N T A) → In s (stands [] t) → (v : Value) → In v (head s.here).operands → visible isolated after (stand_id s) v ≡ true
+        seen : (s : OpWithPathOf N T A) → In s (stands [] t) → (v : Value) → In v (head s.here).operands → visible isolated after (op_with_path_id s) v ≡ true
         seen s h v m = elim (bool_cases (is_gone x s)) [
           | inl g ↦ (let w = inside t d found s h g in
-              all_each (visible isolated after (stand_id s)) (head s.here).operands (all_each (λ (z : StandOf N T A). dominated_by_own after z.here) (stands w.0 o) (stands_every (dominated_by_own after) w.0 o ∙ seen_inside e) s w.1) v m)
+              all_each (visible isolated after (op_with_path_id s)) (head s.here).operands (all_each (λ (z : OpWithPathOf N T A). dominated_by_own after z.here) (stands w.0 o) (stands_every (dominated_by_own after) w.0 o ∙ seen_inside e) s w.1) v m)
           | inr g ↦ (let z = forth s h g in
               ap (λ (y : HeadOf N T A). visible isolated after y.id v) (sym z.2)
-              ∙ all_each (visible isolated after (stand_id z.0)) (head z.0.here).operands (each_dominated_by after after_distinct e z.0 z.1) v (subst (λ (y : HeadOf N T A). In v y.operands) (sym z.2) m))
+              ∙ all_each (visible isolated after (op_with_path_id z.0)) (head z.0.here).operands (each_dominated_by after after_distinct e z.0 z.1) v (subst (λ (y : HeadOf N T A). In v y.operands) (sym z.2) m))
         ]
 
     -- with both, all operands are visible
     module _ (inner : every (λ q. list_all (visible isolated (shifted x place t) (head q).id) (head q).operands) o ≡ true) (users : UsersSee) where
-      was_seen : (s : StandOf N T A) → In s (stands [] t) → (v : Value) → In v (head s.here).operands → visible isolated t (stand_id s) v ≡ true
-      was_seen s h v m = all_each (visible isolated t (stand_id s)) (head s.here).operands (each_dominated_by t d wellformed s h) v m
+      was_seen : (s : OpWithPathOf N T A) → In s (stands [] t) → (v : Value) → In v (head s.here).operands → visible isolated t (op_with_path_id s) v ≡ true
+      was_seen s h v m = all_each (visible isolated t (op_with_path_id s)) (head s.here).operands (each_dominated_by t d wellformed s h) v m
 
       -- a use of one of its results outside
-      result_seen : (s : StandOf N T A) → In s (stands [] t) → (k : ℕ) → In (Result x k) (head s.here).operands → visible isolated after (stand_id s) (Result x k) ≡ true
+      result_seen : (s : OpWithPathOf N T A) → In s (stands [] t) → (k : ℕ) → In (Result x k) (head s.here).operands → visible isolated after (op_with_path_id s) (Result x k) ≡ true
       result_seen s h k m =
-          let n = used_here (Result x k) (stand_id s) 0 (head s.here).operands (Result x k) m (same_value_refl (Result x k)) in
-          let j : In (stand_id s, n.0) (uses_of (Result x k) t) = subst (In (stand_id s, n.0)) (stands_uses (Result x k) [] t) (in_gather (λ (z : StandOf N T A). operand_uses (Result x k) (stand_id z) 0 (head z.here).operands) (stand_id s, n.0) s (stands [] t) h n.1) in
-          all_each (λ u. visible isolated after u.0 (Result x k)) (uses_of (Result x k) t) (users k few) (stand_id s, n.0) j
+          let n = used_here (Result x k) (op_with_path_id s) 0 (head s.here).operands (Result x k) m (same_value_refl (Result x k)) in
+          let j : In (op_with_path_id s, n.0) (uses_of (Result x k) t) = subst (In (op_with_path_id s, n.0)) (stands_uses (Result x k) [] t) (in_gather (λ (z : OpWithPathOf N T A). operand_uses (Result x k) (op_with_path_id z) 0 (head z.here).operands) (op_with_path_id s, n.0) s (stands [] t) h n.1) in
+          all_each (λ u. visible isolated after u.0 (Result x k)) (uses_of (Result x k) t) (users k few) (op_with_path_id s, n.0) j
         where
           few : k < length (head o).results
           few = go (slice_get (head o).results k) refl (sym (ap (λ f. is_some (option_and_then (λ z. slice_get (head z).results k) f)) found) ∙ (seen_by isolated t d s h (Result x k) (sym (visible_there isolated t d s h (Result x k)) ∙ was_seen s h (Result x k) m)).is)
@@ -181,45 +181,45 @@ module _ {N T A : Type 0} (isolated : N → Bool) where
               go (Some y) e h = slice_get_within (head o).results k y e
 
       -- no use of an argument of it outside
-      argument_unseen : (s : StandOf N T A) → In s (stands [] t) → is_gone x s ≡ false → (r k : ℕ) → In (Arg x r k) (head s.here).operands → ⊥
+      argument_unseen : (s : OpWithPathOf N T A) → In s (stands [] t) → is_gone x s ≡ false → (r k : ℕ) → In (Arg x r k) (head s.here).operands → ⊥
       argument_unseen s h g r k m = true≢false (sym (argument_within x r k t root s.path s.here h (sym (visible_there isolated t d s h (Arg x r k)) ∙ was_seen s h (Arg x r k) m)) ∙ g)
 
       -- a value of another operation is visible as before
-      other_seen : (s : StandOf N T A) → In s (stands [] t) → is_gone x s ≡ false → (v : Value) → eqb (owner_of v).0 x ≡ false → In v (head s.here).operands → visible isolated after (stand_id s) v ≡ true
+      other_seen : (s : OpWithPathOf N T A) → In s (stands [] t) → is_gone x s ≡ false → (v : Value) → eqb (owner_of v).0 x ≡ false → In v (head s.here).operands → visible isolated after (op_with_path_id s) v ≡ true
       other_seen s h g v n m =
           let k = left_there t s h g in
-          sym (dominance_stays x after after_distinct (stand_id s) (ap (has_id (stand_id s)) after_rest ∙ k) isolated v n)
-          ∙ ap (λ z. visible isolated z (stand_id s) v) after_rest
-          ∙ dominance_stays x t d (stand_id s) k isolated v n ∙ was_seen s h v m
+          sym (dominance_stays x after after_distinct (op_with_path_id s) (ap (has_id (op_with_path_id s)) after_rest ∙ k) isolated v n)
+          ∙ ap (λ z. visible isolated z (op_with_path_id s) v) after_rest
+          ∙ dominance_stays x t d (op_with_path_id s) k isolated v n ∙ was_seen s h v m
 
-      outside_seen : (s : StandOf N T A) → In s (stands [] t) → is_gone x s ≡ false → (v : Value) → In v (head s.here).operands → visible isolated after (stand_id s) v ≡ true
+      outside_seen : (s : OpWithPathOf N T A) → In s (stands [] t) → is_gone x s ≡ false → (v : Value) → In v (head s.here).operands → visible isolated after (op_with_path_id s) v ≡ true
       outside_seen s h g (Result y k) m = elim (bool_cases (eqb y x)) [
         | inr n ↦ other_seen s h g (Result y k) n m
-        | inl n ↦ subst (λ z. In (Result z k) (head s.here).operands → visible isolated after (stand_id s) (Result z k) ≡ true) (sym (eqb-true y x n)) (result_seen s h k) m
+        | inl n ↦ subst (λ z. In (Result z k) (head s.here).operands → visible isolated after (op_with_path_id s) (Result z k) ≡ true) (sym (eqb-true y x n)) (result_seen s h k) m
       ]
       outside_seen s h g (Arg y r k) m = elim (bool_cases (eqb y x)) [
         | inr n ↦ other_seen s h g (Arg y r k) n m
         | inl n ↦ absurd (argument_unseen s h g r k (subst (λ z. In (Arg z r k) (head s.here).operands) (eqb-true y x n) m))
       ]
 
-      still_left : (s : StandOf N T A) → In s (stands [] after) → is_gone x s ≡ false → (z : StandOf N T A) → In z (stands [] t) → stand_id z ≡ stand_id s → is_gone x z ≡ false
+      still_left : (s : OpWithPathOf N T A) → In s (stands [] after) → is_gone x s ≡ false → (z : OpWithPathOf N T A) → In z (stands [] t) → op_with_path_id z ≡ op_with_path_id s → is_gone x z ≡ false
       still_left s h g z i same = elim (bool_cases (is_gone x z)) [
         | inr k ↦ k
-        | inl k ↦ (let left = sym (ap (has_id (stand_id s)) after_rest) ∙ left_there after s h g in
-            let p = present_stand [] (without x t) (stand_id s) left in
+        | inl k ↦ (let left = sym (ap (has_id (op_with_path_id s)) after_rest) ∙ left_there after s h g in
+            let p = present_stand [] (without x t) (op_with_path_id s) left in
             let m = member_left x t p.0 p.1 in
-            let id : stand_id m.0 ≡ stand_id z = ap (λ (y : HeadOf N T A). y.id) (sym (same_head x (dropping x) m.0.here)) ∙ ap (λ (y : StandOf N T A). stand_id y) (sym m.3) ∙ p.2 ∙ sym same in
+            let id : op_with_path_id m.0 ≡ op_with_path_id z = ap (λ (y : HeadOf N T A). y.id) (sym (same_head x (dropping x) m.0.here)) ∙ ap (λ (y : OpWithPathOf N T A). op_with_path_id y) (sym m.3) ∙ p.2 ∙ sym same in
             absurd (true≢false (sym k ∙ ap (is_gone x) (sym (same_stand t d m.0 z m.1 i id)) ∙ m.2)))
       ]
 
       pub shift_dominated_by : operands_visible isolated (shifted x place t) ≡ true
       shift_dominated_by = all_see after after_distinct (λ s h. elim (bool_cases (is_gone x s)) [
-        | inl g ↦ (let w = inside after after_distinct after_found s h g in all_each (λ (z : StandOf N T A). dominated_by_own after z.here) (stands w.0 o) (stands_every (dominated_by_own after) w.0 o ∙ inner) s w.1)
+        | inl g ↦ (let w = inside after after_distinct after_found s h g in all_each (λ (z : OpWithPathOf N T A). dominated_by_own after z.here) (stands w.0 o) (stands_every (dominated_by_own after) w.0 o ∙ inner) s w.1)
         | inr g ↦ (let z = back s h g in
-            each_all (visible isolated after (stand_id s)) (head s.here).operands (λ v m.
+            each_all (visible isolated after (op_with_path_id s)) (head s.here).operands (λ v m.
             ap (λ (y : HeadOf N T A). visible isolated after y.id v) (sym z.2)
             ∙ outside_seen z.0 z.1 (still_left s h g z.0 z.1 (ap (λ (y : HeadOf N T A). y.id) z.2)) v (subst (λ (y : HeadOf N T A). In v y.operands) (sym z.2) m)))
       ])
 
     pub shift_seen : operands_visible isolated (shifted x place t) ≡ true → (every (λ q. list_all (visible isolated (shifted x place t) (head q).id) (head q).operands) o ≡ true) × ((k : ℕ) → k < length (head o).results → list_all (λ u. visible isolated (shifted x place t) u.0 (Result x k)) (uses_of (Result x k) t) ≡ true)
-    shift_seen e = (seen_inside e, users_see e)
+    shift_seen e = (seen_inside e, is_visible_to_users e)

@@ -14,7 +14,7 @@ use Rattle.ir_tree.specs.Places.{each_list, regions_each_list, without}
 use Rattle.ir_tree.specs.Frames.{owner_of}
 use Rattle.ir_tree.specs.WellFormed.{ModuleOf, IsValidTree, IsWellFormed}
 use Rattle.ir_tree.proofs.Left.{left_distinct}
-use Rattle.ir_tree_laws.specs.Stands.{StepOf, StandOf, stand_id, stands, greatest, dominated_by, is_gone, left_stand, left_step, dropping}
+use Rattle.ir_tree_laws.specs.Stands.{StepOf, OpWithPathOf, op_with_path_id, stands, greatest, dominated_by, is_gone, left_stand, left_step, dropping}
 use Rattle.ir_tree_laws.specs.Members.{In}
 use Rattle.ir_tree_laws.proofs.Listed.{all_each, each_all, both, both_hold, not_false}
 use Rattle.ir_tree_laws.proofs.Readings.{stands_ids, stands_every, stands_depth}
@@ -68,28 +68,28 @@ module _ {N T A : Type 0} where
   list_fits f (op h rs) = λ i. head_fits h && (nat_le (regions_kept f h.id 0 rs i) most_regions && arguments_kept f h.id 0 rs i)
 
   -- ids that pass a test
-  pub ids_below : (n : ℕ) (t : OpOf N T A) → All (λ y. y < n) (ids t) → (s : StandOf N T A) → In s (stands [] t) → stand_id s < n
-  ids_below n t a s h = all_of_each (λ (u : StandOf N T A). stand_id u) (λ y. y < n) (stands [] t) (subst (AllByRecursion (λ y. y < n)) (sym (stands_ids [] t)) (recursion_from_All (λ y. y < n) (ids t) a)) s h
+  pub ids_below : (n : ℕ) (t : OpOf N T A) → All (λ y. y < n) (ids t) → (s : OpWithPathOf N T A) → In s (stands [] t) → op_with_path_id s < n
+  ids_below n t a s h = all_of_each (λ (u : OpWithPathOf N T A). op_with_path_id u) (λ y. y < n) (stands [] t) (subst (AllByRecursion (λ y. y < n)) (sym (stands_ids [] t)) (recursion_from_All (λ y. y < n) (ids t) a)) s h
 
-  pub below_ids : (n : ℕ) (t : OpOf N T A) → ((s : StandOf N T A) → In s (stands [] t) → stand_id s < n) → All (λ y. y < n) (ids t)
-  below_ids n t f = All-from_recursion (λ y. y < n) (ids t) (subst (AllByRecursion (λ y. y < n)) (stands_ids [] t) (each_all_of (λ (u : StandOf N T A). stand_id u) (λ y. y < n) (stands [] t) f))
+  pub below_ids : (n : ℕ) (t : OpOf N T A) → ((s : OpWithPathOf N T A) → In s (stands [] t) → op_with_path_id s < n) → All (λ y. y < n) (ids t)
+  below_ids n t f = All-from_recursion (λ y. y < n) (ids t) (subst (AllByRecursion (λ y. y < n)) (stands_ids [] t) (each_all_of (λ (u : OpWithPathOf N T A). op_with_path_id u) (λ y. y < n) (stands [] t) f))
 
   module _ (isolated : N → Bool) where
     pub record WellformedEach (t : OpOf N T A) : Type 0 where
-      pub dominated_by_own : (s : StandOf N T A) → In s (stands [] t) → list_all (dominated_by isolated s.path) (head s.here).operands ≡ true
-      pub shallow : (s : StandOf N T A) → In s (stands [] t) → length s.path ≤ most_around
+      pub dominated_by_own : (s : OpWithPathOf N T A) → In s (stands [] t) → list_all (dominated_by isolated s.path) (head s.here).operands ≡ true
+      pub shallow : (s : OpWithPathOf N T A) → In s (stands [] t) → length s.path ≤ most_around
       pub count : op_count t ≤ most_ops
-      pub fits : (s : StandOf N T A) → In s (stands [] t) → op_fits s.here ≡ true
+      pub fits : (s : OpWithPathOf N T A) → In s (stands [] t) → op_fits s.here ≡ true
 
-    pub depth_within : (t : OpOf N T A) (n : ℕ) → ((s : StandOf N T A) → In s (stands [] t) → length s.path ≤ n) → depth t ≤ n
+    pub depth_within : (t : OpOf N T A) (n : ℕ) → ((s : OpWithPathOf N T A) → In s (stands [] t) → length s.path ≤ n) → depth t ≤ n
     depth_within t n f =
-        let g = greatest_within (λ (s : StandOf N T A). length s.path) n (stands [] t) f in
+        let g = greatest_within (λ (s : OpWithPathOf N T A). length s.path) n (stands [] t) f in
         let e = stands_depth [] t in
         omega (arith, g, e)
 
-    pub within_depth : (path : List (StepOf N T A)) (t : OpOf N T A) (s : StandOf N T A) → In s (stands path t) → length s.path ≤ length path + depth t
+    pub within_depth : (path : List (StepOf N T A)) (t : OpOf N T A) (s : OpWithPathOf N T A) → In s (stands path t) → length s.path ≤ length path + depth t
     within_depth path t s h =
-        let g = within_greatest (λ (s : StandOf N T A). length s.path) (stands path t) s h in
+        let g = within_greatest (λ (s : OpWithPathOf N T A). length s.path) (stands path t) s h in
         let e = stands_depth path t in
         omega (arith, g, e)
 
@@ -97,47 +97,47 @@ module _ {N T A : Type 0} where
     from_wellformed t f =
         let c = both (nat_le (op_count t) most_ops) (every op_fits t) f.counts in
         record {
-          dominated_by_own = all_each (λ (s : StandOf N T A). list_all (dominated_by isolated s.path) (head s.here).operands) (stands [] t) (sym (stands_operands isolated t) ∙ f.visible);
+          dominated_by_own = all_each (λ (s : OpWithPathOf N T A). list_all (dominated_by isolated s.path) (head s.here).operands) (stands [] t) (sym (stands_operands isolated t) ∙ f.visible);
           shallow = λ s h. let w = within_depth [] t s h in let k = f.shallow in omega (arith, w, k);
           count = leb-true (op_count t) most_ops c.0;
-          fits = all_each (λ (s : StandOf N T A). op_fits s.here) (stands [] t) (stands_every op_fits [] t ∙ c.1);
+          fits = all_each (λ (s : OpWithPathOf N T A). op_fits s.here) (stands [] t) (stands_every op_fits [] t ∙ c.1);
         }
 
     pub to_wellformed : (t : OpOf N T A) → WellformedEach t → IsValidTree isolated t
     to_wellformed t f = record {
-      visible = stands_operands isolated t ∙ each_all (λ (s : StandOf N T A). list_all (dominated_by isolated s.path) (head s.here).operands) (stands [] t) f.dominated_by_own;
+      visible = stands_operands isolated t ∙ each_all (λ (s : OpWithPathOf N T A). list_all (dominated_by isolated s.path) (head s.here).operands) (stands [] t) f.dominated_by_own;
       shallow = depth_within t most_around f.shallow;
-      counts = both_hold (nat_le (op_count t) most_ops) (every op_fits t) (le-leb (op_count t) most_ops f.count) (sym (stands_every op_fits [] t) ∙ each_all (λ (s : StandOf N T A). op_fits s.here) (stands [] t) f.fits);
+      counts = both_hold (nat_le (op_count t) most_ops) (every op_fits t) (le-leb (op_count t) most_ops f.count) (sym (stands_every op_fits [] t) ∙ each_all (λ (s : OpWithPathOf N T A). op_fits s.here) (stands [] t) f.fits);
     }
 
     -- a tree without an operation whose results no other operation uses
     module _ (x : ℕ) where
       abbrev pub Spared : OpOf N T A → Type 0
-      Spared t = (s : StandOf N T A) → In s (stands [] t) → is_gone x s ≡ false → list_all (λ v. not (eqb (owner_of v).0 x)) (head s.here).operands ≡ true
+      Spared t = (s : OpWithPathOf N T A) → In s (stands [] t) → is_gone x s ≡ false → list_all (λ v. not (eqb (owner_of v).0 x)) (head s.here).operands ≡ true
 
       left_each : (t : OpOf N T A) → WellformedEach t → Spared t → WellformedEach (without x t)
       left_each t f spared = record {
         dominated_by_own = λ u h. let m = member_left x t u h in
-            subst (λ (z : StandOf N T A). list_all (dominated_by isolated z.path) (head z.here).operands ≡ true) (sym m.3)
+            subst (λ (z : OpWithPathOf N T A). list_all (dominated_by isolated z.path) (head z.here).operands ≡ true) (sym m.3)
             (ap (λ (h : HeadOf N T A). list_all (dominated_by isolated (map (left_step x) m.0.path)) h.operands) (same_head x (dropping x) m.0.here)
             ∙ all_same _ _ (head m.0.here).operands (λ v k. left_dominated_by_same x isolated v (not_false (eqb (owner_of v).0 x) (all_each (λ v. not (eqb (owner_of v).0 x)) (head m.0.here).operands (spared m.0 m.1 m.2) v k)) m.0.path)
             ∙ f.dominated_by_own m.0 m.1);
         shallow = λ u h. let m = member_left x t u h in
             let a = f.shallow m.0 m.1 in
-            let b = ap (λ (z : StandOf N T A). length z.path) m.3 in
+            let b = ap (λ (z : OpWithPathOf N T A). length z.path) m.3 in
             let c = length-map m.0.path (left_step x) in
             omega (arith, a, b, c);
         count = (
-            let a = ap length (sym (stands_ids [] (without x t)) ∙ ap (map (λ (s : StandOf N T A). stand_id s)) (without_stands x t)) in
-            let b = length-map (map (left_stand x) (filter (keep x) (stands [] t))) (λ (s : StandOf N T A). stand_id s) in
+            let a = ap length (sym (stands_ids [] (without x t)) ∙ ap (map (λ (s : OpWithPathOf N T A). op_with_path_id s)) (without_stands x t)) in
+            let b = length-map (map (left_stand x) (filter (keep x) (stands [] t))) (λ (s : OpWithPathOf N T A). op_with_path_id s) in
             let c = length-map (filter (keep x) (stands [] t)) (left_stand x) in
             let d = filter_shorter (keep x) (stands [] t) in
             let e = ap length (stands_ids [] t) in
-            let g = length-map (stands [] t) (λ (s : StandOf N T A). stand_id s) in
+            let g = length-map (stands [] t) (λ (s : OpWithPathOf N T A). op_with_path_id s) in
             let k = f.count in
             omega (arith, a, b, c, d, e, g, k)
             );
-        fits = λ u h. let m = member_left x t u h in ap (λ (z : StandOf N T A). op_fits z.here) m.3 ∙ list_fits (dropping x) m.0.here ∙ f.fits m.0 m.1;
+        fits = λ u h. let m = member_left x t u h in ap (λ (z : OpWithPathOf N T A). op_fits z.here) m.3 ∙ list_fits (dropping x) m.0.here ∙ f.fits m.0 m.1;
       }
 
       pub left_wellformed : (t : OpOf N T A) → IsValidTree isolated t → Spared t → IsValidTree isolated (without x t)
@@ -148,12 +148,12 @@ module _ {N T A : Type 0} where
         distinct = left_distinct x m.tree w.distinct;
         below = below_ids m.next (without x m.tree) (λ u h.
             let k = member_left x m.tree u h in
-            let same : stand_id u ≡ stand_id k.0 = ap (λ (z : StandOf N T A). stand_id z) k.3 ∙ ap (λ (h : HeadOf N T A). h.id) (same_head x (dropping x) k.0.here) in
+            let same : op_with_path_id u ≡ op_with_path_id k.0 = ap (λ (z : OpWithPathOf N T A). op_with_path_id z) k.3 ∙ ap (λ (h : HeadOf N T A). h.id) (same_head x (dropping x) k.0.here) in
             let lt = ids_below m.next m.tree w.below k.0 k.1 in
             omega (arith, same, lt));
         next = w.next;
         wellformed = left_wellformed m.tree w.wellformed spared;
       }
 
-  pub all_depth : (t : OpOf N T A) → greatest (λ (s : StandOf N T A). length s.path) (stands [] t) ≡ depth t
+  pub all_depth : (t : OpOf N T A) → greatest (λ (s : OpWithPathOf N T A). length s.path) (stands [] t) ≡ depth t
   all_depth t = let e = stands_depth [] t in omega (arith, e)

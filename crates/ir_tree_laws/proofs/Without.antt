@@ -10,13 +10,13 @@ use Rattle.ir_tree.specs.Tree.{HeadOf, OpOf, op, RegionsOf, no_regions, region, 
 use Rattle.ir_tree.specs.Sites.{arguments, shows, results_of}
 use Rattle.ir_tree.specs.Frames.{owner_of}
 use Rattle.ir_tree.specs.Places.{each_list, regions_each_list, region_each_list, ops_each_list, drop_op, without}
-use Rattle.ir_tree_laws.specs.Stands.{StepOf, StandOf, stands, regions_stands, region_stands, ops_stands, dominated_by, gone_in, is_gone, dropping, left_step, left_stand}
+use Rattle.ir_tree_laws.specs.Stands.{StepOf, OpWithPathOf, stands, regions_stands, region_stands, ops_stands, dominated_by, gone_in, is_gone, dropping, left_step, left_stand}
 use Rattle.ir_tree_laws.specs.Members.{In}
 use Rattle.ir_tree_laws.proofs.Listed.{bool_cases, in_map, in_mapped, in_filter, in_filtered, both, either, or_left, or_right}
 use Rattle.ir_tree_laws.proofs.Readings.{step}
 
 module _ {N T A : Type 0} (x : ℕ) where
-  abbrev pub keep : StandOf N T A → Bool
+  abbrev pub keep : OpWithPathOf N T A → Bool
   keep s = not (is_gone x s)
 
   abbrev d : ℕ → ℕ → OpsOf N T A → OpsOf N T A
@@ -58,7 +58,7 @@ module _ {N T A : Type 0} (x : ℕ) where
   one_more : (preceding : List (OpOf N T A)) (o : OpOf N T A) → kept (preceding ++ o ∷ []) ≡ kept preceding ++ kept (o ∷ [])
   one_more preceding o = ap (filter stays) (map-append (each_list d) preceding (o ∷ [])) ∙ filter-append stays (map (each_list d) preceding) (map (each_list d) (o ∷ []))
 
-  split_left : (ss us : List (StandOf N T A)) → map (left_stand x) (filter keep (ss ++ us)) ≡ map (left_stand x) (filter keep ss) ++ map (left_stand x) (filter keep us)
+  split_left : (ss us : List (OpWithPathOf N T A)) → map (left_stand x) (filter keep (ss ++ us)) ≡ map (left_stand x) (filter keep ss) ++ map (left_stand x) (filter keep us)
   split_left ss us = ap (map (left_stand x)) (filter-append keep ss us) ∙ map-append (left_stand x) (filter keep ss) (filter keep us)
 
   mutual
@@ -104,12 +104,12 @@ module _ {N T A : Type 0} (x : ℕ) where
   pub without_stands : (t : OpOf N T A) → stands [] (without x t) ≡ map (left_stand x) (filter (λ s. not (is_gone x s)) (stands [] t))
   without_stands t = left_stands [] t refl
 
-  pub left_member : (t : OpOf N T A) (s : StandOf N T A) → In s (stands [] t) → is_gone x s ≡ false → In (left_stand x s) (stands [] (without x t))
-  left_member t s h e = subst (λ (l : List (StandOf N T A)). In (left_stand x s) l) (sym (without_stands t)) (in_map (left_stand x) s (filter keep (stands [] t)) (in_filter keep s (stands [] t) (ap not e) h))
+  pub left_member : (t : OpOf N T A) (s : OpWithPathOf N T A) → In s (stands [] t) → is_gone x s ≡ false → In (left_stand x s) (stands [] (without x t))
+  left_member t s h e = subst (λ (l : List (OpWithPathOf N T A)). In (left_stand x s) l) (sym (without_stands t)) (in_map (left_stand x) s (filter keep (stands [] t)) (in_filter keep s (stands [] t) (ap not e) h))
 
-  pub member_left : (t : OpOf N T A) (u : StandOf N T A) → In u (stands [] (without x t)) → (s : StandOf N T A) × In s (stands [] t) × (is_gone x s ≡ false) × (u ≡ left_stand x s)
+  pub member_left : (t : OpOf N T A) (u : OpWithPathOf N T A) → In u (stands [] (without x t)) → (s : OpWithPathOf N T A) × In s (stands [] t) × (is_gone x s ≡ false) × (u ≡ left_stand x s)
   member_left t u h =
-      let m = in_mapped (left_stand x) u (filter keep (stands [] t)) (subst (λ (l : List (StandOf N T A)). In u l) (without_stands t) h) in
+      let m = in_mapped (left_stand x) u (filter keep (stands [] t)) (subst (λ (l : List (OpWithPathOf N T A)). In u l) (without_stands t) h) in
       let f = in_filtered keep m.0 (stands [] t) m.1 in
       (m.0, f.0, unnot (is_gone x m.0) f.1, m.2)
     where

@@ -110,8 +110,8 @@ abbrev pub unused_outside : {N T A : Type 0} → ℕ → OpOf N T A → Bool
 unused_outside x t = every (λ o. leaves_within (find x t) (head o)) (without x t)
 
 -- whether the second value is visible at each user of the first
-abbrev pub users_see : {N T A : Type 0} → (N → Bool) → Value → Value → OpOf N T A → Bool
-users_see isolated old new t = list_all (λ u. visible isolated t u.0 new) (uses_of old t)
+abbrev pub is_visible_to_users : {N T A : Type 0} → (N → Bool) → Value → Value → OpOf N T A → Bool
+is_visible_to_users isolated old new t = list_all (λ u. visible isolated t u.0 new) (uses_of old t)
 
 -- whether a dictionary can take one more entry, or has the key already
 abbrev pub has_headroom : {N A : Type 0} → (N → N → Bool) → N → List (N × A) → Bool

@@ -41,5 +41,5 @@ abbrev pub renumbered : {N T A : Type 0} → OpOf N T A → OpOf N T A
 renumbered t = with_ids (place_in (ids t)) t
 
 -- f maps a number of the list and another number to different numbers
-abbrev pub TellsApart : (ℕ → ℕ) → List ℕ → Type 0
-TellsApart f xs = (x y : ℕ) → list_any (λ z. eqb z y) xs ≡ true → eqb (f x) (f y) ≡ eqb x y
+abbrev pub MapsApart : (ℕ → ℕ) → List ℕ → Type 0
+MapsApart f xs = (x y : ℕ) → list_any (λ z. eqb z y) xs ≡ true → eqb (f x) (f y) ≡ eqb x y

@@ -19,40 +19,40 @@ pub record StepOf (N T A : Type 0) : Type 0 where
   pub rest : OpsOf N T A
 
 -- an operation with its path: its own position and those of its ancestors, innermost first; empty for the root
-pub record StandOf (N T A : Type 0) : Type 0 where
+pub record OpWithPathOf (N T A : Type 0) : Type 0 where
   pub here : OpOf N T A
   pub path : List (StepOf N T A)
 
 -- the id of the operation
-abbrev pub stand_id : {N T A : Type 0} → StandOf N T A → ℕ
-stand_id s = (head s.here).id
+abbrev pub op_with_path_id : {N T A : Type 0} → OpWithPathOf N T A → ℕ
+op_with_path_id s = (head s.here).id
 
 -- each operation with its path, in pre-order
 abbrev mutual
-  pub stands : {N T A : Type 0} → List (StepOf N T A) → OpOf N T A → List (StandOf N T A)
+  pub stands : {N T A : Type 0} → List (StepOf N T A) → OpOf N T A → List (OpWithPathOf N T A)
   stands path (op h rs) = record { here = op h rs; path = path } ∷ regions_stands (op h rs) path 0 rs
 
-  pub regions_stands : {N T A : Type 0} → OpOf N T A → List (StepOf N T A) → ℕ → RegionsOf N T A → List (StandOf N T A)
+  pub regions_stands : {N T A : Type 0} → OpOf N T A → List (StepOf N T A) → ℕ → RegionsOf N T A → List (OpWithPathOf N T A)
   regions_stands p path r no_regions = []
   regions_stands p path r (region g rs) = region_stands p path r g ++ regions_stands p path (r + 1) rs
 
-  pub region_stands : {N T A : Type 0} → OpOf N T A → List (StepOf N T A) → ℕ → RegionOf N T A → List (StandOf N T A)
+  pub region_stands : {N T A : Type 0} → OpOf N T A → List (StepOf N T A) → ℕ → RegionOf N T A → List (OpWithPathOf N T A)
   region_stands p path r empty = []
   region_stands p path r (block args os) = ops_stands p path r args [] os
 
-  pub ops_stands : {N T A : Type 0} → OpOf N T A → List (StepOf N T A) → ℕ → List T → List (OpOf N T A) → OpsOf N T A → List (StandOf N T A)
+  pub ops_stands : {N T A : Type 0} → OpOf N T A → List (StepOf N T A) → ℕ → List T → List (OpOf N T A) → OpsOf N T A → List (OpWithPathOf N T A)
   ops_stands p path r args preceding no_ops = []
   ops_stands p path r args preceding (next o os) =
       stands (record { parent = p; region = r; args = args; preceding = preceding; rest = os } ∷ path) o ++ ops_stands p path r args (preceding ++ o ∷ []) os
 
 -- the first member of the list with this id
-abbrev pub stand_in : {N T A : Type 0} → ℕ → List (StandOf N T A) → Option (StandOf N T A)
-stand_in x [] = None
-stand_in x (s ∷ ss) = if eqb (stand_id s) x then Some s else stand_in x ss
+abbrev pub find_op_with_path : {N T A : Type 0} → ℕ → List (OpWithPathOf N T A) → Option (OpWithPathOf N T A)
+find_op_with_path x [] = None
+find_op_with_path x (s ∷ ss) = if eqb (op_with_path_id s) x then Some s else find_op_with_path x ss
 
 -- operation x of a tree, with its path
-abbrev pub stand_of : {N T A : Type 0} → ℕ → OpOf N T A → Option (StandOf N T A)
-stand_of x t = stand_in x (stands [] t)
+abbrev pub op_with_path : {N T A : Type 0} → ℕ → OpOf N T A → Option (OpWithPathOf N T A)
+op_with_path x t = find_op_with_path x (stands [] t)
 
 -- the concatenation of the lists that a function returns for the members of a list
 abbrev pub gather : {X Y : Type 0} → (X → List Y) → List X → List Y
@@ -93,12 +93,12 @@ dominated_by isolated (a ∷ path) v =
     list_any (λ o. shows v (results_of o)) a.preceding || (shows v (arguments (head a.parent).id a.region (length a.args)) || not (isolated (head a.parent).name) && dominated_by isolated path v)
 
 -- an operation of the list with its scope
-abbrev pub site_of : {N T A : Type 0} → (N → Bool) → StandOf N T A → Site N T A
+abbrev pub site_of : {N T A : Type 0} → (N → Bool) → OpWithPathOf N T A → Site N T A
 site_of isolated s = record { here = s.here; scope = scope_of isolated s.path }
 
 -- the place of operation x, if this is x and it isn't the root
-abbrev pub place_at : {N T A : Type 0} → ℕ → StandOf N T A → Option Place
-place_at x s = if eqb (stand_id s) x then place_in s.path else None
+abbrev pub place_at : {N T A : Type 0} → ℕ → OpWithPathOf N T A → Option Place
+place_at x s = if eqb (op_with_path_id s) x then place_in s.path else None
 
 -- whether the operation at the end of a path is operation x or within it, if x isn't the root
 abbrev pub gone_in : {N T A : Type 0} → ℕ → OpOf N T A → List (StepOf N T A) → Bool
@@ -106,7 +106,7 @@ gone_in x o [] = false
 gone_in x o (a ∷ path) = eqb (head o).id x || gone_in x a.parent path
 
 -- the same, of an operation with its path
-abbrev pub is_gone : {N T A : Type 0} → ℕ → StandOf N T A → Bool
+abbrev pub is_gone : {N T A : Type 0} → ℕ → OpWithPathOf N T A → Bool
 is_gone x s = gone_in x s.here s.path
 
 -- a step of a path, in the tree with its heads changed
@@ -114,7 +114,7 @@ abbrev pub edit_step : {N T A : Type 0} → (HeadOf N T A → HeadOf N T A) → 
 edit_step f a = record { parent = each_head f a.parent; region = a.region; args = a.args; preceding = map (each_head f) a.preceding; rest = ops_each_head f a.rest }
 
 -- an operation with its path, in the tree with its heads changed
-abbrev pub edit_stand : {N T A : Type 0} → (HeadOf N T A → HeadOf N T A) → StandOf N T A → StandOf N T A
+abbrev pub edit_stand : {N T A : Type 0} → (HeadOf N T A → HeadOf N T A) → OpWithPathOf N T A → OpWithPathOf N T A
 edit_stand f s = record { here = each_head f s.here; path = map (edit_step f) s.path }
 
 -- the edit of lists that removes operation x
@@ -132,5 +132,5 @@ left_step x a = record {
 }
 
 -- an operation with its path, in the tree without operation x
-abbrev pub left_stand : {N T A : Type 0} → ℕ → StandOf N T A → StandOf N T A
+abbrev pub left_stand : {N T A : Type 0} → ℕ → OpWithPathOf N T A → OpWithPathOf N T A
 left_stand x s = record { here = each_list (dropping x) s.here; path = map (left_step x) s.path }

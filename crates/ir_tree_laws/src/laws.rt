@@ -18,7 +18,7 @@ ghost use Rattle.ir_tree.specs.Edits.{each_head, with_entry, with_operand, with_
 ghost use Rattle.ir_tree.specs.Meaning.{dictionaries_rise, isolated_in, key_before, key_before_in, meaning};
 ghost use Rattle.ir_tree.specs.Places.{first_id, place_of, put, shifted, without};
 ghost use Rattle.ir_tree.specs.WellFormed.{IsWellFormed, Module, ModuleOf};
-ghost use Rattle.ir_tree_laws.specs.Stands.{StandOf, StepOf, edit_stand, gather, greatest, first_some, is_gone, left_stand, place_at, place_in, dominated_by, stand_id, stand_of, stands, table_in};
+ghost use Rattle.ir_tree_laws.specs.Stands.{OpWithPathOf, StepOf, edit_stand, gather, greatest, first_some, is_gone, left_stand, place_at, place_in, dominated_by, op_with_path_id, op_with_path, stands, table_in};
 ghost use Rattle.ir_tree_laws.specs.Tables.{table_of};
 ghost use Rattle.ir_tree_laws.specs.Reads.{around, is_before, is_next_to, last_id, list_of, next_of, parent_of, prev_of};
 ghost use Rattle.ir_tree_laws.specs.Reasons.{fits_around, has_place, hold_none, leads_inside, put_reason, set_entry_reason, set_operand_reason, shift_reason, take_reason, with_id};
@@ -31,15 +31,15 @@ ghost use Rattle.ir_tree_laws.specs.Restores.{MayPut, MayRestore, MayRetract};
 
 /// Each function of a tree is a function of the list of its operations with their paths.
 pub fn trees_are_read_off_their_list<N, T, A>()
-    ensures ids { (t : OpOf N T A) → map (λ s. stand_id s) (stands [] t) ≡ ids t }
-    ensures find { (x : ℕ) (t : OpOf N T A) → option_map (λ s. s.here) (stand_of x t) ≡ find x t }
+    ensures ids { (t : OpOf N T A) → map (λ s. op_with_path_id s) (stands [] t) ≡ ids t }
+    ensures find { (x : ℕ) (t : OpOf N T A) → option_map (λ s. s.here) (op_with_path x t) ≡ find x t }
     ensures every { (p : OpOf N T A → Bool) (t : OpOf N T A) → list_all (λ s. p s.here) (stands [] t) ≡ every p t }
     ensures depth { (t : OpOf N T A) → greatest (λ s. length s.path) (stands [] t) ≡ depth t }
-    ensures uses { (v : TreeValue) (t : OpOf N T A) → gather (λ s. operand_uses v (stand_id s) 0 (head s.here).operands) (stands [] t) ≡ uses_of v t }
+    ensures uses { (v : TreeValue) (t : OpOf N T A) → gather (λ s. operand_uses v (op_with_path_id s) 0 (head s.here).operands) (stands [] t) ≡ uses_of v t }
     ensures place { (x : ℕ) (t : OpOf N T A) → first_some (place_at x) (stands [] t) ≡ place_of x t }
-    ensures table { (is_table : N → Bool) (x : ℕ) (t : OpOf N T A) → option_map (λ s. table_in is_table s.path) (stand_of x t) ≡ table_of is_table x t }
-    ensures around { (x : ℕ) (t : OpOf N T A) → option_map (λ s. length s.path) (stand_of x t) ≡ around x t }
-    ensures dominance { (isolated : N → Bool) (x : ℕ) (v : TreeValue) (t : OpOf N T A) → visible isolated t x v ≡ list_any (λ s. eqb (stand_id s) x && dominated_by isolated s.path v) (stands [] t) }
+    ensures table { (is_table : N → Bool) (x : ℕ) (t : OpOf N T A) → option_map (λ s. table_in is_table s.path) (op_with_path x t) ≡ table_of is_table x t }
+    ensures around { (x : ℕ) (t : OpOf N T A) → option_map (λ s. length s.path) (op_with_path x t) ≡ around x t }
+    ensures dominance { (isolated : N → Bool) (x : ℕ) (v : TreeValue) (t : OpOf N T A) → visible isolated t x v ≡ list_any (λ s. eqb (op_with_path_id s) x && dominated_by isolated s.path v) (stands [] t) }
     ensures operands { (isolated : N → Bool) (t : OpOf N T A) → operands_visible isolated t ≡ list_all (λ s. list_all (dominated_by isolated s.path) (head s.here).operands) (stands [] t) }
 {}
 
@@ -47,7 +47,7 @@ pub fn trees_are_read_off_their_list<N, T, A>()
 /// arguments of its block, and, unless the parent is isolated from above, the values visible at the parent. No value is
 /// visible at the root. Stated once by the path, and once by reads of the tree.
 pub fn dominance_is_by_cases<N, T, A>()
-    ensures inner { (isolated : N → Bool) (t : OpOf N T A) → HasDistinctIds t → (x : ℕ) (s : StandOf N T A) (a : StepOf N T A) (q : List (StepOf N T A)) (v : TreeValue) → stand_of x t ≡ Some s → s.path ≡ a ∷ q
+    ensures inner { (isolated : N → Bool) (t : OpOf N T A) → HasDistinctIds t → (x : ℕ) (s : OpWithPathOf N T A) (a : StepOf N T A) (q : List (StepOf N T A)) (v : TreeValue) → op_with_path x t ≡ Some s → s.path ≡ a ∷ q
         → visible isolated t x v ≡ (list_any (λ o. shows v (results_of o)) a.preceding || (shows v (arguments (head a.parent).id a.region (length a.args)) || not (isolated (head a.parent).name) && visible isolated t (head a.parent).id v)) }
     ensures by_place { (isolated : N → Bool) (t : OpOf N T A) → HasDistinctIds t → (x : ℕ) (place : Point) (p : OpOf N T A) (v : TreeValue) → place_of x t ≡ Some place → find place.parent t ≡ Some p
         → visible isolated t x v ≡ (has_value v t && is_next_to x place v t || not (isolated (head p).name) && visible isolated t place.parent v) }
@@ -57,11 +57,11 @@ pub fn dominance_is_by_cases<N, T, A>()
 
 /// If ids are distinct, the neighbours of an operation are those in its path.
 pub fn operations_next_to_are_those_of_the_path<N, T, A>()
-    ensures list { (t : OpOf N T A) → HasDistinctIds t → (x : ℕ) (s : StandOf N T A) (a : StepOf N T A) (q : List (StepOf N T A)) → stand_of x t ≡ Some s → s.path ≡ a ∷ q → list_of x t ≡ Some (ops_of (a.preceding ++ s.here ∷ op_list a.rest)) }
-    ensures parent { (t : OpOf N T A) → HasDistinctIds t → (x : ℕ) (s : StandOf N T A) (a : StepOf N T A) (q : List (StepOf N T A)) → stand_of x t ≡ Some s → s.path ≡ a ∷ q → parent_of x t ≡ Some (head a.parent).id }
-    ensures next { (t : OpOf N T A) → HasDistinctIds t → (x : ℕ) (s : StandOf N T A) (a : StepOf N T A) (q : List (StepOf N T A)) → stand_of x t ≡ Some s → s.path ≡ a ∷ q → next_of x t ≡ first_id a.rest }
-    ensures prev { (t : OpOf N T A) → HasDistinctIds t → (x : ℕ) (s : StandOf N T A) (a : StepOf N T A) (q : List (StepOf N T A)) → stand_of x t ≡ Some s → s.path ≡ a ∷ q → prev_of x t ≡ last_id (ops_of a.preceding) }
-    ensures before { (t : OpOf N T A) → HasDistinctIds t → (x : ℕ) (s : StandOf N T A) (a : StepOf N T A) (q : List (StepOf N T A)) → stand_of x t ≡ Some s → s.path ≡ a ∷ q → (y : ℕ) → is_before y x t ≡ list_any (λ f. eqb (head f).id y) a.preceding }
+    ensures list { (t : OpOf N T A) → HasDistinctIds t → (x : ℕ) (s : OpWithPathOf N T A) (a : StepOf N T A) (q : List (StepOf N T A)) → op_with_path x t ≡ Some s → s.path ≡ a ∷ q → list_of x t ≡ Some (ops_of (a.preceding ++ s.here ∷ op_list a.rest)) }
+    ensures parent { (t : OpOf N T A) → HasDistinctIds t → (x : ℕ) (s : OpWithPathOf N T A) (a : StepOf N T A) (q : List (StepOf N T A)) → op_with_path x t ≡ Some s → s.path ≡ a ∷ q → parent_of x t ≡ Some (head a.parent).id }
+    ensures next { (t : OpOf N T A) → HasDistinctIds t → (x : ℕ) (s : OpWithPathOf N T A) (a : StepOf N T A) (q : List (StepOf N T A)) → op_with_path x t ≡ Some s → s.path ≡ a ∷ q → next_of x t ≡ first_id a.rest }
+    ensures prev { (t : OpOf N T A) → HasDistinctIds t → (x : ℕ) (s : OpWithPathOf N T A) (a : StepOf N T A) (q : List (StepOf N T A)) → op_with_path x t ≡ Some s → s.path ≡ a ∷ q → prev_of x t ≡ last_id (ops_of a.preceding) }
+    ensures before { (t : OpOf N T A) → HasDistinctIds t → (x : ℕ) (s : OpWithPathOf N T A) (a : StepOf N T A) (q : List (StepOf N T A)) → op_with_path x t ≡ Some s → s.path ≡ a ∷ q → (y : ℕ) → is_before y x t ≡ list_any (λ f. eqb (head f).id y) a.preceding }
 {}
 
 /// The list of a tree after an edit of heads, and after an operation is taken out.

@@ -10,7 +10,7 @@ ghost use Rattle.ir_tree.specs.Meaning.{Operation, dictionaries_rise};
 ghost use Rattle.ir_tree.specs.Passing.{all_pass};
 ghost use Rattle.ir_tree.specs.Sites.{operands_visible, visible};
 ghost use Rattle.ir_tree.specs.WellFormed.{IsValidTree};
-ghost use Rattle.ir_tree_laws.specs.Renumbered.{TellsApart, head_with_ids, place_in, renumbered, value_with_id, with_ids};
+ghost use Rattle.ir_tree_laws.specs.Renumbered.{MapsApart, head_with_ids, place_in, renumbered, value_with_id, with_ids};
 
 /// A tree with other ids has the mapped ids, and the depth and the counts of the original tree.
 pub fn other_ids_keep_the_shape()
@@ -31,16 +31,16 @@ pub fn other_ids_keep_the_heads()
 /// If the mapping is injective on the tree's ids and maps no other id to them, a tree with other ids has the same
 /// dominance as the original tree, and is well-formed if the original tree is.
 pub fn other_ids_keep_the_dominance()
-    ensures dominance { (isolated : List ℕ → Bool) (f : ℕ → ℕ) (t : Operation) (x : ℕ) (v : Value) → TellsApart f (ids t) → visible isolated (with_ids f t) (f x) (value_with_id f v) ≡ visible isolated t x v }
-    ensures operands { (isolated : List ℕ → Bool) (f : ℕ → ℕ) (t : Operation) → TellsApart f (ids t) → operands_visible isolated (with_ids f t) ≡ operands_visible isolated t }
-    ensures wellformed { (isolated : List ℕ → Bool) (f : ℕ → ℕ) (t : Operation) → TellsApart f (ids t) → IsValidTree isolated t → IsValidTree isolated (with_ids f t) }
-    ensures distinct { (f : ℕ → ℕ) (t : Operation) → TellsApart f (ids t) → HasDistinctIds t → HasDistinctIds (with_ids f t) }
+    ensures dominance { (isolated : List ℕ → Bool) (f : ℕ → ℕ) (t : Operation) (x : ℕ) (v : Value) → MapsApart f (ids t) → visible isolated (with_ids f t) (f x) (value_with_id f v) ≡ visible isolated t x v }
+    ensures operands { (isolated : List ℕ → Bool) (f : ℕ → ℕ) (t : Operation) → MapsApart f (ids t) → operands_visible isolated (with_ids f t) ≡ operands_visible isolated t }
+    ensures wellformed { (isolated : List ℕ → Bool) (f : ℕ → ℕ) (t : Operation) → MapsApart f (ids t) → IsValidTree isolated t → IsValidTree isolated (with_ids f t) }
+    ensures distinct { (f : ℕ → ℕ) (t : Operation) → MapsApart f (ids t) → HasDistinctIds t → HasDistinctIds (with_ids f t) }
 {}
 
 /// The positions of a list's numbers differ from the position of every other number, and are 0, 1, .. if the list has
 /// no duplicates.
 pub fn places_tell_apart()
-    ensures apart { (xs : List ℕ) → TellsApart (place_in xs) xs }
+    ensures apart { (xs : List ℕ) → MapsApart (place_in xs) xs }
     ensures places { (xs ys : List ℕ) (x : ℕ) → IsDistinct eqb (xs ++ x ∷ ys) → place_in (xs ++ x ∷ ys) x ≡ length xs }
 {}
 

@@ -28,8 +28,8 @@ gathered_around c a = λ i. record {
   outer = outer_gathered c a.outer i;
 }
 
-pub gathered_told : (c : ContextModel) (a : OpContext) (r : RuleSet) → r ≡ set_of (around_in c a) → r ≡ set_of (gathered_in c a)
-gathered_told c a r e = e ∙ ap set_of (gathered_around c a)
+pub gathered_reported : (c : ContextModel) (a : OpContext) (r : RuleSet) → r ≡ set_of (around_in c a) → r ≡ set_of (gathered_in c a)
+gathered_reported c a r e = e ∙ ap set_of (gathered_around c a)
 
 pub gathered_beyond : (c : ContextModel) (a : OpContext) (r : Finding) → r ≡ finding_of (around_in c a) → r ≡ finding_of (gathered_in c a)
 gathered_beyond c a r e = e ∙ ap finding_of (gathered_around c a)

@@ -11,7 +11,7 @@ use Rattle.std.specs.List.Sorted.{IsStrictlySortedBy}
 use Rattle.std.specs.FinMap.Entries.{put, by_order, find, below_all, is_sorted}
 use Rattle.ir_tree.specs.Meaning.{Operation}
 use Rattle.ir_tree_laws.specs.Members.{In}
-use Rattle.ir_tree_laws.specs.Stands.{StandOf, stand_id, stands}
+use Rattle.ir_tree_laws.specs.Stands.{OpWithPathOf, op_with_path_id, stands}
 use Rattle.ir_tree_laws.proofs.Listed.{bool_cases, in_left, in_right, in_parts, in_map, in_mapped}
 use Rattle.ir_verify_base.specs.Surroundings.{surround}
 use Rattle.ir_verify_base.specs.Fits.{Surroundings}
@@ -123,9 +123,9 @@ put_rises x rs (e ∷ es) r h = elim (nat_cmp x e.0) as (λ o. EachRises (by_ord
   | Greater ↦ (h.0, put_rises x rs es r h.1)
 ]
 
-facts_rise : (t : Operation) (ss : List (StandOf (List ℕ) _ _)) → EachRises (sorted_in told t ss)
+facts_rise : (t : Operation) (ss : List (OpWithPathOf (List ℕ) _ _)) → EachRises (sorted_in told t ss)
 facts_rise t [] = tt
-facts_rise t (s ∷ ss) = put_rises (stand_id s) (told (surround t s)) (sorted_in told t ss) (told_rise (surround t s)) (facts_rise t ss)
+facts_rise t (s ∷ ss) = put_rises (op_with_path_id s) (told (surround t s)) (sorted_in told t ss) (told_rise (surround t s)) (facts_rise t ss)
 
 -- the pairs of each operation ascend
 abbrev Above : ℕ × ℕ → List (ℕ × ℕ) → Type 0
@@ -166,7 +166,7 @@ pairs_told t =
       pairs_of es,
       rows_say es,
       record {
-        is_told = λ p i. (let w = held es sorted p i in (w.0, sym (at p.0) ∙ w.1, w.2));
+        is_reported = λ p i. (let w = held es sorted p i in (w.0, sym (at p.0) ∙ w.1, w.2));
         all = λ p w. listed es p (w.0, at p.0 ∙ w.1, w.2);
         rising = pairs_rise es sorted (facts_rise t (stands [] t));
       },

@@ -8,9 +8,9 @@ use Rattle.ir_verify.specs.declared.rules.RuleSet.{RuleSet}
 use Rattle.ir_verify.specs.Breaks.{broken_rules_in}
 use Rattle.ir_verify.specs.Sets.{has_any, packed, set_of}
 
-abbrev told_by : Surroundings → Option Row → RuleSet
-told_by s r = record { bits = packed (broken_rules_in r s) }
+abbrev reported_by : Surroundings → Option Row → RuleSet
+reported_by s r = record { bits = packed (broken_rules_in r s) }
 
 pub silent : (s : Surroundings) (r : Option Row) → row_of s.node.head.name ≡ r → is_some r ≡ false → has_any (set_of s) ≡ false
-silent s None e f = ap (λ r. has_any (told_by s r)) e
+silent s None e f = ap (λ r. has_any (reported_by s r)) e
 silent s (Some r) e f = absurd cc

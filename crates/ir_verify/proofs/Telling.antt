@@ -9,7 +9,7 @@ use Rattle.std.proofs.lemmas.List.{map-append}
 use Rattle.std.proofs.lemmas.List.Elements.{All-nil, All-cons, All-head, All-tail, All-append}
 use Rattle.ir_types.specs.Things.{ContextModel}
 use Rattle.ir_tree.specs.Meaning.{Operation}
-use Rattle.ir_tree_laws.specs.Stands.{StandOf, stand_id, stands}
+use Rattle.ir_tree_laws.specs.Stands.{OpWithPathOf, op_with_path_id, stands}
 use Rattle.ir_tree_laws.proofs.Listed.{bool_cases}
 use Rattle.op_registry.specs.Rows.{Row}
 use Rattle.op_registry.specs.Registry.{row_of}
@@ -24,7 +24,7 @@ use Rattle.ir_verify.specs.declared.rules.RuleSet.{RuleSet}
 use Rattle.ir_verify.specs.declared.finding.Finding.{Finding}
 use Rattle.ir_verify.specs.Breaks.{broken_rules_in, broken, numbers_from}
 use Rattle.ir_verify.specs.Beyond.{is_beyond, is_on_types, told}
-use Rattle.ir_verify.specs.Sets.{bits_of, rules_in, has_any, set_of, finding_of, breaks_any, is_told, rules_told}
+use Rattle.ir_verify.specs.Sets.{bits_of, rules_in, has_any, set_of, finding_of, breaks_any, is_reported, reported_rules}
 use Rattle.ir_verify.specs.Diagnostics.{broken_at, rule_rows, rows_of, diagnostics_of}
 use Rattle.ir_verify.specs.Reports.{rule_cells, rules_cells, all_cells}
 use Rattle.ir_verify.proofs.Sets.{unpacked, none}
@@ -57,39 +57,39 @@ no_rules set e = ap (λ n. numbers_from 1 (bits_of 24 n)) (no_bits set.bits e) �
 abbrev pub is_told_of : Surroundings → ℕ → Bool
 is_told_of s r = not (is_beyond s && is_on_types (is_named s.node (codes "arith.constant")) r)
 
-pub finding_read : (s : Surroundings) → rules_told (finding_of s) ≡ told s
-unfolding rules_told
+pub finding_read : (s : Surroundings) → reported_rules (finding_of s) ≡ told s
+unfolding reported_rules
 finding_read s = elim (bool_cases (has_any (set_of s))) [
   | inl k ↦ ap (λ b. filter (λ r. not ((b && is_beyond s) && is_on_types (is_named s.node (codes "arith.constant")) r)) (rules_in (set_of s))) k ∙ ap (filter (is_told_of s)) (rules_broken s)
-  | inr k ↦ ap (filter (is_told (finding_of s))) (no_rules (set_of s) k) ∙ sym (ap (filter (is_told_of s)) (sym (rules_broken s) ∙ no_rules (set_of s) k))
+  | inr k ↦ ap (filter (is_reported (finding_of s))) (no_rules (set_of s) k) ∙ sym (ap (filter (is_told_of s)) (sym (rules_broken s) ∙ no_rules (set_of s) k))
 ]
 
-none_told : (f : Finding) → breaks_any f ≡ false → rules_told f ≡ []
-unfolding rules_told
-none_told f e = ap (filter (is_told f)) (no_rules f.broken e)
+none_told : (f : Finding) → breaks_any f ≡ false → reported_rules f ≡ []
+unfolding reported_rules
+none_told f e = ap (filter (is_reported f)) (no_rules f.broken e)
 
 -- ---- tables of findings
 abbrev read : ℕ × Finding → ℕ × List ℕ
-read e = (e.0, rules_told e.1)
+read e = (e.0, reported_rules e.1)
 
-put_read : (x : ℕ) (r : Finding) (es : List (ℕ × Finding)) → map read (put nat_cmp x r es) ≡ put nat_cmp x (rules_told r) (map read es)
+put_read : (x : ℕ) (r : Finding) (es : List (ℕ × Finding)) → map read (put nat_cmp x r es) ≡ put nat_cmp x (reported_rules r) (map read es)
 put_read x r [] = refl
-put_read x r (e ∷ es) = elim (nat_cmp x e.0) as (λ o. map read (by_order o ((x, r) ∷ e ∷ es) ((e.0, r) ∷ es) (e ∷ put nat_cmp x r es)) ≡ by_order o ((x, rules_told r) ∷ read e ∷ map read es) ((e.0, rules_told r) ∷ map read es) (read e ∷ put nat_cmp x (rules_told r) (map read es))) [
+put_read x r (e ∷ es) = elim (nat_cmp x e.0) as (λ o. map read (by_order o ((x, r) ∷ e ∷ es) ((e.0, r) ∷ es) (e ∷ put nat_cmp x r es)) ≡ by_order o ((x, reported_rules r) ∷ read e ∷ map read es) ((e.0, reported_rules r) ∷ map read es) (read e ∷ put nat_cmp x (reported_rules r) (map read es))) [
   | Less ↦ refl
   | Equal ↦ refl
   | Greater ↦ ap (λ l. read e ∷ l) (put_read x r es)
 ]
 
-facts_read : (t : Operation) (ss : List (StandOf (List ℕ) _ _)) → map read (sorted_in finding_of t ss) ≡ sorted_in told t ss
+facts_read : (t : Operation) (ss : List (OpWithPathOf (List ℕ) _ _)) → map read (sorted_in finding_of t ss) ≡ sorted_in told t ss
 facts_read t [] = refl
-facts_read t (s ∷ ss) = put_read (stand_id s) (finding_of (surround t s)) (sorted_in finding_of t ss) ∙ λ i. put nat_cmp (stand_id s) (finding_read (surround t s) i) (facts_read t ss i)
+facts_read t (s ∷ ss) = put_read (op_with_path_id s) (finding_of (surround t s)) (sorted_in finding_of t ss) ∙ λ i. put nat_cmp (op_with_path_id s) (finding_read (surround t s) i) (facts_read t ss i)
 
 all_rows : (es : List (ℕ × Finding)) → rows_of (map read (filter (λ (e : ℕ × Finding). breaks_any e.1) es)) ≡ rows_of (map read es)
 all_rows [] = refl
 all_rows (e ∷ es) =
     let rest = filter (λ (e : ℕ × Finding). breaks_any e.1) es in
     elim (bool_cases (breaks_any e.1)) [
-      | inl k ↦ ap (λ b. rows_of (map read (cond b (e ∷ rest) rest))) k ∙ ap (λ l. rule_rows e.0 (rules_told e.1) ++ l) (all_rows es)
+      | inl k ↦ ap (λ b. rows_of (map read (cond b (e ∷ rest) rest))) k ∙ ap (λ l. rule_rows e.0 (reported_rules e.1) ++ l) (all_rows es)
       | inr k ↦ ap (λ b. rows_of (map read (cond b (e ∷ rest) rest))) k ∙ all_rows es ∙ sym (ap (λ l. rule_rows e.0 l ++ rows_of (map read es)) (none_told e.1 k))
     ]
 
@@ -101,7 +101,7 @@ module _ (c : ContextModel) where
 
   all_say : (es : List (ℕ × Finding)) → map (map (cell_meaning c)) (all_cells es) ≡ rows_of (map read es)
   all_say [] = refl
-  all_say (e ∷ es) = map-append (map (cell_meaning c)) (rules_cells e.0 (rules_told e.1)) (all_cells es) ∙ λ i. cells_say e.0 (rules_told e.1) i ++ all_say es i
+  all_say (e ∷ es) = map-append (map (cell_meaning c)) (rules_cells e.0 (reported_rules e.1)) (all_cells es) ∙ λ i. cells_say e.0 (reported_rules e.1) i ++ all_say es i
 
   lines_say : (rows : List Line) → rows_meaning c rows ≡ map (map (cell_meaning c)) (map (λ (r : Line). r.cells.items) rows)
   lines_say [] = refl
@@ -118,7 +118,7 @@ module _ (c : ContextModel) where
 
   all_known : (es : List (ℕ × Finding)) → AreOf (all_cells es)
   all_known [] = All-nil (λ cells. All (CellIsOf c) cells)
-  all_known (e ∷ es) = All-append (λ cells. All (CellIsOf c) cells) (rules_cells e.0 (rules_told e.1)) (all_cells es) (cells_known e.0 (rules_told e.1)) (all_known es)
+  all_known (e ∷ es) = All-append (λ cells. All (CellIsOf c) cells) (rules_cells e.0 (reported_rules e.1)) (all_cells es) (cells_known e.0 (reported_rules e.1)) (all_known es)
 
   lines_known : (rows : List Line) → AreOf (map (λ (r : Line). r.cells.items) rows) → All (RowIsOf c) rows
   lines_known [] a = All-nil (RowIsOf c)

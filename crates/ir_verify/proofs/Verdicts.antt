@@ -12,8 +12,8 @@ use Rattle.ir_verify.specs.declared.verdict.Verdict.{Verdict}
 use Rattle.ir_verify.specs.declared.verdict.Verdict.TheVariants.{Valid, Unlisted, Invalid}
 use Rattle.ir_verify.specs.Breaks.{broken, numbers_from, broken_rules_in}
 use Rattle.ir_verify.specs.Beyond.{told}
-use Rattle.ir_verify.specs.Diagnostics.{broken_at, told_at}
-use Rattle.ir_verify.specs.Sets.{breaks_any, finding_of, has_any, packed, rules_told, set_of}
+use Rattle.ir_verify.specs.Diagnostics.{broken_at, reported_at}
+use Rattle.ir_verify.specs.Sets.{breaks_any, finding_of, has_any, packed, reported_rules, set_of}
 use Rattle.ir_verify.specs.Verdicts.{verdict_at, verdict_by, verdict_in}
 use Rattle.ir_verify.proofs.Telling.{finding_read, is_told_of, no_rules, rules_broken}
 
@@ -33,13 +33,13 @@ module _ (f : Finding) (s : Surroundings) (of : f ≡ finding_of s) where
   pub obeys : breaks_any f ≡ false → Valid ≡ verdict_in s
   obeys e = sym (ap (λ bs. verdict_by bs (told s)) (none_broken s (ap breaks_any (sym of) ∙ e)))
 
-  read : rules_told f ≡ told s
-  read = ap rules_told of ∙ finding_read s
+  read : reported_rules f ≡ told s
+  read = ap reported_rules of ∙ finding_read s
 
   breaks : breaks_any f ≡ true → broken s ≡ [] → ⊥
   breaks e = some_broken s (ap breaks_any (sym of) ∙ e)
 
-  pub broken_by : breaks_any f ≡ true → (rs : List ℕ) (v : Verdict) → rs ≡ rules_told f → ((b : ℕ) (bs : List ℕ) → v ≡ verdict_by (b ∷ bs) rs) → v ≡ verdict_in s
+  pub broken_by : breaks_any f ≡ true → (rs : List ℕ) (v : Verdict) → rs ≡ reported_rules f → ((b : ℕ) (bs : List ℕ) → v ≡ verdict_by (b ∷ bs) rs) → v ≡ verdict_in s
   broken_by e rs v k is = go (broken s) (breaks e) ∙ ap (verdict_by (broken s)) (k ∙ read)
     where
       go : (bs : List ℕ) → (bs ≡ [] → ⊥) → v ≡ verdict_by bs rs
@@ -55,7 +55,7 @@ verdict_read x t f v e is = go (surroundings x t) e
     go (Some s) e = let one : f ≡ finding_of s = cc in ap Some (sym (is s one))
 
 -- an operation that breaks no rule has no reported rule
-pub none_told : (x : ℕ) (t : Operation) → broken_at x t ≡ Some [] → told_at x t ≡ Some []
+pub none_told : (x : ℕ) (t : Operation) → broken_at x t ≡ Some [] → reported_at x t ≡ Some []
 none_told x t e = go (surroundings x t) e
   where
     go : (s : Option Surroundings) → option_map broken s ≡ Some [] → option_map told s ≡ Some []

@@ -29,12 +29,12 @@ abbrev pub breaks_8 : Surroundings → Bool
 breaks_8 s = is_named s.node (codes "func.func") && (is_some (block_at 0 s.node) && ends_badly (last_at 0 s))
 
 -- rule 9: the block is empty, or its last operation isn't the required terminator
-abbrev pub isnt_wanted : List ℕ → Option (List ℕ) → Bool
-isnt_wanted wanted None = true
-isnt_wanted wanted (Some name) = not (bytes_eq name wanted)
+abbrev pub isnt_required : List ℕ → Option (List ℕ) → Bool
+isnt_required wanted None = true
+isnt_required wanted (Some name) = not (bytes_eq name wanted)
 
 abbrev pub ends_otherwise : ℕ → List ℕ → Surroundings → Bool
-ends_otherwise k wanted s = is_some (block_at k s.node) && isnt_wanted wanted (last_at k s)
+ends_otherwise k wanted s = is_some (block_at k s.node) && isnt_required wanted (last_at k s)
 
 abbrev pub breaks_9 : Surroundings → Bool
 breaks_9 s =

@@ -11,8 +11,8 @@ use Rattle.ir_verify.specs.PlaceRules.{breaks_10, breaks_11, breaks_15, breaks_1
 
 -- for each rule in order, whether a listed operation breaks it; for an operation that isn't well-shaped, only the
 -- rules on its own form and on its position count
-abbrev pub told_of : Row → Surroundings → List Bool
-told_of row s =
+abbrev pub counted_rules : Row → Surroundings → List Bool
+counted_rules row s =
     breaks_1 row s.node
     ∷ (is_well_shaped row s.node && breaks_2 row s)
     ∷ breaks_3 row s.node
@@ -42,7 +42,7 @@ told_of row s =
 -- an operation that isn't listed breaks none
 abbrev pub broken_rules_in : Option Row → Surroundings → List Bool
 broken_rules_in None s = []
-broken_rules_in (Some row) s = told_of row s
+broken_rules_in (Some row) s = counted_rules row s
 
 -- the numbers of the true items, counted from n
 abbrev pub numbers_from : ℕ → List Bool → List ℕ

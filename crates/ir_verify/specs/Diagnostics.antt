@@ -15,8 +15,8 @@ abbrev pub broken_at : ℕ → Operation → Option (List ℕ)
 broken_at x t = option_map broken (surroundings x t)
 
 -- the reported rules of operation x, if it is in the tree
-abbrev pub told_at : ℕ → Operation → Option (List ℕ)
-told_at x t = option_map told (surroundings x t)
+abbrev pub reported_at : ℕ → Operation → Option (List ℕ)
+reported_at x t = option_map told (surroundings x t)
 
 -- the reason why operation x isn't checked: it isn't in the tree, or memory ran out
 abbrev pub Unchecked : ℕ → Operation → Refusal → Type 0

@@ -30,17 +30,17 @@ abbrev pub is_one : List ℕ → List (List ℕ) → Bool
 is_one name names = list_any (bytes_eq name) names
 
 -- whether the parent of an operation is listed and has none of these names
-abbrev pub stands_elsewhere : List (List ℕ) → Option Outer → Bool
-stands_elsewhere names None = false
-stands_elsewhere names (Some outer) = is_listed outer.name && not (is_one outer.name names)
+abbrev pub has_other_parent : List (List ℕ) → Option Outer → Bool
+has_other_parent names None = false
+has_other_parent names (Some outer) = is_listed outer.name && not (is_one outer.name names)
 
 -- rule 11: the parent of a terminator is listed, and its row doesn't allow the parent
 abbrev pub breaks_11 : Row → Surroundings → Bool
-breaks_11 row s = has_trait Terminator s.node.head.name && stands_elsewhere row.parents s.outer
+breaks_11 row s = has_trait Terminator s.node.head.name && has_other_parent row.parents s.outer
 
 -- rule 23: the parent of a function is listed and isn't a module
 abbrev pub breaks_23 : Surroundings → Bool
-breaks_23 s = is_named s.node (codes "func.func") && stands_elsewhere (codes "builtin.module" ∷ []) s.outer
+breaks_23 s = is_named s.node (codes "func.func") && has_other_parent (codes "builtin.module" ∷ []) s.outer
 
 -- the operation whose block the operation ends, if that operation is well-shaped
 abbrev pub if_well_shaped : Node → Option Row → Option Node

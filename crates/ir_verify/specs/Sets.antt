@@ -49,8 +49,8 @@ abbrev pub breaks_any : Finding → Bool
 breaks_any t = has_any t.broken
 
 -- whether a broken rule is reported, and the reported rules
-abbrev pub is_told : Finding → ℕ → Bool
-is_told t r = not (t.beyond && is_on_types t.constant r)
+abbrev pub is_reported : Finding → ℕ → Bool
+is_reported t r = not (t.beyond && is_on_types t.constant r)
 
-unfoldable pub rules_told : Finding → List ℕ
-rules_told t = filter (is_told t) (rules_in t.broken)
+unfoldable pub reported_rules : Finding → List ℕ
+reported_rules t = filter (is_reported t) (rules_in t.broken)

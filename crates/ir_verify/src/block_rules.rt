@@ -116,11 +116,11 @@ fn ends_otherwise(ctx: &Context, around: &OpContext<'_>, region: usize, wanted: 
     requires { AroundIsOf ctx.now around.now }
     ensures { result ≡ rules.ends_otherwise region (word_bytes wanted) (around_in ctx.now around.now) }
 {
-    has_block(ctx, &around.node, region) && isnt_wanted(ctx, last(ctx, around, region), wanted)
+    has_block(ctx, &around.node, region) && isnt_required(ctx, last(ctx, around, region), wanted)
 }
 
-fn isnt_wanted(ctx: &Context, last: Option<NameId>, wanted: Word) -> bool
-    ensures { result ≡ rules.isnt_wanted (word_bytes wanted) (option_map (name_term ctx.now) last) }
+fn isnt_required(ctx: &Context, last: Option<NameId>, wanted: Word) -> bool
+    ensures { result ≡ rules.isnt_required (word_bytes wanted) (option_map (name_term ctx.now) last) }
 {
     match last {
         None => true,

@@ -8,7 +8,7 @@ ghost use Rattle.ir_verify_base.specs.Gathered.{AroundIsOf};
 ghost use Rattle.ir_verify_base.specs.Fits.{Surroundings};
 ghost use Rattle.ir_verify_base.specs.Numbers.{around_in, typed};
 ghost use Rattle.ir_verify.specs.Beyond as beyond;
-ghost use Rattle.ir_verify.specs.Sets.{breaks_any, is_told, rules_told, finding_of};
+ghost use Rattle.ir_verify.specs.Sets.{breaks_any, is_reported, reported_rules, finding_of};
 
 use crate::place_rules::definition;
 use crate::rules::{RuleSet, broken_rules, may_break};
@@ -39,29 +39,29 @@ pub struct Finding {
 
 impl Finding {
     /// Returns whether a broken rule is reported.
-    fn is_told(&self, rule: u8) -> bool
-        ensures { result ≡ is_told self.now rule }
+    fn is_reported(&self, rule: u8) -> bool
+        ensures { result ≡ is_reported self.now rule }
     {
         !(self.beyond && is_on_types(self.constant, rule))
     }
 
     /// Returns the numbers of the reported rules, in ascending order.
-    #[tactic(auto, unfolding(crate::specs::Sets::rules_told))]
+    #[tactic(auto, unfolding(crate::specs::Sets::reported_rules))]
     pub(crate) fn numbers(&self, alloc: Global) -> Result<Vec<u8>, AllocError>
-        ensures { IfOk result (λ v. v.items ≡ rules_told self.now) }
+        ensures { IfOk result (λ v. v.items ≡ reported_rules self.now) }
     {
         let broken = self.broken.numbers(alloc)?;
         let mut numbers = Vec::new(alloc);
-        self.push_told(&broken, &mut numbers)?;
+        self.push_reported(&broken, &mut numbers)?;
         Ok(numbers)
     }
 
     /// Appends those of the broken rules that are reported.
-    fn push_told(&self, broken: &[u8], numbers: &mut Vec<u8>) -> Result<(), AllocError>
-        ensures { OnOk result (numbers.new.items ≡ numbers.old.items ++ filter (is_told self.now) broken.now) }
+    fn push_reported(&self, broken: &[u8], numbers: &mut Vec<u8>) -> Result<(), AllocError>
+        ensures { OnOk result (numbers.new.items ≡ numbers.old.items ++ filter (is_reported self.now) broken.now) }
     {
         for rule in broken {
-            if self.is_told(*rule) {
+            if self.is_reported(*rule) {
                 numbers.push(*rule)?;
             }
         }

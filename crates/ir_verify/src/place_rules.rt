@@ -58,7 +58,7 @@ pub(crate) fn breaks_11(
 ) -> bool
     ensures { result ≡ rules.breaks_11 (row_from def.now) (around_in ctx.now around.now) }
 {
-    is_terminator(ctx, registry, &around.node) && stands_elsewhere(ctx, def.parents, &around.outer)
+    is_terminator(ctx, registry, &around.node) && has_other_parent(ctx, def.parents, &around.outer)
 }
 
 /// Rule 23: the parent of a function is listed and isn't a module.
@@ -66,12 +66,12 @@ pub(crate) fn breaks_23(ctx: &Context, around: &OpContext<'_>) -> bool
     ensures { result ≡ rules.breaks_23 (around_in ctx.now around.now) }
 {
     is_named(ctx, &around.node, Word::FuncFunc)
-        && stands_elsewhere(ctx, &[Word::BuiltinModule], &around.outer)
+        && has_other_parent(ctx, &[Word::BuiltinModule], &around.outer)
 }
 
 /// Returns whether the parent of an operation is listed and has none of these names.
-fn stands_elsewhere(ctx: &Context, names: &[Word], outer: &Option<ParentContext<'_>>) -> bool
-    ensures { result ≡ rules.stands_elsewhere (map word_bytes names.now) (option_map (outer_in ctx.now) outer.now) }
+fn has_other_parent(ctx: &Context, names: &[Word], outer: &Option<ParentContext<'_>>) -> bool
+    ensures { result ≡ rules.has_other_parent (map word_bytes names.now) (option_map (outer_in ctx.now) outer.now) }
 {
     match outer {
         None => false,

@@ -1,7 +1,7 @@
 //! The rows of the report.
 ghost use Rattle.std.specs.Prelude.{◌≡◌, ◌++◌, [], ◌∷◌, map, OnOk, IfOk};
 ghost use Rattle.ir_verify_base.specs.events.declared.row.Row.{Row as Line};
-ghost use Rattle.ir_verify.specs.Sets.{rules_told};
+ghost use Rattle.ir_verify.specs.Sets.{reported_rules};
 ghost use Rattle.ir_verify.specs.Reports.{rule_cells, rules_cells, all_cells};
 
 use crate::finding::Finding;
@@ -36,14 +36,14 @@ fn push_rows(alloc: Global, op: OpId, rules: &[u8], out: &mut Vec<Row>) -> Resul
 }
 
 /// Appends a row for each reported rule of an operation.
-fn push_told(
+fn push_reported(
     alloc: Global,
     op: OpId,
     finding: &Finding,
     out: &mut Vec<Row>,
 ) -> Result<(), AllocError>
     ensures { OnOk result (map (λ (r : Line). r.cells.items) out.new.items
-        ≡ map (λ (r : Line). r.cells.items) out.old.items ++ rules_cells op (rules_told finding.now)) }
+        ≡ map (λ (r : Line). r.cells.items) out.old.items ++ rules_cells op (reported_rules finding.now)) }
 {
     let rules = finding.numbers(alloc)?;
     push_rows(alloc, op, &rules, out)
@@ -68,7 +68,7 @@ fn push_all(
         ≡ map (λ (r : Line). r.cells.items) out.old.items ++ all_cells table.now.entries) }
 {
     for (op, rules) in table {
-        push_told(alloc, OpId::new(*op), rules, out)?;
+        push_reported(alloc, OpId::new(*op), rules, out)?;
     }
     Ok(())
 }

@@ -2,7 +2,7 @@
 ghost use Rattle.std.specs.Prelude.{◌≡◌, ◌≤◌, ◌<◌, ◌^◌, [], ◌∷◌, ◌++◌, IfOk, OnOk, length, true, false};
 ghost use Rattle.ir_types.specs.Terms.{name_term};
 ghost use Rattle.ir_verify_base.specs.Gathered.{AroundIsOf};
-ghost use Rattle.ir_verify.specs.Breaks.{told_of, numbers_from};
+ghost use Rattle.ir_verify.specs.Breaks.{counted_rules, numbers_from};
 ghost use Rattle.ir_verify_base.specs.Fits.{Surroundings};
 ghost use Rattle.op_registry.specs.Registry.{row_from};
 ghost use Rattle.ir_verify_base.specs.Numbers.{around_in, node_in};
@@ -81,7 +81,7 @@ impl LocalFact for RuleSet {
         may_break(ctx, name)
     }
 
-    #[tactic(auto, using(crate::proofs::Gathering::gathered_told))]
+    #[tactic(auto, using(crate::proofs::Gathering::gathered_reported))]
     fn compute(ctx: &Context, registry: &Registry, around: &OpContext<'_>) -> RuleSet {
         broken_rules(ctx, registry, around)
     }
@@ -125,28 +125,33 @@ pub fn broken_rules(ctx: &Context, registry: &Registry, around: &OpContext<'_>) 
 {
     match definition(ctx, registry, &around.node) {
         None => RuleSet { bits: 0 },
-        Some(def) => told_by(ctx, registry, def, around),
+        Some(def) => reported_by(ctx, registry, def, around),
     }
 }
 
 /// Returns the rules that a listed operation breaks.
-fn told_by(ctx: &Context, registry: &Registry, def: &OpDef, around: &OpContext<'_>) -> RuleSet
+fn reported_by(ctx: &Context, registry: &Registry, def: &OpDef, around: &OpContext<'_>) -> RuleSet
     requires { AroundIsOf ctx.now around.now }
-    ensures { result.bits ≡ packed (told_of (row_from def.now) (around_in ctx.now around.now)) }
+    ensures { result.bits ≡ packed (counted_rules (row_from def.now) (around_in ctx.now around.now)) }
 {
     if is_well_shaped(ctx, def, &around.node) {
-        told_shaped(ctx, registry, def, around)
+        broken_if_shaped(ctx, registry, def, around)
     } else {
-        told_unshaped(ctx, registry, def, around)
+        broken_if_unshaped(ctx, registry, def, around)
     }
 }
 
 /// Returns the broken rules of an operation that isn't well-shaped. Rules that need a well-shaped operation don't
 /// count.
-fn told_unshaped(ctx: &Context, registry: &Registry, def: &OpDef, around: &OpContext<'_>) -> RuleSet
+fn broken_if_unshaped(
+    ctx: &Context,
+    registry: &Registry,
+    def: &OpDef,
+    around: &OpContext<'_>,
+) -> RuleSet
     requires around { AroundIsOf ctx.now around.now }
     requires shaped { shapes.is_well_shaped (row_from def.now) (node_in ctx.now around.now.node) ≡ false }
-    ensures { result.bits ≡ packed (told_of (row_from def.now) (around_in ctx.now around.now)) }
+    ensures { result.bits ≡ packed (counted_rules (row_from def.now) (around_in ctx.now around.now)) }
 {
     let node = &around.node;
     let silent = false;
@@ -179,10 +184,15 @@ fn told_unshaped(ctx: &Context, registry: &Registry, def: &OpDef, around: &OpCon
 }
 
 /// Returns the broken rules of a well-shaped operation.
-fn told_shaped(ctx: &Context, registry: &Registry, def: &OpDef, around: &OpContext<'_>) -> RuleSet
+fn broken_if_shaped(
+    ctx: &Context,
+    registry: &Registry,
+    def: &OpDef,
+    around: &OpContext<'_>,
+) -> RuleSet
     requires around { AroundIsOf ctx.now around.now }
     requires shaped { shapes.is_well_shaped (row_from def.now) (node_in ctx.now around.now.node) ≡ true }
-    ensures { result.bits ≡ packed (told_of (row_from def.now) (around_in ctx.now around.now)) }
+    ensures { result.bits ≡ packed (counted_rules (row_from def.now) (around_in ctx.now around.now)) }
 {
     let known = known_of(ctx, def, around);
     let ended = ended(ctx, registry, around);

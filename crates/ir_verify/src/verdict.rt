@@ -26,7 +26,7 @@ pub enum Verdict {
 }
 
 /// Returns the verdict on an operation that breaks a rule, given its reported rules.
-fn verdict_told(told: &[u8]) -> Verdict
+fn verdict_of_reported(told: &[u8]) -> Verdict
     ensures { (b : ℕ) (bs : List ℕ) → result ≡ verdict_by (b ∷ bs) told.now }
 {
     match told {
@@ -43,7 +43,7 @@ fn verdict_of(alloc: Global, finding: &Finding) -> Result<Verdict, AllocError>
         return Ok(Verdict::Valid);
     }
     let told = finding.numbers(alloc)?;
-    Ok(verdict_told(&told))
+    Ok(verdict_of_reported(&told))
 }
 
 /// Returns the verdict on an operation of the module.
@@ -54,11 +54,11 @@ pub fn verify_op(alloc: Global, world: &World, op: OpId) -> Result<Verdict, Refu
         (Unchecked op (module_in world.now).tree) }
 {
     let mut view = View::new(world);
-    judge_in(alloc, &mut view, op)
+    verdict_of_op(alloc, &mut view, op)
 }
 
 /// Returns the verdict on an operation of the view's module.
-fn judge_in(alloc: Global, view: &mut View<'_>, op: OpId) -> Result<Verdict, Refusal>
+fn verdict_of_op(alloc: Global, view: &mut View<'_>, op: OpId) -> Result<Verdict, Refusal>
     ensures { MatchResult result (λ v. verdict_at op (module_in view.old.world.now).tree ≡ Some v)
         (Unchecked op (module_in view.old.world.now).tree) }
 {

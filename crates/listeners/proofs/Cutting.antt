@@ -5,7 +5,7 @@ use Rattle.ir_event.specs.trees.Ids.{HasDistinctIds, find}
 use Rattle.ir_event.specs.trees.Places.{without}
 use Rattle.ir_event.specs.trees.Edits.{each_head}
 use Rattle.ir_event.specs.tree_laws.Changes.{HoldNone}
-use Rattle.ir_event.specs.tree_laws.Stands.{StepOf, StandOf, stand_id, stands, regions_stands, region_stands, ops_stands, gather, edit_stand, dropping}
+use Rattle.ir_event.specs.tree_laws.Stands.{StepOf, OpWithPathOf, op_with_path_id, stands, regions_stands, region_stands, ops_stands, gather, edit_stand, dropping}
 use Rattle.ir_event.proofs.of_tree_laws.Listed.{gather-append}
 use Rattle.ir_event.proofs.of_tree_laws.Heads.{each_stands}
 use Rattle.ir_event.proofs.of_tree_laws.Readings.{step}
@@ -15,20 +15,20 @@ use Rattle.ir_event.proofs.of_tree_laws.Shift.{inner_of}
 use Rattle.ir_event.proofs.of_tree_laws.Edited.{taken_part}
 use Rattle.listeners.specs.declared.key.Use.{Use}
 use Rattle.listeners.specs.Uses.{operand_uses, uses_in, regions_uses, region_uses, ops_uses, put_use, in_order}
-use Rattle.listeners.proofs.Orders.{put_among}
+use Rattle.listeners.proofs.Orders.{insert_sorted}
 
 -- the ordered list doesn't depend on the order of insertion
 pub moved_preceding : (us vs ws : List Use) → in_order (us ++ (vs ++ ws)) ≡ in_order (vs ++ (us ++ ws))
 moved_preceding us [] ws = refl
-moved_preceding us (v ∷ vs) ws = put_among us (vs ++ ws) v ∙ ap (put_use v) (moved_preceding us vs ws)
+moved_preceding us (v ∷ vs) ws = insert_sorted us (vs ++ ws) v ∙ ap (put_use v) (moved_preceding us vs ws)
 
 module _ {N T A : Type 0} where
-  abbrev own : StandOf N T A → List Use
-  own s = operand_uses (stand_id s) 0 (head s.here).operands
+  abbrev own : OpWithPathOf N T A → List Use
+  own s = operand_uses (op_with_path_id s) 0 (head s.here).operands
 
   -- uses by the list of operations
   mutual
-    pub uses_stands : (path : List (StepOf N T A)) (t : OpOf N T A) → gather (λ (s : StandOf N T A). operand_uses (stand_id s) 0 (head s.here).operands) (stands path t) ≡ uses_in t
+    pub uses_stands : (path : List (StepOf N T A)) (t : OpOf N T A) → gather (λ (s : OpWithPathOf N T A). operand_uses (op_with_path_id s) 0 (head s.here).operands) (stands path t) ≡ uses_in t
     uses_stands path (op h rs) = ap (λ l. operand_uses h.id 0 h.operands ++ l) (regions_uses_stands (op h rs) path 0 rs)
 
     regions_uses_stands : (p : OpOf N T A) (path : List (StepOf N T A)) (r : ℕ) (rs : RegionsOf N T A) → gather own (regions_stands p path r rs) ≡ regions_uses rs
@@ -89,10 +89,10 @@ module _ {N T A : Type 0} where
     edited_head : (o : OpOf N T A) → head (each_head f o) ≡ f (head o)
     edited_head (op h rs) = refl
 
-    edited_own : (s : StandOf N T A) → own (edit_stand f s) ≡ own s
+    edited_own : (s : OpWithPathOf N T A) → own (edit_stand f s) ≡ own s
     edited_own s = ap (λ (h : HeadOf N T A). operand_uses h.id 0 h.operands) (edited_head s.here) ∙ λ i. operand_uses (id (head s.here) i) 0 (operands (head s.here) i)
 
-    edited_all : (ss : List (StandOf N T A)) → gather own (map (edit_stand f) ss) ≡ gather own ss
+    edited_all : (ss : List (OpWithPathOf N T A)) → gather own (map (edit_stand f) ss) ≡ gather own ss
     edited_all [] = refl
     edited_all (s ∷ ss) = λ i. edited_own s i ++ edited_all ss i
 

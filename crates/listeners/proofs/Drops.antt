@@ -15,6 +15,6 @@ drop_all [] vs = vs
 drop_all (u ∷ us) vs = drop_all us (drop_use u vs)
 
 -- with each use of a list
-abbrev pub put_all : List Use → List Use → List Use
-put_all [] vs = vs
-put_all (u ∷ us) vs = put_all us (put_use u vs)
+abbrev pub insert_entries : List Use → List Use → List Use
+insert_entries [] vs = vs
+insert_entries (u ∷ us) vs = insert_entries us (put_use u vs)

@@ -19,7 +19,7 @@ use Rattle.ir_event.specs.trees.declared.place.Place.{Place}
 use Rattle.ir_event.specs.trees.declared.value.Value.{Value}
 use Rattle.ir_event.proofs.of_trees.Mapped.{map_find}
 use Rattle.ir_event.specs.tree_laws.Members.{In}
-use Rattle.ir_event.specs.tree_laws.Stands.{StandOf, stands, place_in}
+use Rattle.ir_event.specs.tree_laws.Stands.{OpWithPathOf, stands, place_in}
 use Rattle.ir_event.proofs.of_tree_laws.Around.{member_of_place}
 use Rattle.ir_event.proofs.of_tree_laws.Listed.{bool_cases}
 use Rattle.ir_event.proofs.of_tree_laws.Members.{same_stand, stand, stand_found}
@@ -64,7 +64,7 @@ placed {N} {T} {A} x place t d e =
       inner = elim (bool_cases (eqb (head t).id x)) [
         | inr k ↦ k
         | inl k ↦ (let same : m.0 ≡ stand t [] = same_stand t d m.0 (stand t []) m.1 (root_in t) (m.2 ∙ sym (eqb-true (head t).id x k)) in
-            let bad : None ≡ Some place = sym (ap (λ (s : StandOf N T A). place_in s.path) same) ∙ m.3 in
+            let bad : None ≡ Some place = sym (ap (λ (s : OpWithPathOf N T A). place_in s.path) same) ∙ m.3 in
             absurd cc)
       ];
     }

@@ -12,19 +12,19 @@ use Rattle.ir_event.specs.types.Terms.{name_term, attr_term}
 use Rattle.ir_event.specs.trees.Ids.{HasDistinctIds}
 use Rattle.ir_event.specs.trees.Meaning.{Operation}
 use Rattle.ir_event.specs.tree_laws.Members.{In}
-use Rattle.ir_event.specs.tree_laws.Stands.{stands, stand_of}
+use Rattle.ir_event.specs.tree_laws.Stands.{stands, op_with_path}
 use Rattle.ir_event.proofs.of_tree_laws.Members.{member}
 use Rattle.listeners_symbols.specs.declared.role.Role.{Role as Numbers}
 use Rattle.listeners_symbols.specs.declared.roles.Roles.{Roles}
 use Rattle.listeners_symbols.specs.declared.role.Reference.{Reference}
-use Rattle.listeners_symbols.specs.Roles.{Stand, role_of}
+use Rattle.listeners_symbols.specs.Roles.{OpWithPath, role_of}
 use Rattle.listeners_symbols.specs.Symbols.{DefinitionOf, definitions, roles_by_id, look_in}
 use Rattle.listeners_symbols.specs.Table.{reference_of, role_numbers, map_reference, role_meaning, RoleIsOf, ReferenceIsOf, Keeps}
 use Rattle.listeners_symbols.specs.Lines.{numbered, numbers_at}
 use Rattle.listeners_symbols.specs.Listeners.{kept_at}
 use Rattle.listeners_symbols.proofs.Reported.{Each, DefinitionIs, defs_in, definitions_meant, definitions_known, look_meant, entries_known, entries_meant}
-use Rattle.listeners.specs.Unreached.{private_name, says_definition, prefixes, targets, reached_from, stands_under, under, reaches, is_definition, Reached}
-use Rattle.listeners.specs.Marks.{StandsUnder, IsDefinition, Reaches, ReachedBy}
+use Rattle.listeners.specs.Unreached.{private_name, says_definition, prefixes, targets, reached_from, self_and_ancestors, under, reaches, is_definition, Reached}
+use Rattle.listeners.specs.Marks.{IsUnder, IsDefinition, Reaches, ReachedBy}
 use Rattle.listeners.proofs.Sets.{reacher_role, role_stands}
 use Rattle.listeners.proofs.Under.{to_links, from_links}
 use Rattle.listeners.proofs.Taken.{reached_more}
@@ -80,25 +80,25 @@ module _ (b : ContextModel) where
       reaches_meant : (y : ℕ) → reaches t y ≡ reached_from eqb (numbers_at m) in_numbers (numbers_at m y)
       reaches_meant y = ap (λ l. reached_from bytes_eq (role_of t) l (role_of t y)) all_meant ∙ reached_meant in_numbers all_known y
 
-      under_links : (y p : ℕ) → In p (under t y) → StandsUnder (numbers_at m) y p
-      under_links y p h = go (stand_of y t) refl
+      under_links : (y p : ℕ) → In p (under t y) → IsUnder (numbers_at m) y p
+      under_links y p h = go (op_with_path y t) refl
         where
-          go : (o : Option Stand) → stand_of y t ≡ o → StandsUnder (numbers_at m) y p
-          go None e = absurd (subst (λ (o : Option Stand). In p (stands_under o)) e h)
+          go : (o : Option OpWithPath) → op_with_path y t ≡ o → IsUnder (numbers_at m) y p
+          go None e = absurd (subst (λ (o : Option OpWithPath). In p (self_and_ancestors o)) e h)
           go (Some s) e =
               let k = member y (stands [] t) s e in
-              subst (λ z. StandsUnder (numbers_at m) z p) k.1 (to_links b t d m keeps p s.path s.here k.0 (subst (λ (o : Option Stand). In p (stands_under o)) e h))
+              subst (λ z. IsUnder (numbers_at m) z p) k.1 (to_links b t d m keeps p s.path s.here k.0 (subst (λ (o : Option OpWithPath). In p (self_and_ancestors o)) e h))
 
-      links_under : (y x p : ℕ) → In x (reaches t y) → StandsUnder (numbers_at m) y p → In p (under t y)
+      links_under : (y x p : ℕ) → In x (reaches t y) → IsUnder (numbers_at m) y p → In p (under t y)
       links_under y x p r u =
           let q = reacher_role t y x r in
           let s = role_stands t y q.0 q.1 in
           let k = member y (stands [] t) s.0 s.1 in
-          subst (λ (o : Option Stand). In p (stands_under o)) (sym s.1) (from_links b t d m keeps y p u s.0 k.0 k.1)
+          subst (λ (o : Option OpWithPath). In p (self_and_ancestors o)) (sym s.1) (from_links b t d m keeps y p u s.0 k.0 k.1)
 
       pub to_tree : (x : ℕ) → ReachedBy (numbers_at m) in_numbers x → Reached t x
       to_tree x h =
-          reached_more (IsDefinition (numbers_at m)) (λ z. is_definition t z ≡ true) (StandsUnder (numbers_at m)) (λ y p. In p (under t y)) (Reaches (numbers_at m) in_numbers) (λ y z. In z (reaches t y))
+          reached_more (IsDefinition (numbers_at m)) (λ z. is_definition t z ≡ true) (IsUnder (numbers_at m)) (λ y p. In p (under t y)) (Reaches (numbers_at m) in_numbers) (λ y z. In z (reaches t y))
           (λ z e. definition_meant z ∙ e)
           (λ y z r. subst (In z) (sym (reaches_meant y)) r)
           (λ y z r p q v. (sym (definition_meant p) ∙ q, under_links y p v))
@@ -106,7 +106,7 @@ module _ (b : ContextModel) where
 
       pub from_tree : (x : ℕ) → Reached t x → ReachedBy (numbers_at m) in_numbers x
       from_tree x h =
-          reached_more (λ z. is_definition t z ≡ true) (IsDefinition (numbers_at m)) (λ y p. In p (under t y)) (StandsUnder (numbers_at m)) (λ y z. In z (reaches t y)) (Reaches (numbers_at m) in_numbers)
+          reached_more (λ z. is_definition t z ≡ true) (IsDefinition (numbers_at m)) (λ y p. In p (under t y)) (IsUnder (numbers_at m)) (λ y z. In z (reaches t y)) (Reaches (numbers_at m) in_numbers)
           (λ z e. sym (definition_meant z) ∙ e)
           (λ y z r. subst (In z) (reaches_meant y) r)
           (λ y z r p q v. (definition_meant p ∙ q, links_under y z p r v))

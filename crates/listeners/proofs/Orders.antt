@@ -110,9 +110,9 @@ put_twice u v (w ∷ ws) = go (put_twice u v ws) (is_gt (use_cmp u w)) (is_gt (u
         ∙ sym (ap (put_use v) (put_first u w ws e))
 
 -- one use among others may be inserted first or last
-pub put_among : (xs ys : List Use) (u : Use) → in_order (xs ++ u ∷ ys) ≡ put_use u (in_order (xs ++ ys))
-put_among [] ys u = refl
-put_among (x ∷ xs) ys u = ap (put_use x) (put_among xs ys u) ∙ put_twice x u (in_order (xs ++ ys))
+pub insert_sorted : (xs ys : List Use) (u : Use) → in_order (xs ++ u ∷ ys) ≡ put_use u (in_order (xs ++ ys))
+insert_sorted [] ys u = refl
+insert_sorted (x ∷ xs) ys u = ap (put_use x) (insert_sorted xs ys u) ∙ put_twice x u (in_order (xs ++ ys))
 
 -- uses in order are unchanged by ordering
 put_later : (u : Use) (us : List Use) → in_order (put_use u us) ≡ put_use u (in_order us)

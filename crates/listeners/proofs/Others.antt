@@ -7,7 +7,7 @@ use Rattle.ir_event.specs.trees.declared.value.Value.{Value}
 use Rattle.listeners.specs.declared.key.Use.{Use}
 use Rattle.listeners.specs.Uses.{operand_uses, use_cmp, put_use, in_order}
 use Rattle.listeners.specs.Others.{is_other, only, others}
-use Rattle.listeners.proofs.Drops.{drop_all, put_all}
+use Rattle.listeners.proofs.Drops.{drop_all, insert_entries}
 use Rattle.listeners.proofs.Moving.{drop_all_order, put_all_order}
 use Rattle.listeners.proofs.Orders.{put_after, put_first, put_twice}
 use Rattle.ir_event.proofs.of_types.Sorting.{flips_eq}
@@ -93,7 +93,7 @@ others_alike x us vs e = sym (others_order x us) ∙ ap (λ l. in_order (others 
 
 -- uses prepended to others
 pub after_alike : (us vs ws : List Use) → in_order vs ≡ in_order ws → in_order (us ++ vs) ≡ in_order (us ++ ws)
-after_alike us vs ws e = sym (put_all_order us vs) ∙ ap (put_all us) e ∙ put_all_order us ws
+after_alike us vs ws e = sym (put_all_order us vs) ∙ ap (insert_entries us) e ∙ put_all_order us ws
 
 pub cancelled : (us vs ws : List Use) → in_order (us ++ vs) ≡ in_order (us ++ ws) → in_order vs ≡ in_order ws
 cancelled us vs ws e = sym (drop_all_order us vs) ∙ ap (drop_all us) e ∙ drop_all_order us ws

@@ -4,12 +4,12 @@ use Rattle.std.specs.Prelude.{option_map}
 use Rattle.ir_event.specs.trees.Ids.{ids}
 use Rattle.ir_event.specs.trees.Meaning.{Operation}
 use Rattle.ir_event.specs.tree_laws.Members.{In}
-use Rattle.ir_event.specs.tree_laws.Stands.{stand_id, stands, stand_of}
+use Rattle.ir_event.specs.tree_laws.Stands.{op_with_path_id, stands, op_with_path}
 use Rattle.ir_event.proofs.of_tree_laws.Listed.{bool_cases, in_map, in_filter, in_filtered}
 use Rattle.ir_event.proofs.of_tree_laws.Readings.{stands_ids}
 use Rattle.ir_event.proofs.of_tree_laws.Members.{member}
 use Rattle.std.specs.Str.{bytes_eq}
-use Rattle.listeners_symbols.specs.Roles.{Stand, Role, role, role_of}
+use Rattle.listeners_symbols.specs.Roles.{OpWithPath, Role, role, role_of}
 use Rattle.listeners_symbols.specs.Symbols.{definitions, roles_by_id}
 use Rattle.listeners.specs.Reached.{IsReached, among}
 use Rattle.listeners.specs.Unreached.{says_definition, reached_from, under, reaches, is_definition, private_definitions, Reached, reached_in, unreached_of}
@@ -18,14 +18,14 @@ use Rattle.listeners.proofs.Taken.{reached_more}
 
 module _ (t : Operation) where
   -- an operation at a position of the tree has an id of the tree
-  pub stand_there : (y : ℕ) (s : Stand) → stand_of y t ≡ Some s → In y (ids t)
-  stand_there y s e = let m = member y (stands [] t) s e in subst (λ z. In z (ids t)) m.1 (subst (In (stand_id s)) (stands_ids [] t) (in_map (λ (u : Stand). stand_id u) s (stands [] t) m.0))
+  pub stand_there : (y : ℕ) (s : OpWithPath) → op_with_path y t ≡ Some s → In y (ids t)
+  stand_there y s e = let m = member y (stands [] t) s e in subst (λ z. In z (ids t)) m.1 (subst (In (op_with_path_id s)) (stands_ids [] t) (in_map (λ (u : OpWithPath). op_with_path_id u) s (stands [] t) m.0))
 
   -- an operation with a role has a position in the tree
-  pub role_stands : (y : ℕ) (r : Role) → role_of t y ≡ Some r → (s : Stand) × (stand_of y t ≡ Some s)
-  role_stands y r e = go (stand_of y t) refl
+  pub role_stands : (y : ℕ) (r : Role) → role_of t y ≡ Some r → (s : OpWithPath) × (op_with_path y t ≡ Some s)
+  role_stands y r e = go (op_with_path y t) refl
     where
-      go : (o : Option Stand) → stand_of y t ≡ o → (s : Stand) × (stand_of y t ≡ Some s)
+      go : (o : Option OpWithPath) → op_with_path y t ≡ o → (s : OpWithPath) × (op_with_path y t ≡ Some s)
       go None i = (let bad : None ≡ Some r = sym (ap (option_map (role t)) i) ∙ e in absurd cc)
       go (Some s) i = (s, i)
 

@@ -19,12 +19,12 @@ use Rattle.listeners_symbols.specs.Symbols.{DefinitionOf, RoleAt}
 use Rattle.listeners_symbols.specs.Table.{reference_of, role_numbers}
 use Rattle.listeners_symbols.specs.Lines.{numbered, numbers_at}
 use Rattle.listeners_symbols.specs.Listeners.{kept_at}
-use Rattle.listeners_symbols.specs.Telling.{has_some, hides, said_at, tells, told}
+use Rattle.listeners_symbols.specs.Telling.{has_some, hides, said_at, concerns_symbols, told}
 use Rattle.listeners_symbols.proofs.Telling.{all_told, listed, told_of_set}
 use Rattle.listeners.specs.Unreached.{line_of, lines_with, private_name, reached_from, says_definition, targets}
 use Rattle.listeners.specs.Lines.{is_out, line_by}
 use Rattle.listeners.specs.Marking.{Considered, IsDone, IsPending, Left, Marks, Waits}
-use Rattle.listeners.specs.Marks.{IsDefinition, IsMarked, ReachedBy, Reaches, StandsUnder, added, added_at, those_added}
+use Rattle.listeners.specs.Marks.{IsDefinition, IsMarked, ReachedBy, Reaches, IsUnder, added, added_at, those_added}
 
 -- ---- operations that are skipped
 module _ (P : ℕ → Type 0) (U R : ℕ → ℕ → Type 0) where
@@ -43,7 +43,7 @@ module _ (P : ℕ → Type 0) (U R : ℕ → ℕ → Type 0) where
       one todo y (inr quiet) p = inr (inr (inr (λ x reaches. absurd (quiet x reaches))))
 
 -- an operation without references reaches nothing
-quiet : (roles : RoleAt ℕ ℕ ℕ) (ds : List (DefinitionOf ℕ)) (r : Numbers) → tells r ≡ false → reached_from eqb roles ds (Some (role_numbers r)) ≡ []
+quiet : (roles : RoleAt ℕ ℕ ℕ) (ds : List (DefinitionOf ℕ)) (r : Numbers) → concerns_symbols r ≡ false → reached_from eqb roles ds (Some (role_numbers r)) ≡ []
 quiet roles ds r lacks = go r.references.items (none (is_some r.home && is_some r.symbol) (has_some r.references.items) (is_some r.call) lacks)
   where
     none : (a b c : Bool) → (a || (b || c)) ≡ false → b ≡ false
@@ -55,13 +55,13 @@ quiet roles ds r lacks = go r.references.items (none (is_some r.home && is_some 
     go [] e = refl
     go (p ∷ ps) e = absurd (true≢false e)
 
-pub told_or_quiet : (m : Roles) (ds : List (DefinitionOf ℕ)) → (y : ℕ) → IsIn (IsDefinition (numbers_at m)) (StandsUnder (numbers_at m)) (Reaches (numbers_at m) ds) m.telling.keys y
+pub told_or_quiet : (m : Roles) (ds : List (DefinitionOf ℕ)) → (y : ℕ) → IsIn (IsDefinition (numbers_at m)) (IsUnder (numbers_at m)) (Reaches (numbers_at m) ds) m.symbol_ops.keys y
 told_or_quiet m ds y = go (kept_at m y) refl
   where
-    go : (o : Option Numbers) → kept_at m y ≡ o → IsIn (IsDefinition (numbers_at m)) (StandsUnder (numbers_at m)) (Reaches (numbers_at m) ds) m.telling.keys y
+    go : (o : Option Numbers) → kept_at m y ≡ o → IsIn (IsDefinition (numbers_at m)) (IsUnder (numbers_at m)) (Reaches (numbers_at m) ds) m.symbol_ops.keys y
     go None e = inr (λ x r. subst (λ (k : Option Numbers). In x (reached_from eqb (numbers_at m) ds (option_map role_numbers k))) e r)
-    go (Some r) e = elim (bool_cases (tells r)) [
-      | inl so ↦ inl (listed y m.telling.keys (m.tell y (ap (said_at tells) e ∙ so)))
+    go (Some r) e = elim (bool_cases (concerns_symbols r)) [
+      | inl so ↦ inl (listed y m.symbol_ops.keys (m.tell y (ap (said_at concerns_symbols) e ∙ so)))
       | inr lacks ↦ inr (λ x i. subst (λ (l : List ℕ). In x l) (quiet (numbers_at m) ds r lacks) (subst (λ (k : Option Numbers). In x (reached_from eqb (numbers_at m) ds (option_map role_numbers k))) e i))
     ]
 

@@ -17,17 +17,17 @@ use Rattle.listeners.specs.declared.key.UseKey.{UseKey}
 use Rattle.listeners.specs.Uses.{use_cmp, put_use, in_order}
 use Rattle.listeners.specs.Keys.{key_of, keys_of, value_at, use_of}
 use Rattle.listeners.proofs.Drops.{drop_use}
-use Rattle.listeners.proofs.Orders.{use_total, put_among, put_first, drop_put}
+use Rattle.listeners.proofs.Orders.{use_total, insert_sorted, put_first, drop_put}
 
 -- use i of a list may be inserted among the others
 take_at_place : (l : List Use) (i : ℕ) (d : Use) → i < length l → l ≡ take i l ++ get_or l i d ∷ drop (i + 1) l
 take_at_place l i d lt = sym (take-append-drop i l) ∙ ap (λ r. take i l ++ r) (drop_more l i d lt)
 
 put_at_place : (l : List Use) (i : ℕ) (d : Use) → i < length l → in_order l ≡ put_use (get_or l i d) (in_order (take i l ++ drop (i + 1) l))
-put_at_place l i d lt = ap in_order (take_at_place l i d lt) ∙ put_among (take i l) (drop (i + 1) l) (get_or l i d)
+put_at_place l i d lt = ap in_order (take_at_place l i d lt) ∙ insert_sorted (take i l) (drop (i + 1) l) (get_or l i d)
 
 set_at_place : (l : List Use) (i : ℕ) (u : Use) → i < length l → in_order (set l i u) ≡ put_use u (in_order (take i l ++ drop (i + 1) l))
-set_at_place l i u lt = ap in_order (set_split l i u lt) ∙ ap (λ (k : ℕ). in_order (take i l ++ u ∷ drop k l)) (let e : suc i ≡ i + 1 = omega arith in e) ∙ put_among (take i l) (drop (i + 1) l) u
+set_at_place l i u lt = ap in_order (set_split l i u lt) ∙ ap (λ (k : ℕ). in_order (take i l ++ u ∷ drop k l)) (let e : suc i ≡ i + 1 = omega arith in e) ∙ insert_sorted (take i l) (drop (i + 1) l) u
 
 -- lists that are equal with one more use are equal
 put_apart : (u : Use) (us vs : List Use) → put_use u us ≡ put_use u vs → us ≡ vs

@@ -15,7 +15,7 @@ use Rattle.ir_event.proofs.of_tree_laws.Listed.{in_left}
 use Rattle.listeners.specs.Reached.{IsReached}
 use Rattle.listeners.specs.Unreached.{says_definition, prefixes, targets, reached_from}
 use Rattle.listeners.specs.Marking.{Left, Marks, Removed, IsDone}
-use Rattle.listeners.specs.Marks.{parent_at, StandsUnder, itself, around, IsDefinition, Reaches, TakesOut, TakesFound, StartsIn}
+use Rattle.listeners.specs.Marks.{parent_at, IsUnder, itself, around, IsDefinition, Reaches, TakesOut, TakesFound, StartsIn}
 use Rattle.listeners.proofs.Taken.{removed_none, removed_absent, removed_one}
 use Rattle.listeners.proofs.Entries.{found_key}
 use Rattle.ir_event.proofs.of_tree_laws.Contents.{some_map}
@@ -46,13 +46,13 @@ none_false None e = refl
 none_false (Some x) e = absurd (true≢false e)
 
 -- ---- ancestors
-pub up_one : (roles : RoleAt ℕ ℕ ℕ) (left : Left) (y next p : ℕ) → parent_at (roles y) ≡ Some next → left y ≡ None → StandsUnder roles y p → StandsUnder roles next p ⊎ (left p ≡ None)
+pub up_one : (roles : RoleAt ℕ ℕ ℕ) (left : Left) (y next p : ℕ) → parent_at (roles y) ≡ Some next → left y ≡ None → IsUnder roles y p → IsUnder roles next p ⊎ (left p ≡ None)
 up_one roles left y next p e none (itself z) = inr none
 up_one roles left y next p e none (around z q r i u) = (let two : Some q ≡ Some next = sym i ∙ e in
     let one : q ≡ next = cc in
-    inl (subst (λ w. StandsUnder roles w r) one u))
+    inl (subst (λ w. IsUnder roles w r) one u))
 
-pub up_end : (roles : RoleAt ℕ ℕ ℕ) (left : Left) (y p : ℕ) → parent_at (roles y) ≡ None → left y ≡ None → StandsUnder roles y p → left p ≡ None
+pub up_end : (roles : RoleAt ℕ ℕ ℕ) (left : Left) (y p : ℕ) → parent_at (roles y) ≡ None → left y ≡ None → IsUnder roles y p → left p ≡ None
 up_end roles left y p e none (itself z) = none
 up_end roles left y p e none (around z q r i u) = (let bad : Some q ≡ None = sym i ∙ e in absurd cc)
 
@@ -86,7 +86,7 @@ module _ (P : ℕ → Type 0) (U R : ℕ → ℕ → Type 0) where
 
 -- ---- the start
 module _ (m : Roles) (ds : List (DefinitionOf ℕ)) (left : Left) (starts : StartsIn (numbers_at m) left) where
-  started_sound : (x : ℕ) → IsDefinition (numbers_at m) x → left x ≡ None → IsReached (IsDefinition (numbers_at m)) (StandsUnder (numbers_at m)) (Reaches (numbers_at m) ds) x
+  started_sound : (x : ℕ) → IsDefinition (numbers_at m) x → left x ≡ None → IsReached (IsDefinition (numbers_at m)) (IsUnder (numbers_at m)) (Reaches (numbers_at m) ds) x
   started_sound x p e = (let bad : None ≡ Some [] = sym e ∙ starts x ∙ ap (λ b. cond b (Some []) None) p in absurd cc)
 
   started_only : (x : ℕ) (ws : List ℕ) → left x ≡ Some ws → IsDefinition (numbers_at m) x
@@ -96,14 +96,14 @@ module _ (m : Roles) (ds : List (DefinitionOf ℕ)) (left : Left) (starts : Star
       go true i = i
       go false i = (let bad : Some ws ≡ None = sym e ∙ starts x ∙ ap (λ b. cond b (Some []) None) i in absurd cc)
 
-  placed : (y : ℕ) → In y (keys_of m.all.entries) ⊎ IsDone (IsDefinition (numbers_at m)) (StandsUnder (numbers_at m)) (Reaches (numbers_at m) ds) left y
+  placed : (y : ℕ) → In y (keys_of m.all.entries) ⊎ IsDone (IsDefinition (numbers_at m)) (IsUnder (numbers_at m)) (Reaches (numbers_at m) ds) left y
   placed y = go (kept_at m y) refl
     where
-      go : (k : Option Numbers) → kept_at m y ≡ k → In y (keys_of m.all.entries) ⊎ IsDone (IsDefinition (numbers_at m)) (StandsUnder (numbers_at m)) (Reaches (numbers_at m) ds) left y
+      go : (k : Option Numbers) → kept_at m y ≡ k → In y (keys_of m.all.entries) ⊎ IsDone (IsDefinition (numbers_at m)) (IsUnder (numbers_at m)) (Reaches (numbers_at m) ds) left y
       go None e = inr (λ x r. absurd (subst (λ (k : Option Numbers). In x (reached_from eqb (numbers_at m) ds (option_map role_numbers k))) e r))
       go (Some r) e = inl (found_key y r m.all.entries e)
 
-  pub started : (q : List (List ℕ)) → Marks (IsDefinition (numbers_at m)) (StandsUnder (numbers_at m)) (Reaches (numbers_at m) ds) (keys_of m.all.entries ++ []) q left
+  pub started : (q : List (List ℕ)) → Marks (IsDefinition (numbers_at m)) (IsUnder (numbers_at m)) (Reaches (numbers_at m) ds) (keys_of m.all.entries ++ []) q left
   started q = record {
     sound = started_sound;
     only = started_only;

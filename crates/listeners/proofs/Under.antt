@@ -7,48 +7,48 @@ use Rattle.ir_event.specs.trees.Tree.{head}
 use Rattle.ir_event.specs.trees.Ids.{HasDistinctIds}
 use Rattle.ir_event.specs.trees.Meaning.{Operation}
 use Rattle.ir_event.specs.tree_laws.Members.{In}
-use Rattle.ir_event.specs.tree_laws.Stands.{StepOf, stand_id, stands}
+use Rattle.ir_event.specs.tree_laws.Stands.{StepOf, op_with_path_id, stands}
 use Rattle.ir_event.proofs.of_tree_laws.Members.{stand, stand_of_member}
 use Rattle.ir_event.proofs.of_tree_laws.Around.{around_there}
 use Rattle.listeners_symbols.specs.declared.role.Role.{Role as Numbers}
 use Rattle.listeners_symbols.specs.declared.roles.Roles.{Roles}
-use Rattle.listeners_symbols.specs.Roles.{Stand, Role, parent_in, role, role_of}
+use Rattle.listeners_symbols.specs.Roles.{OpWithPath, Role, parent_in, role, role_of}
 use Rattle.listeners_symbols.specs.Table.{role_numbers, role_meaning, Keeps}
 use Rattle.listeners_symbols.specs.Lines.{numbers_at}
 use Rattle.listeners_symbols.specs.Listeners.{kept_at}
-use Rattle.listeners.specs.Unreached.{stands_under}
-use Rattle.listeners.specs.Marks.{parent_at, StandsUnder, itself, around}
+use Rattle.listeners.specs.Unreached.{self_and_ancestors}
+use Rattle.listeners.specs.Marks.{parent_at, IsUnder, itself, around}
 
 abbrev Path : Type 0
 Path = List (StepOf (List ℕ) TypeTerm AttrTerm)
 
 module _ (b : ContextModel) (t : Operation) (d : HasDistinctIds t) (m : Roles) (keeps : Keeps b t (kept_at m)) where
-  linked : (s : Stand) → In s (stands [] t) → parent_at (numbers_at m (stand_id s)) ≡ parent_in s.path
-  linked s h = go (kept_at m (stand_id s)) refl
+  linked : (s : OpWithPath) → In s (stands [] t) → parent_at (numbers_at m (op_with_path_id s)) ≡ parent_in s.path
+  linked s h = go (kept_at m (op_with_path_id s)) refl
     where
-      there : role_of t (stand_id s) ≡ Some (role t s)
+      there : role_of t (op_with_path_id s) ≡ Some (role t s)
       there = ap (option_map (role t)) (stand_of_member t d s h)
 
-      go : (k : Option Numbers) → kept_at m (stand_id s) ≡ k → parent_at (numbers_at m (stand_id s)) ≡ parent_in s.path
-      go None e = (let bad : None ≡ Some (role t s) = sym (ap (option_map (role_meaning b)) e) ∙ (keeps (stand_id s)).is ∙ there in absurd cc)
+      go : (k : Option Numbers) → kept_at m (op_with_path_id s) ≡ k → parent_at (numbers_at m (op_with_path_id s)) ≡ parent_in s.path
+      go None e = (let bad : None ≡ Some (role t s) = sym (ap (option_map (role_meaning b)) e) ∙ (keeps (op_with_path_id s)).is ∙ there in absurd cc)
       go (Some k) e =
-          let two : Some (role_meaning b k) ≡ Some (role t s) = sym (ap (option_map (role_meaning b)) e) ∙ (keeps (stand_id s)).is ∙ there in
+          let two : Some (role_meaning b k) ≡ Some (role t s) = sym (ap (option_map (role_meaning b)) e) ∙ (keeps (op_with_path_id s)).is ∙ there in
           let one : role_meaning b k ≡ role t s = cc in
           ap (λ z. parent_at (option_map role_numbers z)) e ∙ ap (λ (r : Role). r.parent) one
 
-  pub to_links : (p : ℕ) (path : Path) (o : Operation) → In (stand o path) (stands [] t) → In p (stands_under (Some (stand o path))) → StandsUnder (numbers_at m) (head o).id p
-  to_links p path o h (inl e) = subst (λ z. StandsUnder (numbers_at m) (head o).id z) (sym e) (itself (head o).id)
+  pub to_links : (p : ℕ) (path : Path) (o : Operation) → In (stand o path) (stands [] t) → In p (self_and_ancestors (Some (stand o path))) → IsUnder (numbers_at m) (head o).id p
+  to_links p path o h (inl e) = subst (λ z. IsUnder (numbers_at m) (head o).id z) (sym e) (itself (head o).id)
   to_links p [] o h (inr k) = absurd k
   to_links p (a ∷ q) o h (inr k) = around (head o).id (head a.parent).id p (linked (stand o (a ∷ q)) h) (to_links p q a.parent (around_there t o a q h).1 k)
 
-  pub from_links : (y p : ℕ) → StandsUnder (numbers_at m) y p → (s : Stand) → In s (stands [] t) → stand_id s ≡ y → In p (stands_under (Some s))
+  pub from_links : (y p : ℕ) → IsUnder (numbers_at m) y p → (s : OpWithPath) → In s (stands [] t) → op_with_path_id s ≡ y → In p (self_and_ancestors (Some s))
   from_links y p (itself z) s h e = inl (sym e)
   from_links y p (around z q r i u) s h e = at_path s.path refl (from_links q r u)
     where
       above : parent_in s.path ≡ Some q
       above = sym (linked s h) ∙ ap (λ n. parent_at (numbers_at m n)) e ∙ i
 
-      at_path : (path : Path) → s.path ≡ path → ((v : Stand) → In v (stands [] t) → stand_id v ≡ q → In r (stands_under (Some v))) → In r (stands_under (Some s))
+      at_path : (path : Path) → s.path ≡ path → ((v : OpWithPath) → In v (stands [] t) → op_with_path_id v ≡ q → In r (self_and_ancestors (Some v))) → In r (self_and_ancestors (Some s))
       at_path [] j f = (let bad : None ≡ Some q = sym (ap parent_in j) ∙ above in absurd cc)
       at_path (a ∷ l) j f =
           let two : Some (head a.parent).id ≡ Some q = sym (ap parent_in j) ∙ above in

@@ -17,9 +17,9 @@ parent_at None = None
 parent_at (Some r) = r.parent
 
 -- an operation is under itself, and under everything that its parent is under
-pub data StandsUnder (roles : RoleAt ℕ ℕ ℕ) : ℕ → ℕ → Type 0 where
-  itself : (y : ℕ) → StandsUnder roles y y
-  around : (y q p : ℕ) → parent_at (roles y) ≡ Some q → StandsUnder roles q p → StandsUnder roles y p
+pub data IsUnder (roles : RoleAt ℕ ℕ ℕ) : ℕ → ℕ → Type 0 where
+  itself : (y : ℕ) → IsUnder roles y y
+  around : (y q p : ℕ) → parent_at (roles y) ≡ Some q → IsUnder roles q p → IsUnder roles y p
 
 -- a private definition
 abbrev pub IsDefinition : RoleAt ℕ ℕ ℕ → ℕ → Type 0
@@ -30,7 +30,7 @@ abbrev pub Reaches : RoleAt ℕ ℕ ℕ → List (DefinitionOf ℕ) → ℕ → 
 Reaches roles ds y x = In x (reached_from eqb roles ds (roles y))
 
 abbrev pub ReachedBy : RoleAt ℕ ℕ ℕ → List (DefinitionOf ℕ) → ℕ → Type 0
-ReachedBy roles ds = IsReached (IsDefinition roles) (StandsUnder roles) (Reaches roles ds)
+ReachedBy roles ds = IsReached (IsDefinition roles) (IsUnder roles) (Reaches roles ds)
 
 -- ---- in code
 
@@ -50,18 +50,18 @@ queue_of {Y} q = map (λ (v : Vec ℕ Y). v.items) q.items
 -- the same with the relations of a table of roles
 abbrev pub MarksIn : {Y Z : Type 0} → RoleAt ℕ ℕ ℕ → List (DefinitionOf ℕ) → List ℕ → Queue Y Z → Waitings Y → Type 0
 MarksIn roles ds todo q m =
-    Marks (IsDefinition roles) (StandsUnder roles) (Reaches roles ds) todo (queue_of q) (left_at m)
+    Marks (IsDefinition roles) (IsUnder roles) (Reaches roles ds) todo (queue_of q) (left_at m)
 
 abbrev pub RemovedIn : {Y Z : Type 0} → RoleAt ℕ ℕ ℕ → List (DefinitionOf ℕ) → List ℕ → Queue Y Z → Waitings Y
     → Queue Y Z → Waitings Y → Type 0
 RemovedIn roles ds xs q m r n =
-    Removed (IsDefinition roles) (StandsUnder roles) (Reaches roles ds) xs (queue_of q) (left_at m) (queue_of r)
+    Removed (IsDefinition roles) (IsUnder roles) (Reaches roles ds) xs (queue_of q) (left_at m) (queue_of r)
     (left_at n)
 
 abbrev pub ConsideredIn : {Y Z : Type 0} → RoleAt ℕ ℕ ℕ → List (DefinitionOf ℕ) → List ℕ → Queue Y Z → Waitings Y
     → Queue Y Z → Waitings Y → Type 0
 ConsideredIn roles ds ys q m r n =
-    Considered (IsDefinition roles) (StandsUnder roles) (Reaches roles ds) ys (queue_of q) (left_at m) (queue_of r)
+    Considered (IsDefinition roles) (IsUnder roles) (Reaches roles ds) ys (queue_of q) (left_at m) (queue_of r)
     (left_at n)
 
 -- x was marked if it was unmarked, and the operations that waited for it are pending
@@ -76,8 +76,8 @@ size m q = 2 * btree_map_len m + length q.items
 
 -- an unmarked definition that the operation is under, if there is one
 abbrev pub IsAbove : RoleAt ℕ ℕ ℕ → Left → ℕ → Option ℕ → Type 0
-IsAbove roles left y None = (p : ℕ) → StandsUnder roles y p → left p ≡ None
-IsAbove roles left y (Some p) = StandsUnder roles y p × (is_some (left p) ≡ true)
+IsAbove roles left y None = (p : ℕ) → IsUnder roles y p → left p ≡ None
+IsAbove roles left y (Some p) = IsUnder roles y p × (is_some (left p) ≡ true)
 
 -- the unmarked definitions are those that aren't reached
 pub record IsMarked (roles : RoleAt ℕ ℕ ℕ) (ds : List (DefinitionOf ℕ)) (left : Left) : Type 0 where
@@ -111,4 +111,4 @@ StartsIn roles left = (x : ℕ) → left x ≡ (if says_definition (roles x) the
 
 -- in the end no operation is to be visited
 abbrev pub SettledIn : {Y : Type 0} → RoleAt ℕ ℕ ℕ → List (DefinitionOf ℕ) → Waitings Y → Type 0
-SettledIn roles ds m = Marks (IsDefinition roles) (StandsUnder roles) (Reaches roles ds) [] [] (left_at m)
+SettledIn roles ds m = Marks (IsDefinition roles) (IsUnder roles) (Reaches roles ds) [] [] (left_at m)

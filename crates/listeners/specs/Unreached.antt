@@ -6,9 +6,9 @@ use Rattle.ir_event.specs.trees.Tree.{head}
 use Rattle.ir_event.specs.trees.Ids.{ids}
 use Rattle.ir_event.specs.trees.Meaning.{Operation}
 use Rattle.ir_event.specs.tree_laws.Members.{In}
-use Rattle.ir_event.specs.tree_laws.Stands.{stand_id, stand_of}
+use Rattle.ir_event.specs.tree_laws.Stands.{op_with_path_id, op_with_path}
 use Rattle.ir_event.specs.Rows.{RowTerm, Op, Name}
-use Rattle.listeners_symbols.specs.Roles.{ReferenceOf, RoleOf, Stand, role_of}
+use Rattle.listeners_symbols.specs.Roles.{ReferenceOf, RoleOf, OpWithPath, role_of}
 use Rattle.listeners_symbols.specs.Symbols.{RolesOf, roles_by_id, RoleAt, DefinitionOf, definitions, look_in}
 use Rattle.listeners.specs.Reached.{IsReached, among, reached_ones}
 
@@ -49,12 +49,12 @@ module _ {N : Type 0} (same_name : N → N → Bool) where
 -- ---- of a tree
 
 -- the operations that contain an operation: itself and its ancestors
-abbrev pub stands_under : Option Stand → List ℕ
-stands_under None = []
-stands_under (Some s) = stand_id s ∷ map (λ a. (head a.parent).id) s.path
+abbrev pub self_and_ancestors : Option OpWithPath → List ℕ
+self_and_ancestors None = []
+self_and_ancestors (Some s) = op_with_path_id s ∷ map (λ a. (head a.parent).id) s.path
 
 abbrev pub under : Operation → ℕ → List ℕ
-under t y = stands_under (stand_of y t)
+under t y = self_and_ancestors (op_with_path y t)
 
 -- the operations that y reaches
 abbrev pub reaches : Operation → ℕ → List ℕ

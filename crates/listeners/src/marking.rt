@@ -172,7 +172,7 @@ fn consider_all(
     ensures { OnOk result (ConsideredIn (numbers_at roles.now) definitions.now
         (keys_of roles.now.all.entries) pending.old left.old pending.new left.new) }
 {
-    for op in &roles.telling {
+    for op in &roles.symbol_ops {
         consider(roles, definitions, *op, left, pending)?;
     }
     Ok(())

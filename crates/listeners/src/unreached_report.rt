@@ -7,7 +7,7 @@ ghost use Rattle.listeners_symbols.specs.Symbols.{definitions};
 ghost use Rattle.listeners_symbols.specs.Table.{role_numbers};
 ghost use Rattle.listeners_symbols.specs.Lines.{cells_of, numbered, numbers_at};
 ghost use Rattle.listeners_symbols.specs.Listeners.{kept_at};
-ghost use Rattle.listeners_symbols.specs.Telling.{told_at};
+ghost use Rattle.listeners_symbols.specs.Telling.{contribution_at};
 ghost use Rattle.listeners.specs.Lines.{is_out, line_by, lines_cells};
 ghost use Rattle.listeners.specs.Marking.{Left};
 ghost use Rattle.listeners.specs.Marks.{IsMarked, left_at};
@@ -68,7 +68,7 @@ fn push_line_at(
     out: &mut Vec<Row>,
 ) -> Result<(), AllocError>
     ensures { OnOk result (cells_of out.new.items
-        ≡ cells_of out.old.items ++ lines_cells (told_at (line_by (left_at left.now)) op (kept_at roles.now op))) }
+        ≡ cells_of out.old.items ++ lines_cells (contribution_at (line_by (left_at left.now)) op (kept_at roles.now op))) }
 {
     match roles.get(op) {
         None => Ok(()),

@@ -9,7 +9,7 @@ use Rattle.ir_event.specs.trees.Frames.{owner_of}
 use Rattle.ir_event.specs.store.Nodes.{node_of, regions_arguments}
 use Rattle.ir_event.specs.tree_laws.Values.{type_of_value, region_at}
 use Rattle.ir_event.specs.tree_laws.Reads.{ops_in, last_id, last_at}
-use Rattle.ir_event.specs.tree_laws.Stands.{StepOf, StandOf, stand_id, stands, stand_in, stand_of, edit_step, edit_stand}
+use Rattle.ir_event.specs.tree_laws.Stands.{StepOf, OpWithPathOf, op_with_path_id, stands, find_op_with_path, op_with_path, edit_step, edit_stand}
 use Rattle.ir_event.specs.tree_laws.Members.{In}
 use Rattle.ir_event.proofs.of_tree_laws.Listed.{bool_cases}
 use Rattle.ir_event.proofs.of_tree_laws.Readings.{stands_find}
@@ -65,16 +65,16 @@ module _ {N T A : Type 0} (g : HeadOf N T A → HeadOf N T A) where
     each_types : (o : OpOf N T A) → types_of (each_head g o) ≡ types_of o
     each_types (op h rs) = λ i. ((keeps h).results i, each_arguments rs i)
 
-    stand_each : (x : ℕ) (ss : List (StandOf N T A)) → stand_in x (map (edit_stand g) ss) ≡ option_map (edit_stand g) (stand_in x ss)
+    stand_each : (x : ℕ) (ss : List (OpWithPathOf N T A)) → find_op_with_path x (map (edit_stand g) ss) ≡ option_map (edit_stand g) (find_op_with_path x ss)
     stand_each x [] = refl
     stand_each x (s ∷ ss) =
         (λ i. cond (eqb (each_id s.here i) x) (Some (edit_stand g s)) (stand_each x ss i))
-        ∙ elim (eqb (stand_id s) x) as (λ b. cond b (Some (edit_stand g s)) (option_map (edit_stand g) (stand_in x ss)) ≡ option_map (edit_stand g) (cond b (Some s) (stand_in x ss))) [ true ↦ refl | false ↦ refl ]
+        ∙ elim (eqb (op_with_path_id s) x) as (λ b. cond b (Some (edit_stand g s)) (option_map (edit_stand g) (find_op_with_path x ss)) ≡ option_map (edit_stand g) (cond b (Some s) (find_op_with_path x ss))) [ true ↦ refl | false ↦ refl ]
 
-    stand_of_each : (x : ℕ) (t : OpOf N T A) → stand_of x (each_head g t) ≡ option_map (edit_stand g) (stand_of x t)
-    stand_of_each x t = ap (stand_in x) (each_stands g [] t) ∙ stand_each x (stands [] t)
+    stand_of_each : (x : ℕ) (t : OpOf N T A) → op_with_path x (each_head g t) ≡ option_map (edit_stand g) (op_with_path x t)
+    stand_of_each x t = ap (find_op_with_path x) (each_stands g [] t) ∙ stand_each x (stands [] t)
 
-    here_each : (o : Option (StandOf N T A)) → option_map types_of (option_map (λ (s : StandOf N T A). s.here) (option_map (edit_stand g) o)) ≡ option_map types_of (option_map (λ (s : StandOf N T A). s.here) o)
+    here_each : (o : Option (OpWithPathOf N T A)) → option_map types_of (option_map (λ (s : OpWithPathOf N T A). s.here) (option_map (edit_stand g) o)) ≡ option_map types_of (option_map (λ (s : OpWithPathOf N T A). s.here) o)
     here_each None = refl
     here_each (Some s) = ap Some (each_types s.here)
 
@@ -83,8 +83,8 @@ module _ {N T A : Type 0} (g : HeadOf N T A → HeadOf N T A) where
         let x = (owner_of v).0 in
         typed_value v (each_head g t)
         ∙ ap (λ o. option_and_then (typed v) (option_map types_of o)) (sym (stands_find x [] (each_head g t)))
-        ∙ ap (λ o. option_and_then (typed v) (option_map types_of (option_map (λ (s : StandOf N T A). s.here) o))) (stand_of_each x t)
-        ∙ ap (option_and_then (typed v)) (here_each (stand_of x t))
+        ∙ ap (λ o. option_and_then (typed v) (option_map types_of (option_map (λ (s : OpWithPathOf N T A). s.here) o))) (stand_of_each x t)
+        ∙ ap (option_and_then (typed v)) (here_each (op_with_path x t))
         ∙ ap (λ o. option_and_then (typed v) (option_map types_of o)) (stands_find x [] t)
         ∙ sym (typed_value v t)
 
@@ -109,7 +109,7 @@ module _ {N T A : Type 0} (x : ℕ) (f : HeadOf N T A → HeadOf N T A) (keeps :
   other h e = ap (λ b. cond b (f h) h) e
 
   module _ (m n : OpOf N T A) (is : n ≡ each_head g m) (d : HasDistinctIds n) (y : ℕ) (apart : eqb y x ≡ false) (far : In y (lasts_in x n) → ⊥) where
-    outer_each : (s : StandOf N T A) → stand_id s ≡ y → In (edit_stand g s) (stands [] n) → (b : List (StepOf N T A)) → s.path ≡ b → outer_of (map (edit_step g) b) ≡ outer_of b
+    outer_each : (s : OpWithPathOf N T A) → op_with_path_id s ≡ y → In (edit_stand g s) (stands [] n) → (b : List (StepOf N T A)) → s.path ≡ b → outer_of (map (edit_step g) b) ≡ outer_of b
     outer_each s e h [] i = refl
     outer_each s e h (a ∷ q) i = λ k. Some (record { name = each_name g keeps a.parent k; ended = ends a.rest refl k })
       where
@@ -127,15 +127,15 @@ module _ {N T A : Type 0} (x : ℕ) (f : HeadOf N T A → HeadOf N T A) (keeps :
         ]
 
     pub each_far : surroundings y n ≡ surroundings y m
-    each_far = go (stand_of y m) refl
+    each_far = go (op_with_path y m) refl
       where
-        found : stand_of y n ≡ option_map (edit_stand g) (stand_of y m)
-        found = ap (stand_of y) is ∙ stand_of_each g keeps y m
+        found : op_with_path y n ≡ option_map (edit_stand g) (op_with_path y m)
+        found = ap (op_with_path y) is ∙ stand_of_each g keeps y m
 
-        go : (o : Option (StandOf N T A)) → stand_of y m ≡ o → surroundings y n ≡ surroundings y m
+        go : (o : Option (OpWithPathOf N T A)) → op_with_path y m ≡ o → surroundings y n ≡ surroundings y m
         go None e = ap (option_map (surround n)) (found ∙ ap (option_map (edit_stand g)) e) ∙ sym (ap (option_map (surround m)) e)
         go (Some s) e =
-            let there : stand_of y n ≡ Some (edit_stand g s) = found ∙ ap (option_map (edit_stand g)) e in
+            let there : op_with_path y n ≡ Some (edit_stand g s) = found ∙ ap (option_map (edit_stand g)) e in
             let mem = member y (stands [] m) s e in
             let mem2 = member y (stands [] n) (edit_stand g s) there in
             let kept : g (head s.here) ≡ head s.here = other (head s.here) (ap (λ z. eqb z x) mem.1 ∙ apart) in

@@ -7,14 +7,14 @@ use Rattle.ir_event.specs.trees.Places.{each_list, regions_each_list, ops_each_l
 use Rattle.ir_event.specs.store.Nodes.{node_of, regions_arguments}
 use Rattle.ir_event.specs.tree_laws.Values.{region_at}
 use Rattle.ir_event.specs.tree_laws.Reads.{is_among}
-use Rattle.ir_event.specs.tree_laws.Stands.{StepOf, StandOf, stand_id, stands, dropping, left_step, left_stand}
+use Rattle.ir_event.specs.tree_laws.Stands.{StepOf, OpWithPathOf, op_with_path_id, stands, dropping, left_step, left_stand}
 use Rattle.ir_event.specs.tree_laws.Members.{In}
 use Rattle.ir_event.proofs.of_tree_laws.Listed.{bool_cases, neither}
 use Rattle.listeners_support.specs.Surroundings.{last_name, last_names, ended_by, outer_of}
 use Rattle.listeners_support.proofs.Points.{free_elsewhere}
 
 -- two operations with the same context
-pub record AlikeStands {N T A : Type 0} (s u : StandOf N T A) : Type 0 where
+pub record AlikeStands {N T A : Type 0} (s u : OpWithPathOf N T A) : Type 0 where
   pub node : node_of s.here ≡ node_of u.here
   pub lasts : last_names (regions s.here) ≡ last_names (regions u.here)
   pub outer : outer_of s.path ≡ outer_of u.path
@@ -69,7 +69,7 @@ module _ {N T A : Type 0} (x : ℕ) where
 
   -- if operation x is removed from a place, all operations keep their contexts, except its parents and the operation
   -- before it if x was the last
-  pub far_alike : (t : OpOf N T A) → HasDistinctIds t → (place : Place) → place_of x t ≡ Some place → (s : StandOf N T A) → In s (stands [] t) → (stand_id s ≡ place.parent → ⊥)
+  pub far_alike : (t : OpOf N T A) → HasDistinctIds t → (place : Place) → place_of x t ≡ Some place → (s : OpWithPathOf N T A) → In s (stands [] t) → (op_with_path_id s ≡ place.parent → ⊥)
       → ((a : StepOf N T A) (q : List (StepOf N T A)) (o : OpOf N T A) (rest : OpsOf N T A) → s.path ≡ a ∷ q → a.rest ≡ next o rest → (head o).id ≡ x → left_list a.rest ≡ no_ops → ⊥)
       → AlikeStands (left_stand x s) s
   far_alike t dist place at s h apart f = record { node = left_node s.here; lasts = left_lasts_op s.here (free_elsewhere t dist x place at s.here s.path h apart); outer = outer s.path refl }

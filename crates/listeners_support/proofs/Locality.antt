@@ -12,7 +12,7 @@ use Rattle.ir_event.specs.store.Nodes.{node_of}
 use Rattle.ir_event.specs.tree_laws.Changes.{HoldNone}
 use Rattle.ir_event.specs.tree_laws.Values.{region_at}
 use Rattle.ir_event.specs.tree_laws.Reads.{last_id, last_at}
-use Rattle.ir_event.specs.tree_laws.Stands.{StepOf, StandOf, stand_id, stands, dropping, left_step, left_stand}
+use Rattle.ir_event.specs.tree_laws.Stands.{StepOf, OpWithPathOf, op_with_path_id, stands, dropping, left_step, left_stand}
 use Rattle.ir_event.specs.tree_laws.Members.{In}
 use Rattle.ir_event.proofs.of_tree_laws.Listed.{bool_cases}
 use Rattle.ir_event.proofs.of_tree_laws.Members.{stand}
@@ -88,7 +88,7 @@ module _ {N T A : Type 0} (x : ℕ) where
   lasts_kept_op (op h rs) f = lasts_kept h.id 0 rs f
 
   -- if x isn't the last of its block, all operations keep their contexts when x is removed
-  inner_alike : (t : OpOf N T A) → HasDistinctIds t → (place : Place) (b : ℕ) → place_of x t ≡ Some place → place.before ≡ Some b → (s : StandOf N T A) → In s (stands [] t) → AlikeStands (left_stand x s) s
+  inner_alike : (t : OpOf N T A) → HasDistinctIds t → (place : Place) (b : ℕ) → place_of x t ≡ Some place → place.before ≡ Some b → (s : OpWithPathOf N T A) → In s (stands [] t) → AlikeStands (left_stand x s) s
   inner_alike t dist place b at more s h = record { node = left_node x s.here; lasts = lasts_kept_op s.here (λ k args os e l. not_last t dist x place b at more s.here s.path k args os h e l); outer = outer s.path refl }
     where
       there : (a : StepOf N T A) (q : List (StepOf N T A)) → s.path ≡ a ∷ q → In (stand s.here (a ∷ q)) (stands [] t)
@@ -104,10 +104,10 @@ module _ {N T A : Type 0} (x : ℕ) where
       outer (a ∷ q) i = λ k. Some (record { name = (left_head x a.parent k).name; ended = ended a q i a.rest refl (left_list x a.rest) refl k })
 
   -- for any position of x: the operation before x and its parent are needed only at the end of a block
-  abbrev pub Precedings : StandOf N T A → Type 0
+  abbrev pub Precedings : OpWithPathOf N T A → Type 0
   Precedings s = (a : StepOf N T A) (q : List (StepOf N T A)) (o : OpOf N T A) (rest : OpsOf N T A) → s.path ≡ a ∷ q → a.rest ≡ next o rest → (head o).id ≡ x → left_list x a.rest ≡ no_ops → ⊥
 
-  pub any_alike : (t : OpOf N T A) → HasDistinctIds t → (place : Place) → place_of x t ≡ Some place → (s : StandOf N T A) → In s (stands [] t) → (place.before ≡ None → stand_id s ≡ place.parent → ⊥) → (place.before ≡ None → Precedings s) → AlikeStands (left_stand x s) s
+  pub any_alike : (t : OpOf N T A) → HasDistinctIds t → (place : Place) → place_of x t ≡ Some place → (s : OpWithPathOf N T A) → In s (stands [] t) → (place.before ≡ None → op_with_path_id s ≡ place.parent → ⊥) → (place.before ≡ None → Precedings s) → AlikeStands (left_stand x s) s
   any_alike t dist place at s h apart f = go place.before refl
     where
       go : (b : Option ℕ) → place.before ≡ b → AlikeStands (left_stand x s) s
@@ -116,7 +116,7 @@ module _ {N T A : Type 0} (x : ℕ) where
 
   -- removing x, or inserting it
   pub taken_leaves : (t w : OpOf N T A) (dt : HasDistinctIds t) (dw : HasDistinctIds w) (is : w ≡ without x t) (bare : (o : OpOf N T A) → find x t ≡ Some o → HoldNone (regions o)) (place : Place) → place_of x t ≡ Some place → ((v : Value) → (owner_of v).0 ≡ x → uses_of v t ≡ [])
-      → (y : ℕ) → (y ≡ x → ⊥) → (place.before ≡ None → y ≡ place.parent → ⊥) → ((s : StandOf N T A) → In s (stands [] t) → stand_id s ≡ y → place.before ≡ None → Precedings s) → surroundings y w ≡ surroundings y t
+      → (y : ℕ) → (y ≡ x → ⊥) → (place.before ≡ None → y ≡ place.parent → ⊥) → ((s : OpWithPathOf N T A) → In s (stands [] t) → op_with_path_id s ≡ y → place.before ≡ None → Precedings s) → surroundings y w ≡ surroundings y t
   taken_leaves t w dt dw is bare place at unused y apart outside f =
       sym (same_surroundings y t w
       (both AlikeStands y t w dt dw (λ s h i.
@@ -136,7 +136,7 @@ module _ {N T A : Type 0} (x : ℕ) where
         (λ s h i. let r = moved x n m dn dm is same s h (λ k. apart (sym i ∙ k)) in (r.0, r.1, r.2 ∙ i)))
         (λ s h i v k. found_moved x m n dm dn is same old new was_at is_at v))
       where
-        there : (t : OpOf N T A) (s : StandOf N T A) (a : StepOf N T A) (q : List (StepOf N T A)) → In s (stands [] t) → s.path ≡ a ∷ q → In (stand s.here (a ∷ q)) (stands [] t)
+        there : (t : OpOf N T A) (s : OpWithPathOf N T A) (a : StepOf N T A) (q : List (StepOf N T A)) → In s (stands [] t) → s.path ≡ a ∷ q → In (stand s.here (a ∷ q)) (stands [] t)
         there t s a q h p = subst (λ l. In (stand s.here l) (stands [] t)) p h
 
         before_some : (b : Option ℕ) → new.before ≡ b → (k : ℕ) × (new.before ≡ Some k)
@@ -144,13 +144,13 @@ module _ {N T A : Type 0} (x : ℕ) where
         before_some (Some k) e = (k, e)
 
         -- nothing is left after y in its block: only x was the end of the block, and it isn't in n
-        trailing : (r : StandOf N T A) → In r (stands [] n) → (b : StepOf N T A) (p : List (StepOf N T A)) → r.path ≡ b ∷ p → (l : OpsOf N T A) → b.rest ≡ l → left_list x b.rest ≡ no_ops → b.rest ≡ no_ops
+        trailing : (r : OpWithPathOf N T A) → In r (stands [] n) → (b : StepOf N T A) (p : List (StepOf N T A)) → r.path ≡ b ∷ p → (l : OpsOf N T A) → b.rest ≡ l → left_list x b.rest ≡ no_ops → b.rest ≡ no_ops
         trailing r k b p c no_ops u none = u
         trailing r k b p c (next z zs) u none =
             let w = before_some new.before refl in
             absurd (not_last_after n dn x new w.0 is_at w.1 r.here b p (there n r b p k c) (ap last_id u ∙ all_gone z zs (ap (left_list x) (sym u) ∙ none)))
 
-        ends : (s r : StandOf N T A) → In s (stands [] m) → In r (stands [] n) → stand_id r ≡ y → left_stand x r ≡ left_stand x s → old.before ≡ None
+        ends : (s r : OpWithPathOf N T A) → In s (stands [] m) → In r (stands [] n) → op_with_path_id r ≡ y → left_stand x r ≡ left_stand x s → old.before ≡ None
             → (a : StepOf N T A) (q : List (StepOf N T A)) (o : OpOf N T A) (rest : OpsOf N T A) → s.path ≡ a ∷ q → a.rest ≡ next o rest → (head o).id ≡ x → left_list x a.rest ≡ no_ops
             → (b : StepOf N T A) (p : List (StepOf N T A)) → r.path ≡ b ∷ p → left_step x b ≡ left_step x a → ⊥
         ends s r h k i same old_end a q o rest j l g none b p c f =
@@ -160,16 +160,16 @@ module _ {N T A : Type 0} (x : ℕ) where
             let number : b.region ≡ old.region = ap (λ (w : StepOf N T A). w.region) f ∙ at.1 in
             not_last old_end ((λ w. last_at (sym id w) (sym number w) n) ∙ last_is n dn r.here b p (there n r b p k c) empty_after ∙ ap Some i)
 
-        alike : (s r : StandOf N T A) → In s (stands [] m) → In r (stands [] n) → stand_id s ≡ y → stand_id r ≡ y → Moved x s r → AlikeStands s r
+        alike : (s r : OpWithPathOf N T A) → In s (stands [] m) → In r (stands [] n) → op_with_path_id s ≡ y → op_with_path_id r ≡ y → Moved x s r → AlikeStands s r
         alike s r h k i j (inr q) = record { node = ap (λ o. node_of o) (sym q.0); lasts = ap (λ o. last_names (regions o)) (sym q.0); outer = sym q.1 }
         alike s r h k i j (inl q) =
             let a = any_alike m dm old was_at s h (λ e z. outside_old e (sym i ∙ z)) (λ e a p o rest f g l none.
-            let b = left_some x r.path (left_step x a) (map (left_step x) p) (ap (λ (z : StandOf N T A). z.path) q ∙ ap (map (left_step x)) f) in
+            let b = left_some x r.path (left_step x a) (map (left_step x) p) (ap (λ (z : OpWithPathOf N T A). z.path) q ∙ ap (map (left_step x)) f) in
             ends s r h k j q e a p o rest f g l none b.0 b.1 b.2 b.3) in
             let w = before_some new.before refl in
             let b = inner_alike n dn new w.0 is_at w.1 r k in
             record {
-              node = sym a.node ∙ ap (λ (z : StandOf N T A). node_of z.here) (sym q) ∙ b.node;
-              lasts = sym a.lasts ∙ ap (λ (z : StandOf N T A). last_names (regions z.here)) (sym q) ∙ b.lasts;
-              outer = sym a.outer ∙ ap (λ (z : StandOf N T A). outer_of z.path) (sym q) ∙ b.outer;
+              node = sym a.node ∙ ap (λ (z : OpWithPathOf N T A). node_of z.here) (sym q) ∙ b.node;
+              lasts = sym a.lasts ∙ ap (λ (z : OpWithPathOf N T A). last_names (regions z.here)) (sym q) ∙ b.lasts;
+              outer = sym a.outer ∙ ap (λ (z : OpWithPathOf N T A). outer_of z.path) (sym q) ∙ b.outer;
             }

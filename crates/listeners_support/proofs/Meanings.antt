@@ -12,7 +12,7 @@ use Rattle.ir_event.proofs.of_trees.Mapped.{map_find, map_place}
 use Rattle.ir_event.specs.store.Nodes.{node_of, regions_arguments}
 use Rattle.ir_event.specs.tree_laws.Values.{region_at, type_of_value}
 use Rattle.ir_event.specs.tree_laws.Reads.{ops_in, ops_at, last_id, last_at, id_before, prev_of}
-use Rattle.ir_event.specs.tree_laws.Stands.{StepOf, StandOf, stand_id, stands, regions_stands, region_stands, ops_stands, stand_in, stand_of}
+use Rattle.ir_event.specs.tree_laws.Stands.{StepOf, OpWithPathOf, op_with_path_id, stands, regions_stands, region_stands, ops_stands, find_op_with_path, op_with_path}
 use Rattle.ir_event.proofs.of_tree_laws.Readings.{step, option_first}
 use Rattle.ir_event.proofs.of_tree_laws.Contents.{map_type_of_value, map_region_at}
 use Rattle.ir_event.specs.declared.event.Event.{Event}
@@ -28,7 +28,7 @@ module _ {N T A M U B : Type 0} (f : N → M) (g : T → U) (h : A → B) where
   abbrev map_step : StepOf N T A → StepOf M U B
   map_step a = record { parent = tree a.parent; region = a.region; args = map g a.args; preceding = map tree a.preceding; rest = map_ops f g h a.rest }
 
-  abbrev map_stand : StandOf N T A → StandOf M U B
+  abbrev map_stand : OpWithPathOf N T A → OpWithPathOf M U B
   map_stand s = record { here = tree s.here; path = map map_step s.path }
 
   mutual
@@ -61,11 +61,11 @@ module _ {N T A M U B : Type 0} (f : N → M) (g : T → U) (h : A → B) where
   same_operands : (o : OpOf N T A) → (head (tree o)).operands ≡ (head o).operands
   same_operands (op k rs) = refl
 
-  map_stand_in : (x : ℕ) (ss : List (StandOf N T A)) → stand_in x (map map_stand ss) ≡ option_map map_stand (stand_in x ss)
+  map_stand_in : (x : ℕ) (ss : List (OpWithPathOf N T A)) → find_op_with_path x (map map_stand ss) ≡ option_map map_stand (find_op_with_path x ss)
   map_stand_in x [] = refl
   map_stand_in x (s ∷ ss) =
       (λ i. cond (eqb (same_id s.here i) x) (Some (map_stand s)) (map_stand_in x ss i))
-      ∙ elim (eqb (stand_id s) x) as (λ b. cond b (Some (map_stand s)) (option_map map_stand (stand_in x ss)) ≡ option_map map_stand (cond b (Some s) (stand_in x ss))) [ true ↦ refl | false ↦ refl ]
+      ∙ elim (eqb (op_with_path_id s) x) as (λ b. cond b (Some (map_stand s)) (option_map map_stand (find_op_with_path x ss)) ≡ option_map map_stand (cond b (Some s) (find_op_with_path x ss))) [ true ↦ refl | false ↦ refl ]
 
   map_arguments : (rs : RegionsOf N T A) → regions_arguments (map_regions f g h rs) ≡ map (option_map (map g)) (regions_arguments rs)
   map_arguments no_regions = refl
@@ -99,7 +99,7 @@ module _ {N T A M U B : Type 0} (f : N → M) (g : T → U) (h : A → B) where
   map_all a b e [] = refl
   map_all a b e (v ∷ vs) = λ i. e v i ∷ map_all a b e vs i
 
-  map_surround : (t : OpOf N T A) (s : StandOf N T A) → surround (tree t) (map_stand s) ≡ map_surroundings f g h (surround t s)
+  map_surround : (t : OpOf N T A) (s : OpWithPathOf N T A) → surround (tree t) (map_stand s) ≡ map_surroundings f g h (surround t s)
   map_surround t s = λ i. record {
     node = map_node_of s.here i;
     lasts = map_lasts s.here i;
@@ -111,9 +111,9 @@ module _ {N T A M U B : Type 0} (f : N → M) (g : T → U) (h : A → B) where
       types = ap (map (λ v. type_of_value v (tree t))) (same_operands s.here) ∙ map_all (λ v. type_of_value v (tree t)) (λ v. type_of_value v t) (λ v. map_type_of_value f g h v t) (head s.here).operands
 
   pub mapped_surroundings : (x : ℕ) (t : OpOf N T A) → surroundings x (tree t) ≡ option_map (map_surroundings f g h) (surroundings x t)
-  mapped_surroundings x t = ap (option_map (surround (tree t))) (ap (stand_in x) (map_stands [] t) ∙ map_stand_in x (stands [] t)) ∙ go (stand_of x t)
+  mapped_surroundings x t = ap (option_map (surround (tree t))) (ap (find_op_with_path x) (map_stands [] t) ∙ map_stand_in x (stands [] t)) ∙ go (op_with_path x t)
     where
-      go : (o : Option (StandOf N T A)) → option_map (surround (tree t)) (option_map map_stand o) ≡ option_map (map_surroundings f g h) (option_map (surround t) o)
+      go : (o : Option (OpWithPathOf N T A)) → option_map (surround (tree t)) (option_map map_stand o) ≡ option_map (map_surroundings f g h) (option_map (surround t) o)
       go None = refl
       go (Some s) = ap Some (map_surround t s)
 

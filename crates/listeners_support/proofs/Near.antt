@@ -10,7 +10,7 @@ use Rattle.ir_event.specs.trees.Ids.{HasDistinctIds}
 use Rattle.ir_event.specs.trees.WellFormed.{ModuleOf}
 use Rattle.ir_event.specs.tree_laws.Changes.{Takes}
 use Rattle.ir_event.specs.tree_laws.Reads.{last_at, prev_of}
-use Rattle.ir_event.specs.tree_laws.Stands.{StepOf, StandOf, stand_id, stands, left_step, left_stand}
+use Rattle.ir_event.specs.tree_laws.Stands.{StepOf, OpWithPathOf, op_with_path_id, stands, left_step, left_stand}
 use Rattle.ir_event.specs.tree_laws.Members.{In}
 use Rattle.ir_event.proofs.of_tree_laws.Listed.{bool_cases}
 use Rattle.ir_event.proofs.of_tree_laws.Members.{stand}
@@ -50,7 +50,7 @@ module _ {N T A : Type 0} where
       → (y : ℕ) → (In y (x ∷ lasts_in x n) → ⊥) → surroundings y n ≡ surroundings y m
   edited x f k m n is d y far = each_far x f (keeps_at x f k) m n is d y (ne_eqb y x (λ e. far (inl e))) (λ h. far (inr h))
 
-  there : (t : OpOf N T A) (s : StandOf N T A) (a : StepOf N T A) (q : List (StepOf N T A)) → In s (stands [] t) → s.path ≡ a ∷ q → In (stand s.here (a ∷ q)) (stands [] t)
+  there : (t : OpOf N T A) (s : OpWithPathOf N T A) (a : StepOf N T A) (q : List (StepOf N T A)) → In s (stands [] t) → s.path ≡ a ∷ q → In (stand s.here (a ∷ q)) (stands [] t)
   there t s a q h p = subst (λ l. In (stand s.here l) (stands [] t)) p h
 
   took : (x : ℕ) (place : Place) (fresh : Bool) (m n : ModuleOf N T A) → HasDistinctIds m.tree → HasDistinctIds n.tree → Takes x place fresh m n
@@ -59,7 +59,7 @@ module _ {N T A : Type 0} where
       let next_to = place.parent ∷ if_any (last_at place.parent place.region n.tree) [] in
       taken_leaves x m.tree n.tree d e k.left k.empty place k.there k.unused y (λ i. far (inl i)) (λ b i. far (inr (in_end y place.before next_to b (inl i))))
       (λ s h i b a q o rest f g l none.
-      let apart : stand_id s ≡ x → ⊥ = λ j. far (inl (sym i ∙ j)) in
+      let apart : op_with_path_id s ≡ x → ⊥ = λ j. far (inl (sym i ∙ j)) in
       let left = taken x m.tree n.tree d e k.left k.empty s h apart in
       let at = placed_there m.tree d x place k.there o _ q (next_in m.tree d s.here a q o rest (there m.tree s a q h f) g) l in
       let last = last_is n.tree e (left_stand x s).here (left_step x a) (map (left_step x) q) (there n.tree (left_stand x s) (left_step x a) (map (left_step x) q) left (ap (map (left_step x)) f)) none in

@@ -4,7 +4,7 @@ use Rattle.ir_event.specs.trees.declared.value.Value.{Value}
 use Rattle.ir_event.specs.trees.declared.value.Value.TheVariants.{Result, Arg}
 use Rattle.ir_event.specs.trees.Tree.{OpOf, head}
 use Rattle.ir_event.specs.trees.Uses.{same_value, operand_uses, uses_of}
-use Rattle.ir_event.specs.tree_laws.Stands.{StandOf, stand_id, stands, gather}
+use Rattle.ir_event.specs.tree_laws.Stands.{OpWithPathOf, op_with_path_id, stands, gather}
 use Rattle.ir_event.specs.tree_laws.Members.{In}
 use Rattle.ir_event.proofs.of_tree_laws.Readings.{stands_uses}
 use Rattle.ir_event.proofs.of_types.Truths.{nil_parts}
@@ -34,7 +34,7 @@ none_gathered f (y ∷ ys) e x (inl i) = ap f i ∙ (nil_parts (f y) (gather f y
 none_gathered f (y ∷ ys) e x (inr h) = none_gathered f ys ((nil_parts (f y) (gather f ys) e).1) x h
 
 -- a value without uses isn't an operand
-pub not_used : {N T A : Type 0} (v : Value) (s : StandOf N T A) (t : OpOf N T A) → uses_of v t ≡ [] → In s (stands [] t) → In v (head s.here).operands → ⊥
+pub not_used : {N T A : Type 0} (v : Value) (s : OpWithPathOf N T A) (t : OpOf N T A) → uses_of v t ≡ [] → In s (stands [] t) → In v (head s.here).operands → ⊥
 not_used {N} {T} {A} v s t e h i =
-    no_operand v (stand_id s) 0 (head s.here).operands
-    (none_gathered (λ (u : StandOf N T A). operand_uses v (stand_id u) 0 (head u.here).operands) (stands [] t) (stands_uses v [] t ∙ e) s h) i
+    no_operand v (op_with_path_id s) 0 (head s.here).operands
+    (none_gathered (λ (u : OpWithPathOf N T A). operand_uses v (op_with_path_id u) 0 (head u.here).operands) (stands [] t) (stands_uses v [] t ∙ e) s h) i

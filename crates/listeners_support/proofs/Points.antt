@@ -7,7 +7,7 @@ use Rattle.ir_event.specs.trees.Ids.{HasDistinctIds, first_of}
 use Rattle.ir_event.specs.trees.Places.{first_id, place_of}
 use Rattle.ir_event.specs.tree_laws.Values.{region_at}
 use Rattle.ir_event.specs.tree_laws.Reads.{last_id, ops_in, last_at, prev_of, is_among}
-use Rattle.ir_event.specs.tree_laws.Stands.{StepOf, StandOf, stands, regions_stands, region_stands, ops_stands}
+use Rattle.ir_event.specs.tree_laws.Stands.{StepOf, OpWithPathOf, stands, regions_stands, region_stands, ops_stands}
 use Rattle.ir_event.specs.tree_laws.Members.{In}
 use Rattle.ir_event.proofs.of_tree_laws.Listed.{bool_cases, in_left, in_right, in_parts}
 use Rattle.ir_event.proofs.of_tree_laws.Readings.{step}
@@ -76,18 +76,18 @@ module _ {N T A : Type 0} where
     ]
 
   -- an operation inside x keeps its path inside x, and its context
-  abbrev pub Again : StandOf N T A → List (StandOf N T A) → Type 0
-  Again s us = (u : StandOf N T A) × In u us × (u.here ≡ s.here) × (outer_of u.path ≡ outer_of s.path)
+  abbrev pub Again : OpWithPathOf N T A → List (OpWithPathOf N T A) → Type 0
+  Again s us = (u : OpWithPathOf N T A) × In u us × (u.here ≡ s.here) × (outer_of u.path ≡ outer_of s.path)
 
-  more : (s : StandOf N T A) (us vs : List (StandOf N T A)) → ((z : StandOf N T A) → In z us → In z vs) → Again s us → Again s vs
+  more : (s : OpWithPathOf N T A) (us vs : List (OpWithPathOf N T A)) → ((z : OpWithPathOf N T A) → In z us → In z vs) → Again s us → Again s vs
   more s us vs f w = (w.0, f w.0 w.1, w.2, w.3)
 
   mutual
-    pub again : (b c : List (StepOf N T A)) (t : OpOf N T A) (s : StandOf N T A) → In s (stands b t) → (s ≡ stand t b) ⊎ Again s (stands c t)
+    pub again : (b c : List (StepOf N T A)) (t : OpOf N T A) (s : OpWithPathOf N T A) → In s (stands b t) → (s ≡ stand t b) ⊎ Again s (stands c t)
     again b c (op h rs) s (inl e) = inl e
     again b c (op h rs) s (inr k) = inr (more s (regions_stands (op h rs) c 0 rs) (stands c (op h rs)) (λ z m. inr m) (regions_again (op h rs) b c 0 rs s k))
 
-    regions_again : (p : OpOf N T A) (b c : List (StepOf N T A)) (r : ℕ) (rs : RegionsOf N T A) (s : StandOf N T A) → In s (regions_stands p b r rs) → Again s (regions_stands p c r rs)
+    regions_again : (p : OpOf N T A) (b c : List (StepOf N T A)) (r : ℕ) (rs : RegionsOf N T A) (s : OpWithPathOf N T A) → In s (regions_stands p b r rs) → Again s (regions_stands p c r rs)
     regions_again p b c r no_regions s k = absurd k
     regions_again p b c r (region g rs) s k =
         let xs = region_stands p c r g in
@@ -97,11 +97,11 @@ module _ {N T A : Type 0} where
           | inr l ↦ more s ys (xs ++ ys) (λ z m. in_right z xs ys m) (regions_again p b c (r + 1) rs s l)
         ]
 
-    region_again : (p : OpOf N T A) (b c : List (StepOf N T A)) (r : ℕ) (g : RegionOf N T A) (s : StandOf N T A) → In s (region_stands p b r g) → Again s (region_stands p c r g)
+    region_again : (p : OpOf N T A) (b c : List (StepOf N T A)) (r : ℕ) (g : RegionOf N T A) (s : OpWithPathOf N T A) → In s (region_stands p b r g) → Again s (region_stands p c r g)
     region_again p b c r empty s k = absurd k
     region_again p b c r (block args os) s k = ops_again p b c r args [] os s k
 
-    ops_again : (p : OpOf N T A) (b c : List (StepOf N T A)) (r : ℕ) (args : List T) (preceding : List (OpOf N T A)) (os : OpsOf N T A) (s : StandOf N T A) → In s (ops_stands p b r args preceding os) → Again s (ops_stands p c r args preceding os)
+    ops_again : (p : OpOf N T A) (b c : List (StepOf N T A)) (r : ℕ) (args : List T) (preceding : List (OpOf N T A)) (os : OpsOf N T A) (s : OpWithPathOf N T A) → In s (ops_stands p b r args preceding os) → Again s (ops_stands p c r args preceding os)
     ops_again p b c r args preceding no_ops s k = absurd k
     ops_again p b c r args preceding (next o os) s k =
         let a = step p r args preceding os in
@@ -109,7 +109,7 @@ module _ {N T A : Type 0} where
         let ys = ops_stands p c r args (preceding ++ o ∷ []) os in
         elim (in_parts s (stands (a ∷ b) o) (ops_stands p b r args (preceding ++ o ∷ []) os) k) [
           | inl l ↦ elim (again (a ∷ b) (a ∷ c) o s l) [
-            | inl e ↦ (stand o (a ∷ c), in_left (stand o (a ∷ c)) xs ys (itself (a ∷ c) o), ap (λ (z : StandOf N T A). z.here) (sym e), ap (λ (z : StandOf N T A). outer_of z.path) (sym e))
+            | inl e ↦ (stand o (a ∷ c), in_left (stand o (a ∷ c)) xs ys (itself (a ∷ c) o), ap (λ (z : OpWithPathOf N T A). z.here) (sym e), ap (λ (z : OpWithPathOf N T A). outer_of z.path) (sym e))
             | inr w ↦ more s xs (xs ++ ys) (λ z m. in_left z xs ys m) w
           ]
           | inr l ↦ more s ys (xs ++ ys) (λ z m. in_right z xs ys m) (ops_again p b c r args (preceding ++ o ∷ []) os s l)

@@ -15,7 +15,7 @@ use Rattle.ir_event.specs.store.Nodes.{Node, NodeOf, node_of, regions_arguments}
 use Rattle.ir_event.specs.store.Stored.{Stored, known}
 use Rattle.ir_event.specs.tree_laws.Values.{type_of_value, has_value, region_at}
 use Rattle.ir_event.specs.tree_laws.Reads.{ops_in, last_id, last_at, parent_of, next_of}
-use Rattle.ir_event.specs.tree_laws.Stands.{StepOf, StandOf, stand_id, stands, stand_of, place_in, dominated_by}
+use Rattle.ir_event.specs.tree_laws.Stands.{StepOf, OpWithPathOf, op_with_path_id, stands, op_with_path, place_in, dominated_by}
 use Rattle.ir_event.specs.tree_laws.Members.{In}
 use Rattle.ir_event.proofs.of_tree_laws.Readings.{stands_find}
 use Rattle.ir_event.proofs.of_tree_laws.Members.{stand, joined_ops, member, stand_of_member, found_stands, stand_found}
@@ -98,18 +98,18 @@ module _ {N T A : Type 0} where
   module _ (t : OpOf N T A) (d : HasDistinctIds t) (x : ℕ) where
     -- an operation without a place has no parent
     pub no_outer : parent_of x t ≡ None → outer_at x t ≡ None
-    no_outer e = go (stand_of x t) refl
+    no_outer e = go (op_with_path x t) refl
       where
-        at_path : (s : StandOf N T A) → In s (stands [] t) → stand_id s ≡ x → (path : List (StepOf N T A)) → s.path ≡ path → outer_of s.path ≡ None
+        at_path : (s : OpWithPathOf N T A) → In s (stands [] t) → op_with_path_id s ≡ x → (path : List (StepOf N T A)) → s.path ≡ path → outer_of s.path ≡ None
         at_path s h i [] p = ap outer_of p
         at_path s h i (a ∷ q) p =
             let there : In (stand s.here (a ∷ q)) (stands [] t) = subst (λ l. In (stand s.here l) (stands [] t)) p h in
             let two : None ≡ Some (head a.parent).id = sym e ∙ ap (λ y. parent_of y t) (sym i) ∙ ap (option_map (λ (l : Place). l.parent)) (place_of_member t d s.here a q there) in
             absurd cc
 
-        go : (o : Option (StandOf N T A)) → stand_of x t ≡ o → option_and_then (λ s. outer_of s.path) (stand_of x t) ≡ None
-        go None f = ap (option_and_then (λ (s : StandOf N T A). outer_of s.path)) f
-        go (Some s) f = let m = member x (stands [] t) s f in ap (option_and_then (λ (s : StandOf N T A). outer_of s.path)) f ∙ at_path s m.0 m.1 s.path refl
+        go : (o : Option (OpWithPathOf N T A)) → op_with_path x t ≡ o → option_and_then (λ s. outer_of s.path) (op_with_path x t) ≡ None
+        go None f = ap (option_and_then (λ (s : OpWithPathOf N T A). outer_of s.path)) f
+        go (Some s) f = let m = member x (stands [] t) s f in ap (option_and_then (λ (s : OpWithPathOf N T A). outer_of s.path)) f ∙ at_path s m.0 m.1 s.path refl
 
     -- an operation with a parent
     pub record Parent (p : ℕ) : Type 0 where
@@ -127,7 +127,7 @@ module _ {N T A : Type 0} where
         let u = member_of_place x l.0 t l.1 in
         at_path l.0 u.0 u.1 u.2 u.0.path refl u.3
       where
-        at_path : (l : Place) (s : StandOf N T A) → In s (stands [] t) → stand_id s ≡ x → (path : List (StepOf N T A)) → s.path ≡ path → place_in s.path ≡ Some l → Parent p
+        at_path : (l : Place) (s : OpWithPathOf N T A) → In s (stands [] t) → op_with_path_id s ≡ x → (path : List (StepOf N T A)) → s.path ≡ path → place_in s.path ≡ Some l → Parent p
         at_path l s h i [] q f = (let no : None ≡ Some l = sym (ap place_in q) ∙ f in absurd cc)
         at_path l s h i (a ∷ q) r f =
             let there : In (stand s.here (a ∷ q)) (stands [] t) = subst (λ z. In (stand s.here z) (stands [] t)) r h in
@@ -138,7 +138,7 @@ module _ {N T A : Type 0} where
               here = a.parent;
               found = ap (λ y. find y t) (sym id) ∙ stand_found t d (stand a.parent q) (around_there t s.here a q there).1;
               is = ap (λ y. outer_at y t) (sym i)
-                  ∙ ap (option_and_then (λ (z : StandOf N T A). outer_of z.path)) (stand_of_member t d s h)
+                  ∙ ap (option_and_then (λ (z : OpWithPathOf N T A). outer_of z.path)) (stand_of_member t d s h)
                   ∙ ap outer_of r
                   ∙ (λ k. Some (record { name = (head a.parent).name; ended = (ended_is a.parent a.rest ∙ ap (λ b. ended_at b (node_of a.parent)) (sym (ap (option_and_then (λ (l : Place). l.before)) placed))) k }));
             }
@@ -185,22 +185,22 @@ module _ (s : Stored) (d : HasDistinctIds s.module_of.tree) where
   absent x e = absent_find x s.module_of.tree e
 
   pub nothing_around : (x : ℕ) → find x s.module_of.tree ≡ None → surroundings x s.module_of.tree ≡ None
-  nothing_around x e = go (stand_of x s.module_of.tree) refl (stands_find x [] s.module_of.tree ∙ e)
+  nothing_around x e = go (op_with_path x s.module_of.tree) refl (stands_find x [] s.module_of.tree ∙ e)
     where
-      go : (o : Option (StandOf ℕ ℕ ℕ)) → stand_of x s.module_of.tree ≡ o → option_map (λ (z : StandOf ℕ ℕ ℕ). z.here) (stand_of x s.module_of.tree) ≡ None → option_map (surround s.module_of.tree) (stand_of x s.module_of.tree) ≡ None
+      go : (o : Option (OpWithPathOf ℕ ℕ ℕ)) → op_with_path x s.module_of.tree ≡ o → option_map (λ (z : OpWithPathOf ℕ ℕ ℕ). z.here) (op_with_path x s.module_of.tree) ≡ None → option_map (surround s.module_of.tree) (op_with_path x s.module_of.tree) ≡ None
       go None i k = ap (option_map (surround s.module_of.tree)) i
-      go (Some z) i k = (let no : Some z.here ≡ None = sym (ap (option_map (λ (z : StandOf ℕ ℕ ℕ). z.here)) i) ∙ k in absurd cc)
+      go (Some z) i k = (let no : Some z.here ≡ None = sym (ap (option_map (λ (z : OpWithPathOf ℕ ℕ ℕ). z.here)) i) ∙ k in absurd cc)
 
   pub record Present (x : ℕ) (n : Node) : Type 0 where
-    pub here : StandOf ℕ ℕ ℕ
-    pub there : stand_of x s.module_of.tree ≡ Some here
+    pub here : OpWithPathOf ℕ ℕ ℕ
+    pub there : op_with_path x s.module_of.tree ≡ Some here
     pub found : find x s.module_of.tree ≡ Some here.here
     pub node : node_of here.here ≡ n
 
-  present_at : (x : ℕ) → has_id x s.module_of.tree ≡ true → (z : StandOf ℕ ℕ ℕ) × (stand_of x s.module_of.tree ≡ Some z) × (find x s.module_of.tree ≡ Some z.here)
+  present_at : (x : ℕ) → has_id x s.module_of.tree ≡ true → (z : OpWithPathOf ℕ ℕ ℕ) × (op_with_path x s.module_of.tree ≡ Some z) × (find x s.module_of.tree ≡ Some z.here)
   present_at x e =
       let z = present_stand [] s.module_of.tree x e in
-      (z.0, ap (λ y. stand_of y s.module_of.tree) (sym z.2) ∙ stand_of_member s.module_of.tree d z.0 z.1, ap (λ y. find y s.module_of.tree) (sym z.2) ∙ stand_found s.module_of.tree d z.0 z.1)
+      (z.0, ap (λ y. op_with_path y s.module_of.tree) (sym z.2) ∙ stand_of_member s.module_of.tree d z.0 z.1, ap (λ y. find y s.module_of.tree) (sym z.2) ∙ stand_found s.module_of.tree d z.0 z.1)
 
   pub unshown : (x : ℕ) → has_id x s.module_of.tree ≡ true → option_map node_of (known x s) ≡ None → ⊥
   unshown x e f = let z = present_at x e in let no : Some (node_of z.0.here) ≡ None = sym (shown_known s x z.0.here z.2) ∙ f in absurd cc
@@ -221,7 +221,7 @@ module _ (s : Stored) (d : HasDistinctIds s.module_of.tree) where
         node = sym p.node i;
         lasts = (f ∙ ap (λ (m : Node). from_on (last_name_at x s.module_of.tree) 0 (length m.arguments)) (sym p.node) ∙ all_named s.module_of.tree p.here.here x p.found) i;
         types = (e ∙ ap (λ (m : Node). map (λ v. type_of_value v s.module_of.tree) m.head.operands) (sym p.node) ∙ ap (λ (h : HeadOf ℕ ℕ ℕ). map (λ v. type_of_value v s.module_of.tree) h.operands) (head_shown p.here.here)) i;
-        outer = (g ∙ ap (option_and_then (λ (z : StandOf ℕ ℕ ℕ). outer_of z.path)) p.there) i;
+        outer = (g ∙ ap (option_and_then (λ (z : OpWithPathOf ℕ ℕ ℕ). outer_of z.path)) p.there) i;
       }))
       ∙ sym (ap (option_map (surround s.module_of.tree)) p.there)
 

@@ -15,7 +15,7 @@ use Rattle.std.specs.FinMap.{nat_cmp-IsAntisymmetric}
 use Rattle.std.specs.FinMap.Entries.{find, below_all, is_sorted, find-put, is_sorted-put, same_entries}
 use Rattle.std.proofs.lemmas.Cmp.{nat_cmp_total}
 use Rattle.ir_event.specs.trees.Tree.{OpOf}
-use Rattle.ir_event.specs.tree_laws.Stands.{StandOf, stand_id, stands, stand_in}
+use Rattle.ir_event.specs.tree_laws.Stands.{OpWithPathOf, op_with_path_id, stands, find_op_with_path}
 use Rattle.listeners_support.specs.Surroundings.{SurroundingsOf, surround}
 use Rattle.listeners_support.specs.Facts.{if_kept, kept_of, sorted_in, sorted_facts, kept_facts}
 use Rattle.ir_event.proofs.of_tree_laws.Listed.{bool_cases}
@@ -88,16 +88,16 @@ module _ {F : Type 0} (is_kept : F → Bool) where
 
 -- the facts of a tree, in order
 module _ {N U A F : Type 0} (fact : SurroundingsOf N U A → F) (t : OpOf N U A) where
-  pub found : (q : ℕ) (ss : List (StandOf N U A)) → find nat_cmp q (sorted_in fact t ss) ≡ option_map fact (option_map (surround t) (stand_in q ss))
+  pub found : (q : ℕ) (ss : List (OpWithPathOf N U A)) → find nat_cmp q (sorted_in fact t ss) ≡ option_map fact (option_map (surround t) (find_op_with_path q ss))
   found q [] = refl
   found q (s ∷ ss) =
-      find-put nat_cmp nat_cmp_total q (stand_id s) (fact (surround t s)) (sorted_in fact t ss)
-      ∙ (λ i. cond (tied q (stand_id s) i) (Some (fact (surround t s))) (found q ss i))
-      ∙ elim (eqb (stand_id s) q) as (λ b. cond b (Some (fact (surround t s))) (option_map fact (option_map (surround t) (stand_in q ss))) ≡ option_map fact (option_map (surround t) (cond b (Some s) (stand_in q ss)))) [ true ↦ refl | false ↦ refl ]
+      find-put nat_cmp nat_cmp_total q (op_with_path_id s) (fact (surround t s)) (sorted_in fact t ss)
+      ∙ (λ i. cond (tied q (op_with_path_id s) i) (Some (fact (surround t s))) (found q ss i))
+      ∙ elim (eqb (op_with_path_id s) q) as (λ b. cond b (Some (fact (surround t s))) (option_map fact (option_map (surround t) (find_op_with_path q ss))) ≡ option_map fact (option_map (surround t) (cond b (Some s) (find_op_with_path q ss)))) [ true ↦ refl | false ↦ refl ]
 
-  pub is_in_order : (ss : List (StandOf N U A)) → T (is_sorted nat_cmp (sorted_in fact t ss))
+  pub is_in_order : (ss : List (OpWithPathOf N U A)) → T (is_sorted nat_cmp (sorted_in fact t ss))
   is_in_order [] = tt
-  is_in_order (s ∷ ss) = is_sorted-put nat_cmp nat_cmp_total (stand_id s) (fact (surround t s)) (sorted_in fact t ss) (is_in_order ss)
+  is_in_order (s ∷ ss) = is_sorted-put nat_cmp nat_cmp_total (op_with_path_id s) (fact (surround t s)) (sorted_in fact t ss) (is_in_order ss)
 
 -- the kept facts
 module _ {N U A F : Type 0} (fact : SurroundingsOf N U A → F) (is_kept : F → Bool) (t : OpOf N U A) where

@@ -6,7 +6,7 @@ use Rattle.ir_event.specs.types.Things.{ContextModel}
 use Rattle.ir_event.specs.types.Terms.{TypeTerm, AttrTerm}
 use Rattle.ir_event.specs.trees.Tree.{OpOf}
 use Rattle.ir_event.specs.trees.Ids.{ids}
-use Rattle.ir_event.specs.tree_laws.Stands.{StandOf, stand_id, stands, stand_in}
+use Rattle.ir_event.specs.tree_laws.Stands.{OpWithPathOf, op_with_path_id, stands, find_op_with_path}
 use Rattle.ir_event.specs.tree_laws.Members.{In}
 use Rattle.ir_event.proofs.of_tree_laws.Listed.{neither}
 use Rattle.ir_event.proofs.of_tree_laws.Readings.{stands_ids}
@@ -75,16 +75,16 @@ pub renewed_as : {F : Type 0} (facts : ℕ → Option F) (xs ys : List ℕ) (f g
 renewed_as facts xs ys f g e r = subst (λ l. Renewed facts l f g) e r
 
 -- a new table in which all entries were updated keeps the facts
-absent_stand : {N T A : Type 0} (y : ℕ) (ss : List (StandOf N T A)) → is_one_of y (map (λ (s : StandOf N T A). stand_id s) ss) ≡ false → stand_in y ss ≡ None
+absent_stand : {N T A : Type 0} (y : ℕ) (ss : List (OpWithPathOf N T A)) → is_one_of y (map (λ (s : OpWithPathOf N T A). op_with_path_id s) ss) ≡ false → find_op_with_path y ss ≡ None
 absent_stand y [] e = refl
 absent_stand y (s ∷ ss) e =
     let b = neither _ _ e in
-    ap (λ c. cond c (Some s) (stand_in y ss)) b.0 ∙ absent_stand y ss b.1
+    ap (λ c. cond c (Some s) (find_op_with_path y ss)) b.0 ∙ absent_stand y ss b.1
 
 pub all_renewed : {N T A F : Type 0} (fact : SurroundingsOf N T A → F) (is_kept : F → Bool) (t : OpOf N T A) (ops : List ℕ) (f g : ℕ → Option F) → ops ≡ ids t → ((y : ℕ) → f y ≡ None) → Renewed (kept_of fact is_kept t) ops f g → Keeps fact is_kept t g
 all_renewed {N} {T} {A} {F} fact is_kept t ops f g e empty r y = go (is_one_of y ops) refl
   where
-    all : map (λ (s : StandOf N T A). stand_id s) (stands [] t) ≡ ops
+    all : map (λ (s : OpWithPathOf N T A). op_with_path_id s) (stands [] t) ≡ ops
     all = stands_ids [] t ∙ sym e
 
     go : (b : Bool) → is_one_of y ops ≡ b → g y ≡ kept_of fact is_kept t y

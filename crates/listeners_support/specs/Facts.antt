@@ -6,7 +6,7 @@ use Rattle.std.specs.Ordering.{nat_cmp}
 use Rattle.std.specs.FinMap.Entries.{put}
 use Rattle.ir_event.specs.trees.Tree.{OpOf, head, regions, region_count}
 use Rattle.ir_event.specs.trees.Ids.{find}
-use Rattle.ir_event.specs.tree_laws.Stands.{StandOf, stand_id, stands}
+use Rattle.ir_event.specs.tree_laws.Stands.{OpWithPathOf, op_with_path_id, stands}
 use Rattle.listeners_support.specs.Surroundings.{SurroundingsOf, surround, surroundings}
 use Rattle.ir_event.specs.declared.event.Event.{Event}
 use Rattle.listeners_support.specs.Near.{near}
@@ -36,10 +36,10 @@ abbrev pub Renewed : {F : Type 0} → (ℕ → Option F) → List ℕ → (ℕ �
 Renewed facts ys before after = (y : ℕ) → after y ≡ (if is_one_of y ys then facts y else before y)
 
 -- the facts about the operations of a tree, ordered by id
-abbrev pub sorted_in : {N T A F : Type 0} → (SurroundingsOf N T A → F) → OpOf N T A → List (StandOf N T A)
+abbrev pub sorted_in : {N T A F : Type 0} → (SurroundingsOf N T A → F) → OpOf N T A → List (OpWithPathOf N T A)
     → List (ℕ × F)
 sorted_in fact t [] = []
-sorted_in fact t (s ∷ ss) = put nat_cmp (stand_id s) (fact (surround t s)) (sorted_in fact t ss)
+sorted_in fact t (s ∷ ss) = put nat_cmp (op_with_path_id s) (fact (surround t s)) (sorted_in fact t ss)
 
 abbrev pub sorted_facts : {N T A F : Type 0} → (SurroundingsOf N T A → F) → OpOf N T A → List (ℕ × F)
 sorted_facts fact t = sorted_in fact t (stands [] t)

@@ -5,7 +5,7 @@ use Rattle.std.specs.List.{All}
 use Rattle.ir_event.specs.types.Things.{ContextModel, IsType}
 use Rattle.ir_event.specs.trees.Tree.{OpOf, Op, head, regions, region_count}
 use Rattle.ir_event.specs.tree_laws.Reads.{ops_at}
-use Rattle.ir_event.specs.tree_laws.Stands.{stand_of}
+use Rattle.ir_event.specs.tree_laws.Stands.{op_with_path}
 use Rattle.ir_event.specs.types.Terms.{TypeTerm, AttrTerm, name_term, type_term, attr_term}
 use Rattle.ir_event.specs.trees.Ids.{find}
 use Rattle.ir_event.specs.declared.event.Event.{Event}
@@ -52,7 +52,7 @@ from_on f r (suc k) = f r ∷ from_on f (r + 1) k
 
 -- the part of the context of operation x that is about its parent
 abbrev pub outer_at : {N T A : Type 0} → ℕ → OpOf N T A → Option (OuterOf N T A)
-outer_at x t = option_and_then (λ s. outer_of s.path) (stand_of x t)
+outer_at x t = option_and_then (λ s. outer_of s.path) (op_with_path x t)
 
 -- the looks for the context of an operation: one if it isn't there; otherwise five, one for each operand, and two for
 -- each region

@@ -4,7 +4,7 @@ use Rattle.ir_event.specs.trees.Tree.{OpOf, RegionsOf, no_regions, region, OpsOf
 use Rattle.ir_event.specs.trees.Ids.{first_of}
 use Rattle.ir_event.specs.store.Nodes.{NodeOf, node_of}
 use Rattle.ir_event.specs.tree_laws.Values.{type_of_value}
-use Rattle.ir_event.specs.tree_laws.Stands.{StepOf, StandOf, stand_of}
+use Rattle.ir_event.specs.tree_laws.Stands.{StepOf, OpWithPathOf, op_with_path}
 use Rattle.ir_event.specs.tree_laws.Reads.{ops_in}
 
 -- the part of a context about the parent: its name and, if the operation is the last of its block, the parent without
@@ -42,7 +42,7 @@ outer_of [] = None
 outer_of (a ∷ path) = Some (record { name = (head a.parent).name; ended = ended_by a.parent a.rest })
 
 -- the context of an operation at its position in the tree
-abbrev pub surround : {N T A : Type 0} → OpOf N T A → StandOf N T A → SurroundingsOf N T A
+abbrev pub surround : {N T A : Type 0} → OpOf N T A → OpWithPathOf N T A → SurroundingsOf N T A
 surround t s = record {
   node = node_of s.here;
   lasts = last_names (regions s.here);
@@ -52,4 +52,4 @@ surround t s = record {
 
 -- the context of operation x of a tree, if it is there
 abbrev pub surroundings : {N T A : Type 0} → ℕ → OpOf N T A → Option (SurroundingsOf N T A)
-surroundings x t = option_map (surround t) (stand_of x t)
+surroundings x t = option_map (surround t) (op_with_path x t)

@@ -27,9 +27,9 @@ pub struct IdMap<V> {
 
 impl<V> Model for IdMap<V> {
     ghost use Rattle.std.specs.Prelude.{◌++◌, length};
-    ghost use Rattle.listeners_support.specs.Map.{IdMap as Seen, entries_from, AreAfter};
+    ghost use Rattle.listeners_support.specs.Map.{IdMap as VisibleValues, entries_from, AreAfter};
 
-    ghost Value = { Seen V };
+    ghost Value = { VisibleValues V };
 
     ghost view = { λ m. record { entries = entries_from 0 m.near.items ++ m.far.entries } };
 

@@ -5,13 +5,13 @@ use Rattle.std.specs.List.{list_any}
 use Rattle.ir_event.specs.types.Things.{ContextModel}
 use Rattle.ir_event.specs.trees.Ids.{ids, has_id}
 use Rattle.ir_event.specs.trees.Meaning.{Operation}
-use Rattle.ir_event.specs.tree_laws.Stands.{stands, stand_of}
+use Rattle.ir_event.specs.tree_laws.Stands.{stands, op_with_path}
 use Rattle.ir_event.proofs.of_tree_laws.Listed.{bool_cases, neither}
 use Rattle.ir_event.proofs.of_tree_laws.Members.{member}
 use Rattle.ir_event.proofs.of_tree_laws.Around.{stand_present}
 use Rattle.ir_event.specs.declared.world.World.{World}
 use Rattle.ir_event.specs.Modules.{module_in}
-use Rattle.listeners_symbols.specs.Roles.{Stand, role, role_of}
+use Rattle.listeners_symbols.specs.Roles.{OpWithPath, role, role_of}
 use Rattle.listeners_symbols.specs.Table.{Table, Says, Keeps, Renewed, AreRight, Added, RoleIsOf, role_meaning}
 use Rattle.std.proofs.lemmas.Bool.{or_left, or_right}
 use Rattle.ir_event.proofs.of_tree_laws.Reasoned.{some_there}
@@ -44,9 +44,9 @@ module _ (c : ContextModel) (t : Operation) where
       ]
 
   no_role : (y : ℕ) → list_any (λ z. eqb z y) (ids t) ≡ false → role_of t y ≡ None
-  no_role y e = go (stand_of y t) refl
+  no_role y e = go (op_with_path y t) refl
     where
-      go : (o : Option Stand) → stand_of y t ≡ o → role_of t y ≡ None
+      go : (o : Option OpWithPath) → op_with_path y t ≡ o → role_of t y ≡ None
       go None f = ap (option_map (role t)) f
       go (Some s) f =
           let m = member y (stands [] t) s f in

@@ -14,7 +14,7 @@ use Rattle.ir_event.specs.trees.Ids.{HasDistinctIds, ids, find, has_id}
 use Rattle.ir_event.specs.trees.Places.{place_of, without}
 use Rattle.ir_event.specs.trees.Meaning.{Operation}
 use Rattle.ir_event.specs.tree_laws.Reads.{parent_of}
-use Rattle.ir_event.specs.tree_laws.Stands.{StepOf, stand_id, stands, stand_in, stand_of, place_in}
+use Rattle.ir_event.specs.tree_laws.Stands.{StepOf, op_with_path_id, stands, find_op_with_path, op_with_path, place_in}
 use Rattle.ir_event.specs.tree_laws.Members.{In}
 use Rattle.ir_event.proofs.of_tree_laws.Listed.{bool_cases}
 use Rattle.ir_event.proofs.of_tree_laws.Members.{stand, member, same_stand, found_stands}
@@ -33,7 +33,7 @@ use Rattle.listeners_symbols.specs.declared.role.Role.{Role as Numbers}
 use Rattle.listeners_symbols.specs.declared.role.Reference.{Reference}
 use Rattle.listeners_symbols.specs.declared.role.Call.{Call}
 use Rattle.listeners_symbols.specs.declared.role.Signature.{Signature}
-use Rattle.listeners_symbols.specs.Roles.{Stand, Role, role, role_of}
+use Rattle.listeners_symbols.specs.Roles.{OpWithPath, Role, role, role_of}
 use Rattle.listeners_symbols.specs.Table.{Table, Says, Keeps, IsKept, Renewed, Followed, RoleIsOf, ReferenceIsOf, CallIsOf, SignatureIsOf, role_meaning, reference_meaning, call_meaning, signature_meaning}
 use Rattle.listeners_symbols.proofs.Meant.{references_meant, call_meant, function_meant}
 use Rattle.listeners_symbols.proofs.Local.{far_roles, own_role}
@@ -119,7 +119,7 @@ module _ (b c : ContextModel) (holds : Holds b) (g : IsExtendedBy b c) where
   keeps_more t f h x = says_more (role_of t x) (f x) (h x)
 
 -- ---- the place of an event's operation
-stand_there : (x : ℕ) (t : Operation) (s : Stand) → In s (stands [] t) → stand_id s ≡ x → has_id x t ≡ true
+stand_there : (x : ℕ) (t : Operation) (s : OpWithPath) → In s (stands [] t) → op_with_path_id s ≡ x → has_id x t ≡ true
 stand_there x t s h i = ap (λ y. list_any (λ z. eqb z y) (ids t)) (sym i) ∙ stand_present [] t s h
 
 place_there : (x : ℕ) (t : Operation) (place : Place) → place_of x t ≡ Some place → has_id x t ≡ true
@@ -150,7 +150,7 @@ parent_apart t d x p e = go (place_of x t) refl
     go None i = (let no : None ≡ Some p = sym (ap (option_map (λ (l : Place). l.parent)) i) ∙ e in absurd cc)
     go (Some l) i = (let u = member_of_place x l t i in at_path u.0 u.1 u.2 u.0.path refl u.3)
       where
-        at_path : (s : Stand) → In s (stands [] t) → stand_id s ≡ x → (path : List (StepOf (List ℕ) TypeTerm AttrTerm)) → s.path ≡ path → place_in s.path ≡ Some l → eqb x p ≡ false
+        at_path : (s : OpWithPath) → In s (stands [] t) → op_with_path_id s ≡ x → (path : List (StepOf (List ℕ) TypeTerm AttrTerm)) → s.path ≡ path → place_in s.path ≡ Some l → eqb x p ≡ false
         at_path s h j [] f k = (let no : None ≡ Some l = sym (ap place_in f) ∙ k in absurd cc)
         at_path s h j (a ∷ q) f k = elim (bool_cases (eqb x p)) [
           | inr n ↦ n
@@ -158,20 +158,20 @@ parent_apart t d x p e = go (place_of x t) refl
               let two : Some (head a.parent).id ≡ Some p = sym (ap (λ y. parent_of y t) (sym j) ∙ placed.0) ∙ e in
               let one : (head a.parent).id ≡ p = cc in
               let same = same_stand t d s (stand a.parent q) h placed.1 (j ∙ eqb-true x p n ∙ sym one) in
-              let long : suc (length q) ≡ length q = ap length (sym f ∙ ap (λ (z : Stand). z.path) same) in
+              let long : suc (length q) ≡ length q = ap length (sym f ∙ ap (λ (z : OpWithPath). z.path) same) in
               absurd (omega (arith, long)))
         ]
 
 -- a removed operation has no role
 taken_none : (x : ℕ) (t w : Operation) → w ≡ without x t → eqb (head t).id x ≡ false → role_of w x ≡ None
-taken_none x t w is inner = go (stand_of x w) refl
+taken_none x t w is inner = go (op_with_path x w) refl
   where
-    go : (o : Option Stand) → stand_of x w ≡ o → role_of w x ≡ None
+    go : (o : Option OpWithPath) → op_with_path x w ≡ o → role_of w x ≡ None
     go None e = ap (option_map (role w)) e
     go (Some r) e =
         let m = member x (stands [] w) r e in
         let b = member_left x t r (subst (λ z. In r (stands [] z)) is m.0) in
-        absurd (left_apart x t b.0 b.1 b.2 inner (sym (left_id x b.0) ∙ ap (λ (s : Stand). stand_id s) (sym b.3) ∙ m.1))
+        absurd (left_apart x t b.0 b.1 b.2 inner (sym (left_id x b.0) ∙ ap (λ (s : OpWithPath). op_with_path_id s) (sym b.3) ∙ m.1))
 
 -- ---- events
 module _ (c : ContextModel) (e : Event) (m n : Module) (s : Step c e m n) (f g : Table) (h : Keeps c m.tree f) where
@@ -226,16 +226,16 @@ found_there x t e = go (find x t) refl
     go (Some o) i = (o, i)
     go None i =
         let s = present_stand [] t x e in
-        let there : (r : Stand) × (stand_of x t ≡ Some r) = first_stand (stands [] t) s.0 s.1 s.2 in
-        let no : Some there.0.here ≡ None = sym (ap (option_map (λ (z : Stand). z.here)) there.1) ∙ stands_find x [] t ∙ i in
+        let there : (r : OpWithPath) × (op_with_path x t ≡ Some r) = first_stand (stands [] t) s.0 s.1 s.2 in
+        let no : Some there.0.here ≡ None = sym (ap (option_map (λ (z : OpWithPath). z.here)) there.1) ∙ stands_find x [] t ∙ i in
         absurd cc
       where
-        first_stand : (ss : List Stand) (s : Stand) → In s ss → stand_id s ≡ x → (r : Stand) × (stand_in x ss ≡ Some r)
+        first_stand : (ss : List OpWithPath) (s : OpWithPath) → In s ss → op_with_path_id s ≡ x → (r : OpWithPath) × (find_op_with_path x ss ≡ Some r)
         first_stand [] s h j = absurd h
-        first_stand (u ∷ us) s h j = elim (bool_cases (eqb (stand_id u) x)) [
-          | inl k ↦ (u, ap (λ b. cond b (Some u) (stand_in x us)) k)
+        first_stand (u ∷ us) s h j = elim (bool_cases (eqb (op_with_path_id u) x)) [
+          | inl k ↦ (u, ap (λ b. cond b (Some u) (find_op_with_path x us)) k)
           | inr k ↦ elim h [
-            | inl l ↦ absurd (true≢false (sym (eq-eqb (stand_id u) x (ap (λ (z : Stand). stand_id z) (sym l) ∙ j)) ∙ k))
-            | inr l ↦ (let w = first_stand us s l j in (w.0, ap (λ b. cond b (Some u) (stand_in x us)) k ∙ w.1))
+            | inl l ↦ absurd (true≢false (sym (eq-eqb (op_with_path_id u) x (ap (λ (z : OpWithPath). op_with_path_id z) (sym l) ∙ j)) ∙ k))
+            | inr l ↦ (let w = first_stand us s l j in (w.0, ap (λ b. cond b (Some u) (find_op_with_path x us)) k ∙ w.1))
           ]
         ]

@@ -16,7 +16,7 @@ use Rattle.listeners_support.specs.Nodes.{Node, node_of}
 use Rattle.listeners_support.specs.Stored.{known}
 use Rattle.ir_event.specs.tree_laws.Reads.{parent_of}
 use Rattle.ir_event.specs.tree_laws.Values.{type_of_value}
-use Rattle.ir_event.specs.tree_laws.Stands.{StepOf, stand_id, stands, stand_of, table_in, place_in}
+use Rattle.ir_event.specs.tree_laws.Stands.{StepOf, op_with_path_id, stands, op_with_path, table_in, place_in}
 use Rattle.ir_event.specs.tree_laws.Members.{In}
 use Rattle.ir_event.proofs.of_tree_laws.Members.{stand, stand_of_member, same_stand, stand_found}
 use Rattle.ir_event.proofs.of_tree_laws.Around.{around_there, member_of_place, place_of_member, present_stand}
@@ -25,7 +25,7 @@ use Rattle.ir_event.specs.Modules.{module_in}
 use Rattle.listeners_support.proofs.Reading.{head_shown}
 use Rattle.listeners_symbols.specs.declared.role.Role.{Role as Numbers}
 use Rattle.listeners_symbols.specs.declared.role.Tables.{Tables}
-use Rattle.listeners_symbols.specs.Roles.{Head, Stand, Role, parent_in, home_of, table_at, role_from, role, role_of}
+use Rattle.listeners_symbols.specs.Roles.{Head, OpWithPath, Role, parent_in, home_of, table_at, role_from, role, role_of}
 use Rattle.listeners_symbols.specs.Table.{Table, Says, IsRight, IsReadAs, head_meaning, role_meaning, tables_in, tables_for, tree_in}
 
 pub meaning_distinct : (c : ContextModel) (t : Op) → HasDistinctIds t → HasDistinctIds (meaning c t)
@@ -50,18 +50,18 @@ shown_head w x n o shown is = go (find x w.store.module_of.tree) refl (sym (map_
         ap head (sym one) ∙ head_meant w.ctx p ∙ ap (head_meaning w.ctx) (sym (head_shown p) ∙ ap (λ (z : Node). z.head) three)
 
 -- ---- tables
-no_place : (t : Operation) → HasDistinctIds t → (s : Stand) → In s (stands [] t) → s.path ≡ [] → place_of (stand_id s) t ≡ None
-no_place t d s h e = go (place_of (stand_id s) t) refl
+no_place : (t : Operation) → HasDistinctIds t → (s : OpWithPath) → In s (stands [] t) → s.path ≡ [] → place_of (op_with_path_id s) t ≡ None
+no_place t d s h e = go (place_of (op_with_path_id s) t) refl
   where
-    go : (o : Option Place) → place_of (stand_id s) t ≡ o → place_of (stand_id s) t ≡ None
+    go : (o : Option Place) → place_of (op_with_path_id s) t ≡ o → place_of (op_with_path_id s) t ≡ None
     go None f = f
     go (Some l) f =
-        let u = member_of_place (stand_id s) l t f in
+        let u = member_of_place (op_with_path_id s) l t f in
         let same = same_stand t d u.0 s u.1 h u.2 in
-        let no : None ≡ Some l = sym (ap place_in (ap (λ (z : Stand). z.path) same ∙ e)) ∙ u.3 in
+        let no : None ≡ Some l = sym (ap place_in (ap (λ (z : OpWithPath). z.path) same ∙ e)) ∙ u.3 in
         absurd cc
 
-pub parent_placed : (t : Operation) → HasDistinctIds t → (s : Stand) → In s (stands [] t) → (a : StepOf (List ℕ) TypeTerm AttrTerm) (q : List (StepOf (List ℕ) TypeTerm AttrTerm)) → s.path ≡ a ∷ q → (parent_of (stand_id s) t ≡ Some (head a.parent).id) × In (stand a.parent q) (stands [] t)
+pub parent_placed : (t : Operation) → HasDistinctIds t → (s : OpWithPath) → In s (stands [] t) → (a : StepOf (List ℕ) TypeTerm AttrTerm) (q : List (StepOf (List ℕ) TypeTerm AttrTerm)) → s.path ≡ a ∷ q → (parent_of (op_with_path_id s) t ≡ Some (head a.parent).id) × In (stand a.parent q) (stands [] t)
 parent_placed t d s h a q e =
     let there : In (stand s.here (a ∷ q)) (stands [] t) = subst (λ z. In (stand s.here z) (stands [] t)) e h in
     (ap (option_map (λ (p : Place). p.parent)) (place_of_member t d s.here a q there), (around_there t s.here a q there).1)
@@ -71,7 +71,7 @@ table_above : (h : Head) (q : List (StepOf (List ℕ) TypeTerm AttrTerm)) → co
 table_above h [] = elim (is_table h.name) as (λ b. cond b (Some h.id) None ≡ cond b (Some h.id) (cond b (Some h.id) None)) [ true ↦ refl | false ↦ refl ]
 table_above h (a ∷ q) = refl
 
-tables_right : (c : ContextModel) (t : Operation) → HasDistinctIds t → (s : Stand) → In s (stands [] t) → (x : ℕ) → stand_id s ≡ x → (table : Table) (tables : Tables)
+tables_right : (c : ContextModel) (t : Operation) → HasDistinctIds t → (s : OpWithPath) → In s (stands [] t) → (x : ℕ) → op_with_path_id s ≡ x → (table : Table) (tables : Tables)
     → ((p : ℕ) → parent_of x t ≡ Some p → Says c (role_of t p) (table p)) → tables_for table x (is_table (head s.here).name) (parent_of x t) ≡ Some tables
     → (parent_in s.path ≡ tables.parent) × (home_of s.path ≡ tables.home) × (table_at (head s.here) s.path ≡ tables.table)
 tables_right c t d s h x id table tables right is = at_path s.path refl
@@ -116,7 +116,7 @@ read_right w x n table tables r shown is read has right =
     let d = meaning_distinct c (tree_in w) w.wellformed.distinct in
     let z = present_stand [] t x has in
     let s = z.0 in
-    let there : stand_of x t ≡ Some s = ap (λ y. stand_of y t) (sym z.2) ∙ stand_of_member t d s z.1 in
+    let there : op_with_path x t ≡ Some s = ap (λ y. op_with_path y t) (sym z.2) ∙ stand_of_member t d s z.1 in
     let found : find x t ≡ Some s.here = ap (λ y. find y t) (sym z.2) ∙ stand_found t d s z.1 in
     let heads : head s.here ≡ head_meaning c n.head = shown_head w x n s.here shown found in
     let tabled : tables_for table x (is_table (head s.here).name) (parent_of x t) ≡ Some tables = (λ i. tables_for table x (is_table (heads i).name) (meaning_parent c x (tree_in w) i)) ∙ is in

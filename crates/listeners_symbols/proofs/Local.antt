@@ -18,7 +18,7 @@ use Rattle.listeners_support.specs.Nodes.{node_of, regions_arguments}
 use Rattle.ir_event.specs.tree_laws.Changes.{HoldNone}
 use Rattle.ir_event.specs.tree_laws.Values.{type_of_value}
 use Rattle.ir_event.specs.tree_laws.Tables.{table_of}
-use Rattle.ir_event.specs.tree_laws.Stands.{StepOf, stand_id, stands, regions_stands, region_stands, ops_stands, stand_in, stand_of, table_in, is_gone, left_step, left_stand, edit_step, edit_stand}
+use Rattle.ir_event.specs.tree_laws.Stands.{StepOf, op_with_path_id, stands, regions_stands, region_stands, ops_stands, find_op_with_path, op_with_path, table_in, is_gone, left_step, left_stand, edit_step, edit_stand}
 use Rattle.ir_event.specs.tree_laws.Members.{In}
 use Rattle.ir_event.proofs.of_tree_laws.Listed.{bool_cases, in_left, in_right, in_parts}
 use Rattle.ir_event.proofs.of_tree_laws.Readings.{step, stands_find, stands_table}
@@ -37,7 +37,7 @@ use Rattle.listeners_support.proofs.Left.{left_head, left_node}
 use Rattle.listeners_support.proofs.Alike.{Both, neither, each, both, same_value_type}
 use Rattle.listeners_support.proofs.Moves.{left_id, taken}
 use Rattle.listeners_support.proofs.Heads.{Keeps}
-use Rattle.listeners_symbols.specs.Roles.{Head, Stand, parent_in, home_of, table_at, symbol_of, name_of, is_private, references_of, signature_of, callee_of, call_of, role_from, role, role_of}
+use Rattle.listeners_symbols.specs.Roles.{Head, OpWithPath, parent_in, home_of, table_at, symbol_of, name_of, is_private, references_of, signature_of, callee_of, call_of, role_from, role, role_of}
 use Rattle.ir_event.proofs.of_types.Truths.{unlike}
 
 abbrev Step_in : Type 0
@@ -47,19 +47,19 @@ abbrev Path : Type 0
 Path = List Step_in
 
 -- two operations with the same roles, if their operands have the same types
-pub record AlikeRoles (s r : Stand) : Type 0 where
+pub record AlikeRoles (s r : OpWithPath) : Type 0 where
   pub heads : head s.here ≡ head r.here
   pub parent : parent_in s.path ≡ parent_in r.path
   pub home : home_of s.path ≡ home_of r.path
   pub table : table_at (head s.here) s.path ≡ table_at (head r.here) r.path
 
-flip : (s r : Stand) → AlikeRoles s r → AlikeRoles r s
+flip : (s r : OpWithPath) → AlikeRoles s r → AlikeRoles r s
 flip s r a = record { heads = sym a.heads; parent = sym a.parent; home = sym a.home; table = sym a.table }
 
-chain : (s r u : Stand) → AlikeRoles s r → AlikeRoles r u → AlikeRoles s u
+chain : (s r u : OpWithPath) → AlikeRoles s r → AlikeRoles r u → AlikeRoles s u
 chain s r u a b = record { heads = a.heads ∙ b.heads; parent = a.parent ∙ b.parent; home = a.home ∙ b.home; table = a.table ∙ b.table }
 
-same_roles : (y : ℕ) (t u : Operation) → Both AlikeRoles y t u → ((s : Stand) → In s (stands [] t) → stand_id s ≡ y → (v : Value) → In v (head s.here).operands → type_of_value v t ≡ type_of_value v u) → role_of t y ≡ role_of u y
+same_roles : (y : ℕ) (t u : Operation) → Both AlikeRoles y t u → ((s : OpWithPath) → In s (stands [] t) → op_with_path_id s ≡ y → (v : Value) → In v (head s.here).operands → type_of_value v t ≡ type_of_value v u) → role_of t y ≡ role_of u y
 same_roles y t u (neither i j) f = ap (option_map (role t)) i ∙ sym (ap (option_map (role u)) j)
 same_roles y t u (each s r m i j a) f =
     let id = (member y (stands [] t) s i).1 in
@@ -86,12 +86,12 @@ module _ (x : ℕ) where
   table_left h [] = refl
   table_left h (a ∷ q) = table_in_left (a ∷ q)
 
-  left_alike : (s : Stand) → AlikeRoles (left_stand x s) s
+  left_alike : (s : OpWithPath) → AlikeRoles (left_stand x s) s
   left_alike s = record { heads = left_head x s.here; parent = parent_left s.path; home = home_left s.path; table = ap (λ h. table_at h (map (left_step x) s.path)) (left_head x s.here) ∙ table_left (head s.here) s.path }
 
   module _ (t w : Operation) (d : HasDistinctIds t) (e : HasDistinctIds w) (is : w ≡ without x t) (bare : (o : Operation) → find x t ≡ Some o → HoldNone (regions o)) where
-    untaken : (z : ℕ) (r : Stand) → In r (stands [] w) → stand_id r ≡ z → (s : Stand) × In s (stands [] t) × (stand_id s ≡ z)
-    untaken z r h i = let b = member_left x t r (subst (λ u. In r (stands [] u)) is h) in (b.0, b.1, sym (left_id x b.0) ∙ ap (λ (s : Stand). stand_id s) (sym b.3) ∙ i)
+    untaken : (z : ℕ) (r : OpWithPath) → In r (stands [] w) → op_with_path_id r ≡ z → (s : OpWithPath) × In s (stands [] t) × (op_with_path_id s ≡ z)
+    untaken z r h i = let b = member_left x t r (subst (λ u. In r (stands [] u)) is h) in (b.0, b.1, sym (left_id x b.0) ∙ ap (λ (s : OpWithPath). op_with_path_id s) (sym b.3) ∙ i)
 
     nodes_taken : (z : ℕ) → (z ≡ x → ⊥) → Both (λ s r. node_of s.here ≡ node_of r.here) z t w
     nodes_taken z apart = both (λ s r. node_of s.here ≡ node_of r.here) z t w d e (λ s h i. (left_stand x s, taken x t w d e is bare s h (λ k. apart (sym i ∙ k)), left_id x s ∙ i, sym (left_node x s.here))) (untaken z)
@@ -121,16 +121,16 @@ module _ (g : Head → Head) (keeps : (h : Head) → Keeps (g h) h) where
   each_types : (o : Operation) → types_of (each_head g o) ≡ types_of o
   each_types (op h rs) = λ i. ((keeps h).results i, each_arguments rs i)
 
-  stand_each : (x : ℕ) (ss : List Stand) → stand_in x (map (edit_stand g) ss) ≡ option_map (edit_stand g) (stand_in x ss)
+  stand_each : (x : ℕ) (ss : List OpWithPath) → find_op_with_path x (map (edit_stand g) ss) ≡ option_map (edit_stand g) (find_op_with_path x ss)
   stand_each x [] = refl
   stand_each x (s ∷ ss) =
       (λ i. cond (eqb (each_id s.here i) x) (Some (edit_stand g s)) (stand_each x ss i))
-      ∙ elim (eqb (stand_id s) x) as (λ b. cond b (Some (edit_stand g s)) (option_map (edit_stand g) (stand_in x ss)) ≡ option_map (edit_stand g) (cond b (Some s) (stand_in x ss))) [ true ↦ refl | false ↦ refl ]
+      ∙ elim (eqb (op_with_path_id s) x) as (λ b. cond b (Some (edit_stand g s)) (option_map (edit_stand g) (find_op_with_path x ss)) ≡ option_map (edit_stand g) (cond b (Some s) (find_op_with_path x ss))) [ true ↦ refl | false ↦ refl ]
 
-  stand_of_each : (x : ℕ) (t : Operation) → stand_of x (each_head g t) ≡ option_map (edit_stand g) (stand_of x t)
-  stand_of_each x t = ap (stand_in x) (each_stands g [] t) ∙ stand_each x (stands [] t)
+  stand_of_each : (x : ℕ) (t : Operation) → op_with_path x (each_head g t) ≡ option_map (edit_stand g) (op_with_path x t)
+  stand_of_each x t = ap (find_op_with_path x) (each_stands g [] t) ∙ stand_each x (stands [] t)
 
-  here_each : (o : Option Stand) → option_map types_of (option_map (λ (s : Stand). s.here) (option_map (edit_stand g) o)) ≡ option_map types_of (option_map (λ (s : Stand). s.here) o)
+  here_each : (o : Option OpWithPath) → option_map types_of (option_map (λ (s : OpWithPath). s.here) (option_map (edit_stand g) o)) ≡ option_map types_of (option_map (λ (s : OpWithPath). s.here) o)
   here_each None = refl
   here_each (Some s) = ap Some (each_types s.here)
 
@@ -139,8 +139,8 @@ module _ (g : Head → Head) (keeps : (h : Head) → Keeps (g h) h) where
       let x = (owner_of v).0 in
       typed_value v (each_head g t)
       ∙ ap (λ o. option_and_then (typed v) (option_map types_of o)) (sym (stands_find x [] (each_head g t)))
-      ∙ ap (λ o. option_and_then (typed v) (option_map types_of (option_map (λ (s : Stand). s.here) o))) (stand_of_each x t)
-      ∙ ap (option_and_then (typed v)) (here_each (stand_of x t))
+      ∙ ap (λ o. option_and_then (typed v) (option_map types_of (option_map (λ (s : OpWithPath). s.here) o))) (stand_of_each x t)
+      ∙ ap (option_and_then (typed v)) (here_each (op_with_path x t))
       ∙ ap (λ o. option_and_then (typed v) (option_map types_of o)) (stands_find x [] t)
       ∙ sym (typed_value v t)
 
@@ -161,12 +161,12 @@ module _ (g : Head → Head) (keeps : (h : Head) → Keeps (g h) h) where
   table_each h (a ∷ q) = table_in_each (a ∷ q)
 
   each_far : (m n : Operation) → n ≡ each_head g m → (y : ℕ) → ((h : Head) → h.id ≡ y → g h ≡ h) → role_of n y ≡ role_of m y
-  each_far m n is y other = go (stand_of y m) refl
+  each_far m n is y other = go (op_with_path y m) refl
     where
-      there : stand_of y n ≡ option_map (edit_stand g) (stand_of y m)
-      there = ap (stand_of y) is ∙ stand_of_each y m
+      there : op_with_path y n ≡ option_map (edit_stand g) (op_with_path y m)
+      there = ap (op_with_path y) is ∙ stand_of_each y m
 
-      go : (o : Option Stand) → stand_of y m ≡ o → role_of n y ≡ role_of m y
+      go : (o : Option OpWithPath) → op_with_path y m ≡ o → role_of n y ≡ role_of m y
       go None e = ap (option_map (role n)) (there ∙ ap (option_map (edit_stand g)) e) ∙ sym (ap (option_map (role m)) e)
       go (Some s) e =
           let id = (member y (stands [] m) s e).1 in
@@ -179,10 +179,10 @@ module _ (g : Head → Head) (keeps : (h : Head) → Keeps (g h) h) where
           ap (option_map (role n)) (there ∙ ap (option_map (edit_stand g)) e) ∙ ap Some same ∙ sym (ap (option_map (role m)) e)
 
 -- ---- an operation moved with its subtree
-abbrev Again : Stand → List Stand → Type 0
-Again s us = (u : Stand) × In u us × (u.here ≡ s.here) × (parent_in u.path ≡ parent_in s.path) × (home_of u.path ≡ home_of s.path) × (table_at (head s.here) u.path ≡ table_at (head s.here) s.path)
+abbrev Again : OpWithPath → List OpWithPath → Type 0
+Again s us = (u : OpWithPath) × In u us × (u.here ≡ s.here) × (parent_in u.path ≡ parent_in s.path) × (home_of u.path ≡ home_of s.path) × (table_at (head s.here) u.path ≡ table_at (head s.here) s.path)
 
-more : (s : Stand) (us vs : List Stand) → ((z : Stand) → In z us → In z vs) → Again s us → Again s vs
+more : (s : OpWithPath) (us vs : List OpWithPath) → ((z : OpWithPath) → In z us → In z vs) → Again s us → Again s vs
 more s us vs f w = (w.0, f w.0 w.1, w.2, w.3, w.4, w.5)
 
 under : (a : Step_in) (b c : Path) → table_in is_table b ≡ table_in is_table c → table_in is_table (a ∷ b) ≡ table_in is_table (a ∷ c)
@@ -191,11 +191,11 @@ under a b c e = ap (cond (is_table (head a.parent).name) (Some (head a.parent).i
 -- an operation inside another one keeps its path there, and its symbol tables, if the outer operation has the same
 -- symbol table
 mutual
-  again : (b c : Path) → table_in is_table b ≡ table_in is_table c → (t : Operation) (s : Stand) → In s (stands b t) → (s ≡ stand t b) ⊎ Again s (stands c t)
+  again : (b c : Path) → table_in is_table b ≡ table_in is_table c → (t : Operation) (s : OpWithPath) → In s (stands b t) → (s ≡ stand t b) ⊎ Again s (stands c t)
   again b c j (op h rs) s (inl e) = inl e
   again b c j (op h rs) s (inr k) = inr (more s (regions_stands (op h rs) c 0 rs) (stands c (op h rs)) (λ z m. inr m) (regions_again (op h rs) b c j 0 rs s k))
 
-  regions_again : (p : Operation) (b c : Path) → table_in is_table b ≡ table_in is_table c → (r : ℕ) (rs : RegionsOf (List ℕ) TypeTerm AttrTerm) (s : Stand) → In s (regions_stands p b r rs) → Again s (regions_stands p c r rs)
+  regions_again : (p : Operation) (b c : Path) → table_in is_table b ≡ table_in is_table c → (r : ℕ) (rs : RegionsOf (List ℕ) TypeTerm AttrTerm) (s : OpWithPath) → In s (regions_stands p b r rs) → Again s (regions_stands p c r rs)
   regions_again p b c j r no_regions s k = absurd k
   regions_again p b c j r (region g rs) s k =
       let xs = region_stands p c r g in
@@ -205,11 +205,11 @@ mutual
         | inr l ↦ more s ys (xs ++ ys) (λ z m. in_right z xs ys m) (regions_again p b c j (r + 1) rs s l)
       ]
 
-  region_again : (p : Operation) (b c : Path) → table_in is_table b ≡ table_in is_table c → (r : ℕ) (g : RegionOf (List ℕ) TypeTerm AttrTerm) (s : Stand) → In s (region_stands p b r g) → Again s (region_stands p c r g)
+  region_again : (p : Operation) (b c : Path) → table_in is_table b ≡ table_in is_table c → (r : ℕ) (g : RegionOf (List ℕ) TypeTerm AttrTerm) (s : OpWithPath) → In s (region_stands p b r g) → Again s (region_stands p c r g)
   region_again p b c j r empty s k = absurd k
   region_again p b c j r (block args os) s k = ops_again p b c j r args [] os s k
 
-  ops_again : (p : Operation) (b c : Path) → table_in is_table b ≡ table_in is_table c → (r : ℕ) (args : List TypeTerm) (preceding : List Operation) (os : OpsOf (List ℕ) TypeTerm AttrTerm) (s : Stand)
+  ops_again : (p : Operation) (b c : Path) → table_in is_table b ≡ table_in is_table c → (r : ℕ) (args : List TypeTerm) (preceding : List Operation) (os : OpsOf (List ℕ) TypeTerm AttrTerm) (s : OpWithPath)
       → In s (ops_stands p b r args preceding os) → Again s (ops_stands p c r args preceding os)
   ops_again p b c j r args preceding no_ops s k = absurd k
   ops_again p b c j r args preceding (next o os) s k =
@@ -221,10 +221,10 @@ mutual
           | inl e ↦ (
             stand o (a ∷ c),
             in_left (stand o (a ∷ c)) xs ys (itself (a ∷ c) o),
-            ap (λ (z : Stand). z.here) (sym e),
-            ap (λ (z : Stand). parent_in z.path) (sym e),
-            ap (λ (z : Stand). home_of z.path) (sym e),
-            sym (under a b c j) ∙ ap (λ (z : Stand). table_at (head s.here) z.path) (sym e),
+            ap (λ (z : OpWithPath). z.here) (sym e),
+            ap (λ (z : OpWithPath). parent_in z.path) (sym e),
+            ap (λ (z : OpWithPath). home_of z.path) (sym e),
+            sym (under a b c j) ∙ ap (λ (z : OpWithPath). table_at (head s.here) z.path) (sym e),
           )
           | inr w ↦ more s xs (xs ++ ys) (λ z m. in_left z xs ys m) w
         ]
@@ -232,39 +232,39 @@ mutual
       ]
 
 -- a moved operation
-record Moved (s r : Stand) : Type 0 where
-  id : stand_id r ≡ stand_id s
+record Moved (s r : OpWithPath) : Type 0 where
+  id : op_with_path_id r ≡ op_with_path_id s
   alike : AlikeRoles s r
   node : node_of s.here ≡ node_of r.here
 
 module _ (x : ℕ) (t u : Operation) (d : HasDistinctIds t) (e : HasDistinctIds u) (is : without x t ≡ without x u) (same : find x t ≡ find x u) (tables : table_of is_table x t ≡ table_of is_table x u) where
-  moved : (s : Stand) → In s (stands [] t) → (stand_id s ≡ x → ⊥) → (r : Stand) × In r (stands [] u) × Moved s r
+  moved : (s : OpWithPath) → In s (stands [] t) → (op_with_path_id s ≡ x → ⊥) → (r : OpWithPath) × In r (stands [] u) × Moved s r
   moved s h apart = elim (bool_cases (is_gone x s)) [
     | inr k ↦ (let b = member_left x u (left_stand x s) (subst (λ z. In (left_stand x s) (stands [] z)) is (left_member x t s h k)) in
         let two : AlikeRoles (left_stand x s) b.0 = subst (λ z. AlikeRoles z b.0) (sym b.3) (left_alike x b.0) in (
           b.0,
           b.1,
           record {
-            id = sym (left_id x b.0) ∙ ap (λ (z : Stand). stand_id z) (sym b.3) ∙ left_id x s;
+            id = sym (left_id x b.0) ∙ ap (λ (z : OpWithPath). op_with_path_id z) (sym b.3) ∙ left_id x s;
             alike = chain s (left_stand x s) b.0 (flip (left_stand x s) s (left_alike x s)) two;
-            node = sym (left_node x s.here) ∙ ap (λ (z : Stand). node_of z.here) b.3 ∙ left_node x b.0.here;
+            node = sym (left_node x s.here) ∙ ap (λ (z : OpWithPath). node_of z.here) b.3 ∙ left_node x b.0.here;
           },
         ))
     | inl k ↦ inside (gone_within x t s.path s.here h k)
   ]
     where
-      inside : Within x t s → (r : Stand) × In r (stands [] u) × Moved s r
+      inside : Within x t s → (r : OpWithPath) × In r (stands [] u) × Moved s r
       inside i =
           let found : find x t ≡ Some i.here = ap (λ y. find y t) (sym i.id) ∙ stand_found t d (stand i.here (i.step_in ∷ i.path)) i.there in
           let top = found_stands x u i.here (sym same ∙ found) in
           let there : In (stand i.here top.0.path) (stands [] u) = subst (λ q. In (stand q top.0.path) (stands [] u)) top.3 top.1 in
-          let old : stand_of x t ≡ Some (stand i.here (i.step_in ∷ i.path)) = ap (λ y. stand_of y t) (sym i.id) ∙ stand_of_member t d (stand i.here (i.step_in ∷ i.path)) i.there in
-          let new : stand_of x u ≡ Some (stand i.here top.0.path) = ap (λ y. stand_of y u) (sym i.id) ∙ stand_of_member u e (stand i.here top.0.path) there in
+          let old : op_with_path x t ≡ Some (stand i.here (i.step_in ∷ i.path)) = ap (λ y. op_with_path y t) (sym i.id) ∙ stand_of_member t d (stand i.here (i.step_in ∷ i.path)) i.there in
+          let new : op_with_path x u ≡ Some (stand i.here top.0.path) = ap (λ y. op_with_path y u) (sym i.id) ∙ stand_of_member u e (stand i.here top.0.path) there in
           let both_tables : Some (table_in is_table (i.step_in ∷ i.path)) ≡ Some (table_in is_table top.0.path) =
-          sym (ap (option_map (λ (z : Stand). table_in is_table z.path)) old) ∙ stands_table is_table x [] t ∙ tables ∙ sym (stands_table is_table x [] u) ∙ ap (option_map (λ (z : Stand). table_in is_table z.path)) new in
+          sym (ap (option_map (λ (z : OpWithPath). table_in is_table z.path)) old) ∙ stands_table is_table x [] t ∙ tables ∙ sym (stands_table is_table x [] u) ∙ ap (option_map (λ (z : OpWithPath). table_in is_table z.path)) new in
           let one : table_in is_table (i.step_in ∷ i.path) ≡ table_in is_table top.0.path = cc in
           elim (again (i.step_in ∷ i.path) top.0.path one i.here s i.inner) [
-            | inl k ↦ absurd (apart (ap (λ (z : Stand). stand_id z) k ∙ i.id))
+            | inl k ↦ absurd (apart (ap (λ (z : OpWithPath). op_with_path_id z) k ∙ i.id))
             | inr r ↦ (
               r.0,
               within i.here top.0.path r.0 r.1 [] u there,
@@ -277,10 +277,10 @@ module _ (x : ℕ) (t u : Operation) (d : HasDistinctIds t) (e : HasDistinctIds 
           ]
 
 module _ (x : ℕ) (m n : Operation) (d : HasDistinctIds m) (e : HasDistinctIds n) (is : without x n ≡ without x m) (same : find x n ≡ find x m) (tables : table_of is_table x n ≡ table_of is_table x m) where
-  to : (y : ℕ) → (y ≡ x → ⊥) → (s : Stand) → In s (stands [] m) → stand_id s ≡ y → (r : Stand) × In r (stands [] n) × Moved s r
+  to : (y : ℕ) → (y ≡ x → ⊥) → (s : OpWithPath) → In s (stands [] m) → op_with_path_id s ≡ y → (r : OpWithPath) × In r (stands [] n) × Moved s r
   to y apart s h i = moved x m n d e (sym is) (sym same) (sym tables) s h (λ k. apart (sym i ∙ k))
 
-  back : (y : ℕ) → (y ≡ x → ⊥) → (s : Stand) → In s (stands [] n) → stand_id s ≡ y → (r : Stand) × In r (stands [] m) × (stand_id r ≡ y)
+  back : (y : ℕ) → (y ≡ x → ⊥) → (s : OpWithPath) → In s (stands [] n) → op_with_path_id s ≡ y → (r : OpWithPath) × In r (stands [] m) × (op_with_path_id r ≡ y)
   back y apart s h i = let r = moved x n m e d is same tables s h (λ k. apart (sym i ∙ k)) in (r.0, r.1, r.2.id ∙ i)
 
   found_moved : (v : Value) → type_of_value v m ≡ type_of_value v n
@@ -292,14 +292,14 @@ module _ (x : ℕ) (m n : Operation) (d : HasDistinctIds m) (e : HasDistinctIds 
       nodes : (z : ℕ) → (z ≡ x → ⊥) → Both (λ s r. node_of s.here ≡ node_of r.here) z m n
       nodes z apart = both (λ s r. node_of s.here ≡ node_of r.here) z m n d e (λ s h i. let r = to z apart s h i in (r.0, r.1, r.2.id ∙ i, r.2.node)) (back z apart)
 
-      one : (a b : Option Stand) → option_map (λ (z : Stand). z.here) a ≡ option_map (λ (z : Stand). z.here) b → stand_of x m ≡ a → stand_of x n ≡ b → Both (λ s r. node_of s.here ≡ node_of r.here) x m n
+      one : (a b : Option OpWithPath) → option_map (λ (z : OpWithPath). z.here) a ≡ option_map (λ (z : OpWithPath). z.here) b → op_with_path x m ≡ a → op_with_path x n ≡ b → Both (λ s r. node_of s.here ≡ node_of r.here) x m n
       one None None k i j = neither i j
       one None (Some r) k i j = absurd cc
       one (Some s) None k i j = absurd cc
       one (Some s) (Some r) k i j = let both_here : s.here ≡ r.here = cc in each s r (member x (stands [] m) s i).0 i j (ap (λ o. node_of o) both_here)
 
       owned : (owner_of v).0 ≡ x → Both (λ s r. node_of s.here ≡ node_of r.here) (owner_of v).0 m n
-      owned k = subst (λ z. Both (λ s r. node_of s.here ≡ node_of r.here) z m n) (sym k) (one (stand_of x m) (stand_of x n) (stands_find x [] m ∙ sym same ∙ sym (stands_find x [] n)) refl refl)
+      owned k = subst (λ z. Both (λ s r. node_of s.here ≡ node_of r.here) z m n) (sym k) (one (op_with_path x m) (op_with_path x n) (stands_find x [] m ∙ sym same ∙ sym (stands_find x [] n)) refl refl)
 
   moved_far : (y : ℕ) → (y ≡ x → ⊥) → role_of n y ≡ role_of m y
   moved_far y apart = sym (same_roles y m n (both AlikeRoles y m n d e (λ s h i. let r = to y apart s h i in (r.0, r.1, r.2.id ∙ i, r.2.alike)) (back y apart)) (λ s h i v k. found_moved v))
@@ -328,12 +328,12 @@ module _ (x k : ℕ) (new : Value) (m n : Operation) (is : n ≡ each_head (at x
   kept = keeps_at x (put_operand k new) (λ h. record { id = refl; name = refl; results = refl })
 
   pub own_role : role_of n x ≡ role_of m x
-  own_role = go (stand_of x m) refl
+  own_role = go (op_with_path x m) refl
     where
-      there : stand_of x n ≡ option_map (edit_stand set) (stand_of x m)
-      there = ap (stand_of x) is ∙ stand_of_each set kept x m
+      there : op_with_path x n ≡ option_map (edit_stand set) (op_with_path x m)
+      there = ap (op_with_path x) is ∙ stand_of_each set kept x m
 
-      go : (o : Option Stand) → stand_of x m ≡ o → role_of n x ≡ role_of m x
+      go : (o : Option OpWithPath) → op_with_path x m ≡ o → role_of n x ≡ role_of m x
       go None e = ap (option_map (role n)) (there ∙ ap (option_map (edit_stand set)) e) ∙ sym (ap (option_map (role m)) e)
       go (Some s) e =
           let id = (member x (stands [] m) s e).1 in
@@ -342,7 +342,7 @@ module _ (x k : ℕ) (new : Value) (m n : Operation) (is : n ≡ each_head (at x
           let around = parent_each set kept s.path in
           let home = home_each set kept s.path in
           let table : table_at (head (each_head set s.here)) (map (edit_step set) s.path) ≡ table_at h s.path = ap (λ (z : Head). table_at z (map (edit_step set) s.path)) heads ∙ table_each set kept (put_operand k new h) s.path ∙ table_operand k new h s.path in
-          let found : find x n ≡ Some (each_head set s.here) = sym (stands_find x [] n) ∙ ap (option_map (λ (z : Stand). z.here)) (there ∙ ap (option_map (edit_stand set)) e) in
+          let found : find x n ≡ Some (each_head set s.here) = sym (stands_find x [] n) ∙ ap (option_map (λ (z : OpWithPath). z.here)) (there ∙ ap (option_map (edit_stand set)) e) in
           let bare : callee_of h ≡ None = sym (ap callee_of heads) ∙ none (each_head set s.here) found in
           let before = map (λ v. type_of_value v m) h.operands in
           let after = map (λ v. type_of_value v n) (put_operand k new h).operands in

@@ -23,7 +23,7 @@ use Rattle.ir_event.specs.types.Terms.{TypeTerm, AttrTerm, name_term, type_term,
 use Rattle.ir_event.proofs.of_types.Growth.{name_is, name_refl}
 use Rattle.ir_event.proofs.of_types.Terms.{name_stays, attr_stays, name_term_one, type_term_one}
 use Rattle.ir_event.specs.trees.Meaning.{Operation}
-use Rattle.ir_event.specs.tree_laws.Stands.{stand_id, stands, stand_in}
+use Rattle.ir_event.specs.tree_laws.Stands.{op_with_path_id, stands, find_op_with_path}
 use Rattle.ir_event.proofs.of_tree_laws.Listed.{bool_cases}
 use Rattle.ir_event.specs.declared.row.Cell.{Cell}
 use Rattle.ir_event.specs.declared.row.Cell.TheVariants as cell
@@ -37,7 +37,7 @@ use Rattle.listeners_symbols.specs.declared.role.Reference.{Reference}
 use Rattle.listeners_symbols.specs.declared.role.Call.{Call}
 use Rattle.listeners_symbols.specs.declared.role.Signature.{Signature}
 use Rattle.ir_event.specs.types.SameTypes.{same_type}
-use Rattle.listeners_symbols.specs.Roles.{Stand, role, role_of}
+use Rattle.listeners_symbols.specs.Roles.{OpWithPath, role, role_of}
 use Rattle.listeners_symbols.specs.Symbols.{RolesOf, roles_in, roles_by_id, DefinitionOf, defined, definitions, says_table, function_at, LineOf, Definition, Duplicate, Use, Unresolved, Unknown, Mismatch, first_defined, is_duplicate, look_in, resolve, fits, definition_lines, duplicate_lines, is_among, name_unless, undefined, undefined_names, possible_names, reference_line, reference_lines, all_reference_lines, mismatch_line, call_line, mismatch_lines, lines_with, symbol_lines, line_cells, symbol_rows}
 use Rattle.listeners_symbols.specs.Table.{reference_of, call_numbers, signature_numbers, role_numbers, map_reference, map_call, map_signature, role_meaning, call_meaning, RoleIsOf, ReferenceIsOf, CallIsOf, SignatureIsOf, Keeps, IsKept}
 use Rattle.listeners_symbols.specs.Listeners.{kept_at}
@@ -370,16 +370,16 @@ module _ (b : ContextModel) where
       ]
 
 module _ (t : Operation) where
-  found_role : (q : ℕ) (ss : List Stand) → find nat_cmp q (roles_in t ss) ≡ option_map (role t) (stand_in q ss)
+  found_role : (q : ℕ) (ss : List OpWithPath) → find nat_cmp q (roles_in t ss) ≡ option_map (role t) (find_op_with_path q ss)
   found_role q [] = refl
   found_role q (s ∷ ss) =
-      find-put nat_cmp nat_cmp_total q (stand_id s) (role t s) (roles_in t ss)
-      ∙ (λ i. cond ((same_test q (stand_id s) ∙ flips_eq q (stand_id s)) i) (Some (role t s)) (found_role q ss i))
-      ∙ elim (eqb (stand_id s) q) as (λ z. cond z (Some (role t s)) (option_map (role t) (stand_in q ss)) ≡ option_map (role t) (cond z (Some s) (stand_in q ss))) [ true ↦ refl | false ↦ refl ]
+      find-put nat_cmp nat_cmp_total q (op_with_path_id s) (role t s) (roles_in t ss)
+      ∙ (λ i. cond ((same_test q (op_with_path_id s) ∙ flips_eq q (op_with_path_id s)) i) (Some (role t s)) (found_role q ss i))
+      ∙ elim (eqb (op_with_path_id s) q) as (λ z. cond z (Some (role t s)) (option_map (role t) (find_op_with_path q ss)) ≡ option_map (role t) (cond z (Some s) (find_op_with_path q ss))) [ true ↦ refl | false ↦ refl ]
 
-  roles_sorted : (ss : List Stand) → T (is_sorted nat_cmp (roles_in t ss))
+  roles_sorted : (ss : List OpWithPath) → T (is_sorted nat_cmp (roles_in t ss))
   roles_sorted [] = tt
-  roles_sorted (s ∷ ss) = is_sorted-put nat_cmp nat_cmp_total (stand_id s) (role t s) (roles_in t ss) (roles_sorted ss)
+  roles_sorted (s ∷ ss) = is_sorted-put nat_cmp nat_cmp_total (op_with_path_id s) (role t s) (roles_in t ss) (roles_sorted ss)
 
   pub entries_meant : (b : ContextModel) (m : Roles) → idmap.IsOrdered m.all → Keeps b t (kept_at m) → meant b m.all.entries ≡ roles_by_id t
   entries_meant b m ordered keeps =

@@ -25,7 +25,7 @@ use Rattle.listeners_symbols.specs.Symbols.{DefinitionOf, RoleAt, all_reference_
 use Rattle.listeners_symbols.specs.Table.{call_numbers, reference_of}
 use Rattle.listeners_symbols.specs.Listeners.{kept_at}
 use Rattle.listeners_symbols.specs.Lines.{call_by, defined_by, numbered, references_by, undefined_by}
-use Rattle.listeners_symbols.specs.Telling.{HasThose, has_some, names, said_at, tells, told, told_at}
+use Rattle.listeners_symbols.specs.Telling.{HasThose, has_some, names, said_at, concerns_symbols, told, contribution_at}
 use Rattle.std.proofs.lemmas.List.{map-append}
 use Rattle.listeners_symbols.proofs.Reported.{Each, look_above}
 
@@ -71,7 +71,7 @@ module _ {X : Type 0} (f : ℕ → Numbers → List X) where
   -- the first entry is skipped if all ids of the list are above it
   skipped : (e : ℕ × Numbers) (es : List (ℕ × Numbers)) (xs : List ℕ) → Above e.0 xs → told f (look (e ∷ es)) xs ≡ told f (look es) xs
   skipped e es [] a = refl
-  skipped e es (x ∷ xs) a = λ i. told_at f x (cond (apart e.0 x a.0 i) (Some e.1) (look es x)) ++ skipped e es xs a.1 i
+  skipped e es (x ∷ xs) a = λ i. contribution_at f x (cond (apart e.0 x a.0 i) (Some e.1) (look es x)) ++ skipped e es xs a.1 i
 
   silent : (es : List (ℕ × Numbers)) → Each (Told []) es → all_told es ≡ []
   silent [] h = refl
@@ -95,12 +95,12 @@ module _ {X : Type 0} (f : ℕ → Numbers → List X) where
   unfolding IsStrictlySortedBy
   by e es rest s x xs t h more Less l =
       let below : Above x (keys_of (e ∷ es)) = (l, extra x e.0 (keys_of es) l s.0) in
-      ap (λ o. told_at f x o ++ told f (look (e ∷ es)) xs) (look_above x (e ∷ es) below) ∙ more t.1 (without x xs (e ∷ es) below h)
+      ap (λ o. contribution_at f x o ++ told f (look (e ∷ es)) xs) (look_above x (e ∷ es) below) ∙ more t.1 (without x xs (e ∷ es) below h)
   by e es rest s x xs t h more Equal l =
       let is = same x e.0 l in
       let above : Above e.0 xs = subst (λ y. Above y xs) is t.0 in
       let left : Each (Told xs) es = without e.0 xs es s.0 (subst (λ y. Each (Told (y ∷ xs)) es) is h.1) in
-      ap (λ o. told_at f x o ++ told f (look (e ∷ es)) xs) (ap (λ r. cond (is_eq r) (Some e.1) (look es x)) l)
+      ap (λ o. contribution_at f x o ++ told f (look (e ∷ es)) xs) (ap (λ r. cond (is_eq r) (Some e.1) (look es x)) l)
       ∙ ap (λ y. f y e.1 ++ told f (look (e ∷ es)) xs) is
       ∙ ap (λ z. f e.0 e.1 ++ z) (skipped e es xs above ∙ rest xs t.1 left)
   by e es rest s x xs t h more Greater l =
@@ -162,7 +162,7 @@ module _ {X : Type 0} (f : ℕ → Numbers → List X) (test : Numbers → Bool)
       (each_told m.entries ordered (λ x is. subst (λ l. list_any (is_at (nat_cmp x)) l ≡ true) same (has x is)))
 
 -- ---- definitions, references and calls
-pub says_none : (r : Numbers) → tells r ≡ false → ((is_some r.home && is_some r.symbol) ≡ false) × ((has_some r.references.items ≡ false) × (is_some r.call ≡ false))
+pub says_none : (r : Numbers) → concerns_symbols r ≡ false → ((is_some r.home && is_some r.symbol) ≡ false) × ((has_some r.references.items ≡ false) × (is_some r.call ≡ false))
 says_none r lacks = go (is_some r.home && is_some r.symbol) (has_some r.references.items) (is_some r.call) lacks
   where
     go : (a b c : Bool) → (a || (b || c)) ≡ false → (a ≡ false) × ((b ≡ false) × (c ≡ false))
@@ -171,7 +171,7 @@ says_none r lacks = go (is_some r.home && is_some r.symbol) (has_some r.referenc
     go false false true e = absurd (true≢false e)
     go false false false e = (refl, (refl, refl))
 
-none_defined : (x : ℕ) (r : Numbers) → tells r ≡ false → defined_by x r ≡ []
+none_defined : (x : ℕ) (r : Numbers) → concerns_symbols r ≡ false → defined_by x r ≡ []
 none_defined x r lacks = go r.home r.symbol (says_none r lacks).0
   where
     go : (home symbol : Option ℕ) → (is_some home && is_some symbol) ≡ false → defined home symbol x ≡ []
@@ -189,14 +189,14 @@ none_undefined x r lacks = go (is_some r.home && is_some r.symbol) r.name lacks
     go false (Some n) e = absurd (true≢false e)
 
 module _ (roles : RoleAt ℕ ℕ ℕ) (ds : List (DefinitionOf ℕ)) where
-  unreferring : (possible : ℕ → Bool) (resolved : Bool) (x : ℕ) (r : Numbers) → tells r ≡ false → references_by roles ds possible resolved x r ≡ []
+  unreferring : (possible : ℕ → Bool) (resolved : Bool) (x : ℕ) (r : Numbers) → concerns_symbols r ≡ false → references_by roles ds possible resolved x r ≡ []
   unreferring possible resolved x r lacks = go r.references.items (says_none r lacks).1.0
     where
       go : (ps : List Reference) → has_some ps ≡ false → reference_lines eqb roles ds possible resolved x r.table (map reference_of ps) ≡ []
       go [] e = refl
       go (p ∷ ps) e = absurd (true≢false e)
 
-  uncalling : (x : ℕ) (r : Numbers) → tells r ≡ false → call_by roles ds x r ≡ []
+  uncalling : (x : ℕ) (r : Numbers) → concerns_symbols r ≡ false → call_by roles ds x r ≡ []
   uncalling x r lacks = go r.call (says_none r lacks).1.1
     where
       go : (k : Option Call) → is_some k ≡ false → call_line eqb eqb roles ds x r.table (option_map call_numbers k) ≡ []
@@ -219,34 +219,34 @@ each_defined : (es : List (ℕ × Numbers)) → all_told defined_by es ≡ defin
 each_defined [] = refl
 each_defined (e ∷ es) = ap (λ l. defined_by e.0 e.1 ++ l) (each_defined es)
 
-module _ (m : Roles) (ordered : idmap.IsOrdered m.all) (rises : set.IsOrdered nat_cmp m.telling) where
-  pub definitions_told : told defined_by (kept_at m) m.telling.keys ≡ definitions (numbered m.all.entries)
-  definitions_told = told_of_set defined_by tells none_defined m.telling.keys m.all m.telling refl ordered rises m.tell ∙ each_defined m.all.entries
+module _ (m : Roles) (ordered : idmap.IsOrdered m.all) (rises : set.IsOrdered nat_cmp m.symbol_ops) where
+  pub definitions_told : told defined_by (kept_at m) m.symbol_ops.keys ≡ definitions (numbered m.all.entries)
+  definitions_told = told_of_set defined_by concerns_symbols none_defined m.symbol_ops.keys m.all m.symbol_ops refl ordered rises m.tell ∙ each_defined m.all.entries
 
   pub references_told : (roles : RoleAt ℕ ℕ ℕ) (ds : List (DefinitionOf ℕ)) (possible : ℕ → Bool) (resolved : Bool)
-      → told (references_by roles ds possible resolved) (kept_at m) m.telling.keys ≡ all_reference_lines eqb roles ds possible resolved (numbered m.all.entries)
+      → told (references_by roles ds possible resolved) (kept_at m) m.symbol_ops.keys ≡ all_reference_lines eqb roles ds possible resolved (numbered m.all.entries)
   references_told roles ds possible resolved =
-      told_of_set (references_by roles ds possible resolved) tells (unreferring roles ds possible resolved) m.telling.keys m.all m.telling refl ordered rises m.tell ∙ each_referring roles ds possible resolved m.all.entries
+      told_of_set (references_by roles ds possible resolved) concerns_symbols (unreferring roles ds possible resolved) m.symbol_ops.keys m.all m.symbol_ops refl ordered rises m.tell ∙ each_referring roles ds possible resolved m.all.entries
 
-  pub calls_told : (roles : RoleAt ℕ ℕ ℕ) (ds : List (DefinitionOf ℕ)) → told (call_by roles ds) (kept_at m) m.telling.keys ≡ mismatch_lines eqb eqb roles ds (numbered m.all.entries)
-  calls_told roles ds = told_of_set (call_by roles ds) tells (uncalling roles ds) m.telling.keys m.all m.telling refl ordered rises m.tell ∙ each_calling roles ds m.all.entries
+  pub calls_told : (roles : RoleAt ℕ ℕ ℕ) (ds : List (DefinitionOf ℕ)) → told (call_by roles ds) (kept_at m) m.symbol_ops.keys ≡ mismatch_lines eqb eqb roles ds (numbered m.all.entries)
+  calls_told roles ds = told_of_set (call_by roles ds) concerns_symbols (uncalling roles ds) m.symbol_ops.keys m.all m.symbol_ops refl ordered rises m.tell ∙ each_calling roles ds m.all.entries
 
 pub names_told : (m : Roles) → idmap.IsOrdered m.all → set.IsOrdered nat_cmp m.naming → told undefined_by (kept_at m) m.naming.keys ≡ undefined_names (numbered m.all.entries)
 names_told m ordered rises = told_of_set undefined_by names none_undefined m.naming.keys m.all m.naming refl ordered rises m.name ∙ each_undefined m.all.entries
 
 -- the contribution of one more operation
 module _ {X : Type 0} (f : ℕ → Numbers → List X) (kept : ℕ → Option Numbers) where
-  pub one_told : {Y : Type 0} (cells : X → Y) (x : ℕ) (xs all : List ℕ) (before after whole : List Y) → x ∷ xs ≡ all → after ≡ before ++ map cells (told_at f x (kept x)) → before ++ map cells (told f kept all) ≡ whole → after ++ map cells (told f kept xs) ≡ whole
+  pub one_told : {Y : Type 0} (cells : X → Y) (x : ℕ) (xs all : List ℕ) (before after whole : List Y) → x ∷ xs ≡ all → after ≡ before ++ map cells (contribution_at f x (kept x)) → before ++ map cells (told f kept all) ≡ whole → after ++ map cells (told f kept xs) ≡ whole
   one_told cells x xs all before after whole next one so_far =
       ap (λ l. l ++ map cells (told f kept xs)) one
-      ∙ append_assoc before (map cells (told_at f x (kept x))) (map cells (told f kept xs))
-      ∙ ap (λ l. before ++ l) (sym (map-append cells (told_at f x (kept x)) (told f kept xs)))
+      ∙ append_assoc before (map cells (contribution_at f x (kept x))) (map cells (told f kept xs))
+      ∙ ap (λ l. before ++ l) (sym (map-append cells (contribution_at f x (kept x)) (told f kept xs)))
       ∙ ap (λ l. before ++ map cells (told f kept l)) next
       ∙ so_far
 
-  pub one_listed : (x : ℕ) (xs all : List ℕ) (before after whole : List X) → x ∷ xs ≡ all → after ≡ before ++ told_at f x (kept x) → before ++ told f kept all ≡ whole → after ++ told f kept xs ≡ whole
+  pub one_listed : (x : ℕ) (xs all : List ℕ) (before after whole : List X) → x ∷ xs ≡ all → after ≡ before ++ contribution_at f x (kept x) → before ++ told f kept all ≡ whole → after ++ told f kept xs ≡ whole
   one_listed x xs all before after whole next one so_far =
-      ap (λ l. l ++ told f kept xs) one ∙ append_assoc before (told_at f x (kept x)) (told f kept xs) ∙ ap (λ l. before ++ told f kept l) next ∙ so_far
+      ap (λ l. l ++ told f kept xs) one ∙ append_assoc before (contribution_at f x (kept x)) (told f kept xs) ∙ ap (λ l. before ++ told f kept l) next ∙ so_far
 
   pub none_told : {Y : Type 0} (cells : X → Y) (left : List ℕ) (before whole : List Y) → left ≡ [] → before ++ map cells (told f kept left) ≡ whole → before ≡ whole
   none_told cells left before whole none so_far = sym (append-nil before) ∙ ap (λ l. before ++ map cells (told f kept l)) (sym none) ∙ so_far

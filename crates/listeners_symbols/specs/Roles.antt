@@ -13,7 +13,7 @@ use Rattle.ir_event.specs.trees.Tree.{HeadOf, head}
 use Rattle.ir_event.specs.trees.Ids.{first_of}
 use Rattle.ir_event.specs.trees.Meaning.{Operation}
 use Rattle.ir_event.specs.tree_laws.Values.{type_of_value}
-use Rattle.ir_event.specs.tree_laws.Stands.{StepOf, StandOf, stand_of, table_in}
+use Rattle.ir_event.specs.tree_laws.Stands.{StepOf, OpWithPathOf, op_with_path, table_in}
 use Rattle.op_registry.specs.Registry.{next_to}
 use Rattle.op_registry.specs.Properties.{string_of, type_of}
 use Rattle.ir_event.specs.types.SameTypes.{function_of}
@@ -58,8 +58,8 @@ Role = RoleOf (List ℕ) TypeTerm AttrTerm
 abbrev pub Head : Type 0
 Head = HeadOf (List ℕ) TypeTerm AttrTerm
 
-abbrev pub Stand : Type 0
-Stand = StandOf (List ℕ) TypeTerm AttrTerm
+abbrev pub OpWithPath : Type 0
+OpWithPath = OpWithPathOf (List ℕ) TypeTerm AttrTerm
 
 -- the symbols are functions and modules with a string as `sym_name`
 abbrev pub is_function : List ℕ → Bool
@@ -182,11 +182,11 @@ role_from parent home table h types = record {
 }
 
 -- the role of an operation at its position in the tree
-abbrev pub role : Operation → Stand → Role
+abbrev pub role : Operation → OpWithPath → Role
 role t s =
     role_from (parent_in s.path) (home_of s.path) (table_at (head s.here) s.path) (head s.here)
     (map (λ v. type_of_value v t) (head s.here).operands)
 
 -- the role of operation x, if it is in the tree
 abbrev pub role_of : Operation → ℕ → Option Role
-role_of t x = option_map (role t) (stand_of x t)
+role_of t x = option_map (role t) (op_with_path x t)

@@ -10,22 +10,22 @@ use Rattle.std.specs.Option.{option_eq}
 use Rattle.std.specs.Cmp.Lexicographic.{pointwise}
 use Rattle.ir_event.specs.types.Terms.{TypeTerm, AttrTerm}
 use Rattle.ir_event.specs.trees.Meaning.{Operation}
-use Rattle.ir_event.specs.tree_laws.Stands.{stand_id, stands}
+use Rattle.ir_event.specs.tree_laws.Stands.{op_with_path_id, stands}
 use Rattle.ir_event.specs.Rows.{RowTerm, Op, Name, Path, Tag}
 use Rattle.ir_event.specs.Tags.{tag_number}
 use Rattle.ir_event.specs.declared.tag.Tag.TheVariants as word
 use Rattle.ir_event.specs.types.SameTypes.{same_type}
 use Rattle.listeners_symbols.specs.declared.definers.Definers.{Definers}
 use Rattle.listeners_symbols.specs.declared.definers.Definers.TheVariants as definers
-use Rattle.listeners_symbols.specs.Roles.{ReferenceOf, CallOf, RoleOf, Stand, role, role_of}
+use Rattle.listeners_symbols.specs.Roles.{ReferenceOf, CallOf, RoleOf, OpWithPath, role, role_of}
 
 -- the roles of all operations, ordered by id
 abbrev pub RolesOf : Type 0 → Type 0 → Type 0 → Type 0
 RolesOf N T A = List (ℕ × RoleOf N T A)
 
-abbrev pub roles_in : Operation → List Stand → RolesOf (List ℕ) TypeTerm AttrTerm
+abbrev pub roles_in : Operation → List OpWithPath → RolesOf (List ℕ) TypeTerm AttrTerm
 roles_in t [] = []
-roles_in t (s ∷ ss) = put nat_cmp (stand_id s) (role t s) (roles_in t ss)
+roles_in t (s ∷ ss) = put nat_cmp (op_with_path_id s) (role t s) (roles_in t ss)
 
 abbrev pub roles_by_id : Operation → RolesOf (List ℕ) TypeTerm AttrTerm
 roles_by_id t = roles_in t (stands [] t)

@@ -12,8 +12,8 @@ has_some [] = false
 has_some (x ∷ xs) = true
 
 -- whether an operation defines, references or calls a symbol, by its entry
-abbrev pub tells : Numbers → Bool
-tells r = (is_some r.home && is_some r.symbol) || (has_some r.references.items || is_some r.call)
+abbrev pub concerns_symbols : Numbers → Bool
+concerns_symbols r = (is_some r.home && is_some r.symbol) || (has_some r.references.items || is_some r.call)
 
 -- whether it defines a symbol with private visibility
 abbrev pub hides : Numbers → Bool
@@ -35,11 +35,11 @@ pub HasThose-prop : (test : Numbers → Bool) (m : IdMap Numbers) (s : BTreeSet 
 HasThose-prop test m s = Π_prop (λ x. Π_prop (λ h. Coded-set coded_bool (contains nat_cmp s x) true))
 
 -- the contribution of an operation, by its entry
-abbrev pub told_at : {X : Type 0} → (ℕ → Numbers → List X) → ℕ → Option Numbers → List X
-told_at f x None = []
-told_at f x (Some r) = f x r
+abbrev pub contribution_at : {X : Type 0} → (ℕ → Numbers → List X) → ℕ → Option Numbers → List X
+contribution_at f x None = []
+contribution_at f x (Some r) = f x r
 
 -- the contributions of a list of operations, in order
 abbrev pub told : {X : Type 0} → (ℕ → Numbers → List X) → (ℕ → Option Numbers) → List ℕ → List X
 told f kept [] = []
-told f kept (x ∷ xs) = told_at f x (kept x) ++ told f kept xs
+told f kept (x ∷ xs) = contribution_at f x (kept x) ++ told f kept xs

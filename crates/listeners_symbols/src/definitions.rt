@@ -4,7 +4,7 @@ ghost use Rattle.ir_event.specs.trees.Ids.{first_of};
 ghost use Rattle.listeners_symbols.specs.Symbols.{definitions, defined, first_defined};
 ghost use Rattle.listeners_symbols.specs.Listeners.{kept_at};
 ghost use Rattle.listeners_symbols.specs.Lines.{HasFirst, defined_by, first_in, numbered};
-ghost use Rattle.listeners_symbols.specs.Telling.{told_at};
+ghost use Rattle.listeners_symbols.specs.Telling.{contribution_at};
 
 use crate::role::Role;
 use crate::roles::Roles;
@@ -68,7 +68,7 @@ fn push_definition(op: OpId, role: &Role, out: &mut Vec<Definition>) -> Result<(
 
 /// Appends the definition of an operation of a table, if it is one.
 fn push_definition_at(roles: &Roles, op: OpId, out: &mut Vec<Definition>) -> Result<(), AllocError>
-    ensures { OnOk result (out.new.items ≡ out.old.items ++ told_at defined_by op (kept_at roles.now op)) }
+    ensures { OnOk result (out.new.items ≡ out.old.items ++ contribution_at defined_by op (kept_at roles.now op)) }
 {
     match roles.get(op) {
         None => Ok(()),
@@ -82,7 +82,7 @@ fn listed(alloc: Global, roles: &Roles) -> Result<Vec<Definition>, AllocError>
 {
     roles.ordered();
     let mut out = Vec::new(alloc);
-    for op in &roles.telling {
+    for op in &roles.symbol_ops {
         push_definition_at(roles, *op, &mut out)?;
     }
     Ok(out)

@@ -7,7 +7,7 @@ ghost use Rattle.listeners_symbols.specs.Symbols.{is_among, undefined};
 ghost use Rattle.listeners_symbols.specs.Symbols as symbols;
 ghost use Rattle.listeners_symbols.specs.Listeners.{kept_at};
 ghost use Rattle.listeners_symbols.specs.Lines.{HasNames, numbered, undefined_by};
-ghost use Rattle.listeners_symbols.specs.Telling.{told_at};
+ghost use Rattle.listeners_symbols.specs.Telling.{contribution_at};
 
 use crate::definers::Definers;
 use crate::definitions::Definitions;
@@ -42,7 +42,7 @@ fn add_name(role: &Role, names: &mut BTreeSet<NameId>) -> Result<(), AllocError>
 /// Adds the name of an operation of a table if it has one and isn't a definition.
 fn add_name_at(roles: &Roles, op: OpId, names: &mut BTreeSet<NameId>) -> Result<(), AllocError>
     ensures { OnOk result ((n : ℕ) → contains nat_cmp names.new n
-        ≡ (contains nat_cmp names.old n || is_among eqb (told_at undefined_by op (kept_at roles.now op)) n)) }
+        ≡ (contains nat_cmp names.old n || is_among eqb (contribution_at undefined_by op (kept_at roles.now op)) n)) }
 {
     match roles.get(op) {
         None => Ok(()),

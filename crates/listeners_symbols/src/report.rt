@@ -13,7 +13,7 @@ ghost use Rattle.listeners_symbols.specs.Symbols.{reference_lines, symbol_lines,
 ghost use Rattle.listeners_symbols.specs.Table.{call_numbers, reference_of};
 ghost use Rattle.listeners_symbols.specs.Listeners.{kept_at};
 ghost use Rattle.listeners_symbols.specs.Lines.{call_by, cells_of, lines_cells, numbered, numbers_at, references_by};
-ghost use Rattle.listeners_symbols.specs.Telling.{told_at};
+ghost use Rattle.listeners_symbols.specs.Telling.{contribution_at};
 
 use crate::definers::Definers;
 use crate::definitions::{Definition, Definitions, definitions_of};
@@ -225,7 +225,7 @@ fn push_references_at(
     out: &mut Vec<Row>,
 ) -> Result<(), AllocError>
     ensures { OnOk result (cells_of out.new.items ≡ cells_of out.old.items
-        ++ lines_cells (told_at (references_by (numbers_at roles.now) names.now.definitions
+        ++ lines_cells (contribution_at (references_by (numbers_at roles.now) names.now.definitions
         (contains nat_cmp names.now.possible) resolved) user (kept_at roles.now user))) }
 {
     match roles.get(user) {
@@ -247,7 +247,7 @@ fn push_all_references(
         resolved (numbered roles.now.all.entries))) }
 {
     roles.ordered();
-    for op in &roles.telling {
+    for op in &roles.symbol_ops {
         push_references_at(alloc, resolved, roles, names, *op, out)?;
     }
     Ok(())
@@ -318,7 +318,7 @@ fn push_call_at(
     out: &mut Vec<Row>,
 ) -> Result<(), AllocError>
     ensures { OnOk result (cells_of out.new.items ≡ cells_of out.old.items
-        ++ lines_cells (told_at (call_by (numbers_at roles.now) definitions.now) user (kept_at roles.now user))) }
+        ++ lines_cells (contribution_at (call_by (numbers_at roles.now) definitions.now) user (kept_at roles.now user))) }
 {
     match roles.get(user) {
         None => Ok(()),
@@ -337,7 +337,7 @@ fn push_mismatches(
         ++ lines_cells (mismatch_lines eqb eqb (numbers_at roles.now) definitions.now (numbered roles.now.all.entries))) }
 {
     roles.ordered();
-    for op in &roles.telling {
+    for op in &roles.symbol_ops {
         push_call_at(alloc, roles, definitions, *op, out)?;
     }
     Ok(())

@@ -5,7 +5,7 @@ ghost use Rattle.std.specs.Ordering.{nat_cmp};
 ghost use Rattle.listeners_support.specs.Map as idmap;
 ghost use Rattle.std.specs.BTreeSet as set;
 ghost use Rattle.std.specs.BTreeSet.{contains};
-ghost use Rattle.listeners_symbols.specs.Telling.{HasThose, HasThose-prop, has_some, hides, names, tells};
+ghost use Rattle.listeners_symbols.specs.Telling.{HasThose, HasThose-prop, has_some, hides, names, concerns_symbols};
 
 use crate::role::Role;
 use ir_event::types::ids::OpId;
@@ -18,12 +18,12 @@ use std::collections::BTreeSet;
 pub struct Roles {
     pub all: IdMap<Role>,
     /// The operations that define, reference or call a symbol. The set may have more operations.
-    pub telling: BTreeSet<OpId>,
+    pub symbol_ops: BTreeSet<OpId>,
     /// The private definitions. The set may have more operations.
     pub hidden: BTreeSet<OpId>,
     /// The operations with a name that define no symbol. The set may have more operations.
     pub naming: BTreeSet<OpId>,
-    pub ghost tell: { HasThose tells all telling } by { HasThose-prop tells all telling },
+    pub ghost tell: { HasThose concerns_symbols all symbol_ops } by { HasThose-prop concerns_symbols all symbol_ops },
     pub ghost hide: { HasThose hides all hidden } by { HasThose-prop hides all hidden },
     pub ghost name: { HasThose names all naming } by { HasThose-prop names all naming },
 }
@@ -35,7 +35,7 @@ impl Roles {
     {
         Roles {
             all: IdMap::new(alloc),
-            telling: BTreeSet::new(alloc),
+            symbol_ops: BTreeSet::new(alloc),
             hidden: BTreeSet::new(alloc),
             naming: BTreeSet::new(alloc),
         }
@@ -44,12 +44,12 @@ impl Roles {
     /// States that all entries are ordered by operation id.
     pub fn ordered(&self)
         ensures all { idmap.IsOrdered self.now.all }
-        ensures telling { set.IsOrdered nat_cmp self.now.telling }
+        ensures symbol_ops { set.IsOrdered nat_cmp self.now.symbol_ops }
         ensures hidden { set.IsOrdered nat_cmp self.now.hidden }
         ensures naming { set.IsOrdered nat_cmp self.now.naming }
     {
         self.all.ordered();
-        let _ = self.telling.len();
+        let _ = self.symbol_ops.len();
         let _ = self.hidden.len();
         let _ = self.naming.len();
     }
@@ -65,17 +65,17 @@ impl Roles {
     pub fn insert(&mut self, op: OpId, role: Role) -> Result<(), AllocError>
         ensures updates { OnOk result (idmap.Updates self.old.all self.new.all op (Some role)) }
     {
-        let telling = tells(&role);
+        let symbol_ops = concerns_symbols(&role);
         let hidden = hides(&role);
         let naming = names(&role);
-        add_if(&mut self.telling, op, telling)?;
+        add_if(&mut self.symbol_ops, op, symbol_ops)?;
         add_if(&mut self.hidden, op, hidden)?;
         add_if(&mut self.naming, op, naming)?;
-        let told = tells_of(self.all.get(op.number()));
+        let told = role_concerns_symbols(self.all.get(op.number()));
         let hid = hides_of(self.all.get(op.number()));
         let named = names_of(self.all.get(op.number()));
         self.all.insert(op.number(), role)?;
-        drop_unless(&mut self.telling, op, telling || !told);
+        drop_unless(&mut self.symbol_ops, op, symbol_ops || !told);
         drop_unless(&mut self.hidden, op, hidden || !hid);
         drop_unless(&mut self.naming, op, naming || !named);
         Ok(())
@@ -86,15 +86,19 @@ impl Roles {
         ensures updates { idmap.Updates self.old.all self.new.all op None }
     {
         let gone = self.all.remove(op.number());
-        drop_unless(&mut self.telling, op, !tells_of(gone.as_ref()));
+        drop_unless(
+            &mut self.symbol_ops,
+            op,
+            !role_concerns_symbols(gone.as_ref()),
+        );
         drop_unless(&mut self.hidden, op, !hides_of(gone.as_ref()));
         drop_unless(&mut self.naming, op, !names_of(gone.as_ref()));
     }
 }
 
 /// Returns whether an operation defines, references or calls a symbol.
-fn tells(role: &Role) -> bool
-    ensures { result ≡ tells role.now }
+fn concerns_symbols(role: &Role) -> bool
+    ensures { result ≡ concerns_symbols role.now }
 {
     defines(role) || refers(role) || role.call.is_some()
 }
@@ -130,10 +134,10 @@ fn names(role: &Role) -> bool
     !defines(role) && role.name.is_some()
 }
 
-/// Returns whether there is a role and it satisfies `tells`. No contract depends on it, because the set may have more.
-fn tells_of(role: Option<&Role>) -> bool {
+/// Returns whether there is a role and it satisfies `concerns_symbols`. No contract depends on it, because the set may have more.
+fn role_concerns_symbols(role: Option<&Role>) -> bool {
     match role {
-        Some(role) => tells(role),
+        Some(role) => concerns_symbols(role),
         None => false,
     }
 }

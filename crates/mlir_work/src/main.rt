@@ -155,7 +155,7 @@ fn comment(
 }
 
 /// Returns whether a run calls for a comment: its module was refused, or it has no command.
-fn wants_comment(input: &[u8], status: u8) -> bool {
+fn needs_comment(input: &[u8], status: u8) -> bool {
     let (_, script) = split(input);
     status == 3 || status == 0 && script.is_empty()
 }
@@ -207,7 +207,7 @@ fn run_standard(
 }
 
 /// Writes the separator between the outputs of two modules: the divider, or its JSON object.
-fn put_divider<W: Sink>(given: &CommandLine<'_>, writer: &mut W) -> bool {
+fn write_divider<W: Sink>(given: &CommandLine<'_>, writer: &mut W) -> bool {
     let line: &[u8] = match given.format {
         Format::Text => b"// -----\n",
         Format::Json => b"{\"divider\":true}\n",
@@ -228,14 +228,14 @@ fn run_inputs<W: io::Write + Drop>(
     let mut worst = 0;
     let mut line = 1;
     for input in inputs {
-        if line > 1 && !put_divider(given, &mut writer) {
+        if line > 1 && !write_divider(given, &mut writer) {
             return Ok(4);
         }
         let mut reader = Bytes {
             rest: input.as_slice(),
         };
         let status = run_one(rt, given, patterns, &mut reader, &mut writer)?;
-        if wants_comment(input, status) {
+        if needs_comment(input, status) {
             comment(rt, given, line, input)?;
         }
         line = line_after(line, input);

@@ -18,7 +18,7 @@ use Rattle.mlir_work_run.specs.session.Parts.{module_text, script_text}
 use Rattle.mlir_work_run.specs.session.Writes.{joined}
 use Rattle.mlir_work_run.proofs.Wider.{line_wider}
 use Rattle.mlir_work_run.specs.Live.{Live, Lives, divider_bytes, whole_lines}
-use Rattle.mlir_work_run.specs.Whole.{Setting, setting_of, way_at}
+use Rattle.mlir_work_run.specs.Whole.{Setting, setting_of, session_setting_at}
 use Rattle.mlir_work_run.proofs.Within.{joined_same, live_whole}
 use Rattle.mlir_work_c.specs.declared.answer.Answer.{Answer}
 use Rattle.mlir_work_c.specs.declared.session.Session.{Session}
@@ -74,7 +74,7 @@ module _ (opaque : Bool) (limit : ℕ) where
 
     -- this line and the lines after it
     abbrev IsLivedOn : Spoken → Type 0
-    IsLivedOn spoken = (status : ℕ) × (out : List ℕ) × Line (Following read lines) (way_at live_setting read) n (sitting s) expected spoken status out × AreWritten n all_told status out
+    IsLivedOn spoken = (status : ℕ) × (out : List ℕ) × Line (Following read lines) (session_setting_at live_setting read) n (sitting s) expected spoken status out × AreWritten n all_told status out
 
     least : (setting s line).bytes ≤ read
     least = let below = min-le_left (s.bytes + length line) most_counted in omega (arith, below, within)
@@ -109,7 +109,7 @@ module _ (opaque : Bool) (limit : ℕ) where
     })
 
     -- the answer to a line in a run that has read so many bytes, with this limit
-    wide : (spoken : Spoken) (st : ℕ) (o : List ℕ) → Line (Following read lines) (session_setting seven_supply (setting s line)) n (sitting s) expected spoken st o → Line (Following read lines) (way_at live_setting read) n (sitting s) expected spoken st o
+    wide : (spoken : Spoken) (st : ℕ) (o : List ℕ) → Line (Following read lines) (session_setting seven_supply (setting s line)) n (sitting s) expected spoken st o → Line (Following read lines) (session_setting_at live_setting read) n (sitting s) expected spoken st o
     wide spoken st o h =
         subst (λ (l : ℕ). Line (Following read lines) (session_setting seven_supply (record { brief = true; bytes = read; limit = l; ends = false; opaque = opaque; explain = false; strict = false })) n (sitting s) expected spoken st o) same
         (subst (λ (b : Bool). Line (Following read lines) (session_setting seven_supply (record { brief = true; bytes = read; limit = s.limit; ends = false; opaque = b; explain = false; strict = false })) n (sitting s) expected spoken st o) mode

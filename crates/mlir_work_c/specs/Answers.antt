@@ -40,10 +40,10 @@ abbrev pub made : ℕ → Answer
 made op = of_numbers 2 0 op 0
 
 -- the answer to a text that isn't read
-abbrev pub unread : ReadError → Answer
-unread error.Memory = refused Memory
-unread (error.Full offset) = of_numbers 9 (number_of TooMany) offset 0
-unread (error.Refused refusal offset) = of_numbers 9 (number_of refusal) offset 0
+abbrev pub parse_error_answer : ReadError → Answer
+parse_error_answer error.Memory = refused Memory
+parse_error_answer (error.Full offset) = of_numbers 9 (number_of TooMany) offset 0
+parse_error_answer (error.Refused refusal offset) = of_numbers 9 (number_of refusal) offset 0
 
 -- the answer if no session was opened, with the refused byte of the text if there is one
 abbrev pub not_opened : Refusal → Option ℕ → Answer

@@ -18,7 +18,7 @@ use Rattle.mlir_work_c_read.specs.declared.numbers.ValueNumbers.{ValueNumbers}
 use Rattle.mlir_work_c_read.specs.Edits.{DropsNumbered, InsertsNumbered, SetsNumbered}
 use Rattle.mlir_work_c_read.specs.Headers.{header}
 use Rattle.mlir_work_c_read.specs.Interned.{Grown}
-use Rattle.mlir_work_c.specs.Answers.{counted, refused, replied_of, unread}
+use Rattle.mlir_work_c.specs.Answers.{counted, refused, replied_of, parse_error_answer}
 use Rattle.mlir_work_c.specs.Calls.{Goes}
 use Rattle.mlir_work_c.specs.Queries.{context_of}
 use Rattle.mlir_work_c.specs.Stepped.{is_opaque}
@@ -93,16 +93,16 @@ TypeInterned text s a t =
     Interns s t
     × (((n : ℕ) × IsType (context_of t) n × SpellsAttr (is_opaque s) text (TypeOf (type_term (context_of t) n))
     × (a ≡ counted n))
-    ⊎ ((e : ReadError) × IsTextRefusal text e × (a ≡ unread e)))
+    ⊎ ((e : ReadError) × IsTextRefusal text e × (a ≡ parse_error_answer e)))
 
 abbrev pub TypeGoes : List ℕ → Option Session → Answer → Option Session → Type 0
 TypeGoes text old a new = Goes (λ s b t. TypeInterned text s b t) old a new
 
 -- a refused text denotes no attribute
-abbrev pub IsUnread : (List ℕ → Type 0) → List ℕ → ReadError → Type 0
-IsUnread IsNothing text error.Memory = Unit {0}
-IsUnread IsNothing text (error.Full offset) = Unit {0}
-IsUnread IsNothing text (error.Refused refusal offset) = IsNothing text
+abbrev pub IsParseError : (List ℕ → Type 0) → List ℕ → ReadError → Type 0
+IsParseError IsNothing text error.Memory = Unit {0}
+IsParseError IsNothing text (error.Full offset) = Unit {0}
+IsParseError IsNothing text (error.Refused refusal offset) = IsNothing text
 
 -- the answer has the number of the attribute with this text, or the text is refused
 abbrev pub AttributeInterned : List ℕ → Session → Answer → Session → Type 0
@@ -110,8 +110,8 @@ AttributeInterned text s a t =
     Interns s t
     × (((n : ℕ) × IsAttr (context_of t) n × SpellsAttr (is_opaque s) text (attr_term (context_of t) n)
     × (a ≡ counted n))
-    ⊎ ((e : ReadError) × IsTextRefusal text e × IsUnread (λ x. IsNoAttr (SpellsAttr (is_opaque s) x)) text e
-    × (a ≡ unread e)))
+    ⊎ ((e : ReadError) × IsTextRefusal text e × IsParseError (λ x. IsNoAttr (SpellsAttr (is_opaque s) x)) text e
+    × (a ≡ parse_error_answer e)))
 
 abbrev pub AttributeGoes : List ℕ → Option Session → Answer → Option Session → Type 0
 AttributeGoes text old a new = Goes (λ s b t. AttributeInterned text s b t) old a new

@@ -58,6 +58,6 @@ uses_in value None = []
 uses_in value (Some s) = uses_of value (tree_of s)
 
 -- one of these uses, if there is one; without a use the struct doesn't change
-abbrev pub ToldUse : List (ℕ × ℕ) → UseNumbers → UseNumbers → Bool → Type 0
-ToldUse uses old new true = is_use new.operation new.operand uses ≡ true
-ToldUse uses old new false = (uses ≡ []) × (new ≡ old)
+abbrev pub WritesUse : List (ℕ × ℕ) → UseNumbers → UseNumbers → Bool → Type 0
+WritesUse uses old new true = is_use new.operation new.operand uses ≡ true
+WritesUse uses old new false = (uses ≡ []) × (new ≡ old)

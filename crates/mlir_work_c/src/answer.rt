@@ -3,7 +3,7 @@ ghost use Rattle.std.specs.Prelude.{◌≡◌, ℕ};
 ghost use Rattle.mlir_work_script.specs.Outcomes.{outcome_of};
 ghost use Rattle.mlir_work_run.specs.session.Machine.{response_of};
 ghost use Rattle.mlir_work_run.specs.session.Notices.{notice_of};
-ghost use Rattle.mlir_work_c.specs.Answers.{answer_of, came_of, closed as no_session, nothing as no_command, refused as refused_for, opened as a_session, not_opened as not_opened_for, counted, made, unread};
+ghost use Rattle.mlir_work_c.specs.Answers.{answer_of, came_of, closed as no_session, nothing as no_command, refused as refused_for, opened as a_session, not_opened as not_opened_for, counted, made, parse_error_answer};
 ghost use Rattle.rewriter.specs.Commands.{Replied};
 ghost use Rattle.rewriter.specs.RewriterCalls.{id_reply_of, reply_of};
 ghost use Rattle.mlir_work_c.specs.Answers.{replied_of, said_as};
@@ -109,8 +109,8 @@ pub fn inserted(op: Result<OpId, Refusal>) -> Answer
 }
 
 /// Returns the answer to a text that isn't read.
-pub fn unread(error: ReadError) -> Answer
-    ensures { result ≡ unread error }
+pub fn parse_error_answer(error: ReadError) -> Answer
+    ensures { result ≡ parse_error_answer error }
 {
     match error {
         ReadError::Memory => refused(Refusal::Memory),

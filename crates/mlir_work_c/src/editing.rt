@@ -3,7 +3,7 @@ ghost use Rattle.std.specs.Prelude.{◌≡◌, None, Some};
 ghost use Rattle.rewriter.specs.Commands.{Erase, Replace, SetOperand};
 ghost use Rattle.mlir_work_c.specs.Calls.{IsHeld};
 ghost use Rattle.mlir_work_c.specs.Edits.{EditGoes, MoveGoes};
-ghost use Rattle.mlir_work_c_read.specs.Numbers.{value_of as told_value};
+ghost use Rattle.mlir_work_c_read.specs.Numbers.{value_of as show_value};
 ghost use Rattle.mlir_work_c.specs.Numbers.{point_of_numbers};
 
 use crate::answer::{Answer, closed, refused};
@@ -26,7 +26,7 @@ pub extern "C" fn mlir_work_set_operand(
     answer: &mut Answer,
 )
     requires kept { IsHeld held.old.slot.value }
-    ensures goes { EditGoes held.old.slot.value (SetOperand operation operand (told_value value.now)) answer.new held.new.slot.value }
+    ensures goes { EditGoes held.old.slot.value (SetOperand operation operand (show_value value.now)) answer.new held.new.slot.value }
     ensures kept { IsHeld held.new.slot.value }
 {
     let Some(mut found) = held.take(alloc) else {
@@ -48,7 +48,7 @@ pub extern "C" fn mlir_work_replace(
     answer: &mut Answer,
 )
     requires kept { IsHeld held.old.slot.value }
-    ensures goes { EditGoes held.old.slot.value (Replace (told_value old.now) (told_value new.now)) answer.new held.new.slot.value }
+    ensures goes { EditGoes held.old.slot.value (Replace (show_value old.now) (show_value new.now)) answer.new held.new.slot.value }
     ensures kept { IsHeld held.new.slot.value }
 {
     let Some(mut found) = held.take(alloc) else {

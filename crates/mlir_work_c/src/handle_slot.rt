@@ -39,7 +39,7 @@ impl HandleSlot {
     }
 
     /// Takes the raw box out of a full slot.
-    fn into_loose(self, alloc: Global) -> RawBox<Session, Global>
+    fn into_raw_box(self, alloc: Global) -> RawBox<Session, Global>
         requires { IsFull self.value }
         ensures { Some result.value ≡ self.value }
     {
@@ -69,6 +69,6 @@ impl HandleSlot {
         requires { IsFull self.value }
         ensures { Some result.value ≡ self.value }
     {
-        self.into_loose(alloc).into_box()
+        self.into_raw_box(alloc).into_box()
     }
 }

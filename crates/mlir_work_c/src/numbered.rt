@@ -6,7 +6,7 @@ ghost use Rattle.mlir_work_c.specs.Calls.{IsHeld};
 ghost use Rattle.mlir_work_c.specs.Numbers.{point_of_numbers};
 ghost use Rattle.mlir_work_c.specs.Numbered.{AttributeGoes, AttributeInterned, Drops, DropGoes, InsertGoes, InsertsNew, NameGoes, NameInterned, Sets, SetGoes, TypeGoes, TypeInterned};
 
-use crate::answer::{Answer, closed, counted, edited, inserted, refused, unread};
+use crate::answer::{Answer, closed, counted, edited, inserted, parse_error_answer, refused};
 use crate::handle::Handle;
 use crate::numbers::{NewOperation, point_of};
 use crate::session::Session;
@@ -167,7 +167,7 @@ fn type_in(session: &mut Session, text: &[u8]) -> Answer
 {
     match intern_type(&mut session.bench, text) {
         Ok(ty) => counted(ty.number() as u64),
-        Err(error) => unread(error),
+        Err(error) => parse_error_answer(error),
     }
 }
 
@@ -194,7 +194,7 @@ fn attribute_in(session: &mut Session, text: &[u8]) -> Answer
 {
     match intern_attribute(&mut session.bench, text) {
         Ok(attribute) => counted(attribute.number() as u64),
-        Err(error) => unread(error),
+        Err(error) => parse_error_answer(error),
     }
 }
 

@@ -63,7 +63,7 @@ fn world_of(alloc: Global, key: u64, opaque: bool, text: &[u8]) -> Result<World,
 }
 
 /// Returns a rewriter on an IR state with all seven analyses attached, or `None` if one of them is refused.
-fn bench_over(alloc: Global, world: World) -> Option<Bench<AnyAnalysis>>
+fn rewriter_over(alloc: Global, world: World) -> Option<Bench<AnyAnalysis>>
     requires slotted { TracksRemovedKeys world.store }
     requires tidy { HasNoStaleIds world.store }
     ensures held { IfSome result (λ b. (state_of any_analysis b).held ≡ module_in world) }
@@ -110,7 +110,7 @@ pub fn open(
         Ok(world) => world,
         Err(not_opened) => return Err(not_opened),
     };
-    let Some(bench) = bench_over(alloc, world) else {
+    let Some(bench) = rewriter_over(alloc, world) else {
         return Err(no_memory());
     };
     let registry = PatternRegistry::new(alloc);

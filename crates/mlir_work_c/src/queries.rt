@@ -1,8 +1,8 @@
 //! The C functions for queries by number. They read or write no text and change nothing.
 ghost use Rattle.std.specs.Prelude.{◌≡◌, None, Some};
 ghost use Rattle.mlir_work_c.specs.Calls.{IsHeld};
-ghost use Rattle.mlir_work_c.specs.Requested.{requested, first_in, has_in, is_requested, last_in, next_in, operand_in, parent_in, prev_in, root_in, Told, ToldUse, uses_in};
-ghost use Rattle.mlir_work_c_read.specs.Numbers.{number_of as told, value_of as told_value};
+ghost use Rattle.mlir_work_c.specs.Requested.{requested, first_in, has_in, is_requested, last_in, next_in, operand_in, parent_in, prev_in, root_in, Told, WritesUse, uses_in};
+ghost use Rattle.mlir_work_c_read.specs.Numbers.{number_of as told, value_of as show_value};
 
 use crate::handle::Handle;
 use ir_event::types::ids::OpId;
@@ -162,7 +162,7 @@ pub extern "C" fn mlir_work_first_use(
 ) -> bool
     requires kept { IsHeld held.old.slot.value }
     ensures same { held.new.slot.value ≡ held.old.slot.value }
-    ensures told { ToldUse (uses_in (told_value value.now) held.old.slot.value) user.old user.new result }
+    ensures told { WritesUse (uses_in (show_value value.now) held.old.slot.value) user.old user.new result }
 {
     let Some(found) = held.take(alloc) else {
         return false;

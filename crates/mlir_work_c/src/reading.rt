@@ -3,7 +3,7 @@
 ghost use Rattle.std.specs.Prelude.{◌≡◌, option_map};
 ghost use Rattle.mlir_work_c.specs.Requested.{requested};
 ghost use Rattle.mlir_work_c.specs.Calls.{IsHeld};
-ghost use Rattle.mlir_work_c_read.specs.Numbers.{number_of as told, value_of as told_value};
+ghost use Rattle.mlir_work_c_read.specs.Numbers.{number_of as told, value_of as show_value};
 ghost use Rattle.mlir_work_c.specs.Reading.{MayWrite, Writes, WritesItems, WritesOperations, WritesUsesOf, argument_count_in, attribute_in, attribute_of_key_in, attribute_text_in, counts_in, entry_numbers, integer_in, name_in, name_number_in, name_text_in, property_in, property_of_key_in, region_in, type_in, type_text_in};
 
 use crate::handle::Handle;
@@ -124,7 +124,7 @@ pub extern "C" fn mlir_work_value_type(
 ) -> u64
     requires kept { IsHeld held.old.slot.value }
     ensures same { held.new.slot.value ≡ held.old.slot.value }
-    ensures told { result ≡ told (requested (type_in (told_value value.now)) held.old.slot.value) }
+    ensures told { result ≡ told (requested (type_in (show_value value.now)) held.old.slot.value) }
 {
     let Some(found) = held.take(alloc) else {
         return no_number();
@@ -264,7 +264,7 @@ pub extern "C" fn mlir_work_uses(
 ) -> usize
     requires kept { IsHeld held.old.slot.value }
     ensures same { held.new.slot.value ≡ held.old.slot.value }
-    ensures told { WritesUsesOf (told_value value.now) held.old.slot.value into.old into.new result }
+    ensures told { WritesUsesOf (show_value value.now) held.old.slot.value into.old into.new result }
 {
     let Some(found) = held.take(alloc) else {
         return 0;

@@ -1,7 +1,7 @@
 //! New operations from C arrays.
 ghost use Rattle.std.specs.Prelude.{◌≡◌, IfOk, OnOk, Some, [], ◌∷◌, ◌++◌, map, true};
 ghost use Rattle.ir_event.specs.tree_laws.Reasons.{holds_none};
-ghost use Rattle.mlir_work_c_read.specs.Numbers.{value_of as told_value};
+ghost use Rattle.mlir_work_c_read.specs.Numbers.{value_of as show_value};
 ghost use Rattle.mlir_work_c_read.specs.Headers.{IsOrMemory, dictionaries, entries_of, header, is_property, same_truth};
 
 use crate::dictionaries::{attributes_of, dictionaries_fault, properties_of};
@@ -79,7 +79,7 @@ fn dictionaries_of(
 
 /// Returns the values of C structs.
 fn values_of(alloc: Global, values: &[ValueNumbers]) -> Result<Vec<Value>, AllocError>
-    ensures { IfOk result (λ v. v.items ≡ map told_value values.now) }
+    ensures { IfOk result (λ v. v.items ≡ map show_value values.now) }
 {
     let mut out = Vec::with_capacity(alloc, values.len())?;
     'values: for value in values {

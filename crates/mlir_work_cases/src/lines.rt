@@ -20,7 +20,7 @@ use mlir_work_session::words::{split_word, trim};
 use std::alloc::{AllocError, Global};
 
 /// A line that sets an operand.
-fn told_set(alloc: Global, op: OpId, operand: u32, value: Value) -> Result<String, AllocError> {
+fn show_set(alloc: Global, op: OpId, operand: u32, value: Value) -> Result<String, AllocError> {
     let op = op.number();
     match value {
         Value::Result(owner, place) => {
@@ -33,7 +33,7 @@ fn told_set(alloc: Global, op: OpId, operand: u32, value: Value) -> Result<Strin
 }
 
 /// A place.
-fn told_point(alloc: Global, point: &InsertionPoint) -> Result<String, AllocError> {
+fn show_point(alloc: Global, point: &InsertionPoint) -> Result<String, AllocError> {
     match point {
         InsertionPoint::Before(op) => format!(in alloc; "before {}", op.number()),
         InsertionPoint::After(op) => format!(in alloc; "after {}", op.number()),
@@ -43,55 +43,55 @@ fn told_point(alloc: Global, point: &InsertionPoint) -> Result<String, AllocErro
 }
 
 /// A line that moves an operation.
-fn told_move(alloc: Global, op: OpId, point: &InsertionPoint) -> Result<String, AllocError> {
-    let place = told_point(alloc, point)?;
+fn show_move(alloc: Global, op: OpId, point: &InsertionPoint) -> Result<String, AllocError> {
+    let place = show_point(alloc, point)?;
     format!(in alloc; "move {} {place}", op.number())
 }
 
 /// A line that sets one value in place of another.
-fn told_replace(alloc: Global, old: Value, new: Value) -> Result<String, AllocError> {
-    let old = told_value(alloc, old)?;
-    let new = told_value(alloc, new)?;
+fn show_replace(alloc: Global, old: Value, new: Value) -> Result<String, AllocError> {
+    let old = show_value(alloc, old)?;
+    let new = show_value(alloc, new)?;
     format!(in alloc; "replace {old} {new}")
 }
 
 /// A line that puts an operation in.
-fn told_insert(
+fn show_insert(
     alloc: Global,
     point: &InsertionPoint,
     operation: &[u8],
 ) -> Result<String, AllocError> {
-    let place = told_point(alloc, point)?;
+    let place = show_point(alloc, point)?;
     let operation = shown(alloc, operation)?;
     format!(in alloc; "insert {place} {operation}")
 }
 
 /// The bytes that a key stands for.
-fn told_key(alloc: Global, key: &Key<'_>) -> Result<String, AllocError> {
+fn show_key(alloc: Global, key: &Key<'_>) -> Result<String, AllocError> {
     let bytes = bytes_of(alloc, key)?;
     shown(alloc, &bytes)
 }
 
 /// A line that sets an entry.
-fn told_set_attr(
+fn show_set_attr(
     alloc: Global,
     op: OpId,
     key: &Key<'_>,
     attribute: &[u8],
 ) -> Result<String, AllocError> {
-    let key = told_key(alloc, key)?;
+    let key = show_key(alloc, key)?;
     let attribute = shown(alloc, attribute)?;
     format!(in alloc; "set-attr {} {key}{attribute}", op.number())
 }
 
 /// A line that takes an entry out.
-fn told_drop_attr(alloc: Global, op: OpId, key: &Key<'_>) -> Result<String, AllocError> {
-    let key = told_key(alloc, key)?;
+fn show_drop_attr(alloc: Global, op: OpId, key: &Key<'_>) -> Result<String, AllocError> {
+    let key = show_key(alloc, key)?;
     format!(in alloc; "drop-attr {} {key}", op.number())
 }
 
 /// A line that canonicalizes.
-fn told_canon(alloc: Global, limit: Option<u32>) -> Result<String, AllocError> {
+fn show_canon(alloc: Global, limit: Option<u32>) -> Result<String, AllocError> {
     match limit {
         Some(limit) => format!(in alloc; "canon {limit}"),
         None => String::from_str(alloc, "canon"),
@@ -110,7 +110,7 @@ fn write_list(out: &mut String, name: &str, list: Option<&[u8]>) -> Result<(), A
 }
 
 /// The lists of a conversion.
-fn told_lists(alloc: Global, clauses: &Clauses<'_>) -> Result<String, AllocError> {
+fn show_lists(alloc: Global, clauses: &Clauses<'_>) -> Result<String, AllocError> {
     let mut out = String::new(alloc);
     write_list(&mut out, " legal ", clauses.legal)?;
     write_list(&mut out, " illegal ", clauses.illegal)?;
@@ -120,31 +120,31 @@ fn told_lists(alloc: Global, clauses: &Clauses<'_>) -> Result<String, AllocError
 }
 
 /// The target of a conversion.
-fn told_target(alloc: Global, full: bool, clauses: &Clauses<'_>) -> Result<String, AllocError> {
+fn show_target(alloc: Global, full: bool, clauses: &Clauses<'_>) -> Result<String, AllocError> {
     let mode = if full { "full" } else { "partial" };
-    let lists = told_lists(alloc, clauses)?;
-    let depth = told_number(alloc, clauses.depth)?;
+    let lists = show_lists(alloc, clauses)?;
+    let depth = show_number(alloc, clauses.depth)?;
     format!(in alloc; "{mode}{lists} depth {depth}")
 }
 
 /// A line that converts.
-fn told_convert(alloc: Global, full: bool, clauses: &Clauses<'_>) -> Result<String, AllocError> {
-    let target = told_target(alloc, full, clauses)?;
+fn show_convert(alloc: Global, full: bool, clauses: &Clauses<'_>) -> Result<String, AllocError> {
+    let target = show_target(alloc, full, clauses)?;
     format!(in alloc; "convert {target}")
 }
 
 /// A line that converts, and lists each applied rule.
-fn told_convert_trace(
+fn show_convert_trace(
     alloc: Global,
     full: bool,
     clauses: &Clauses<'_>,
 ) -> Result<String, AllocError> {
-    let target = told_target(alloc, full, clauses)?;
+    let target = show_target(alloc, full, clauses)?;
     format!(in alloc; "convert trace {target}")
 }
 
 /// A rule at an operation.
-fn told_apply(alloc: Global, rule: &RuleName<'_>, op: OpId) -> Result<String, AllocError> {
+fn show_apply(alloc: Global, rule: &RuleName<'_>, op: OpId) -> Result<String, AllocError> {
     match rule {
         RuleName::Number(number) => format!(in alloc; "apply {number} {}", op.number()),
         RuleName::Word(word) => {
@@ -155,58 +155,58 @@ fn told_apply(alloc: Global, rule: &RuleName<'_>, op: OpId) -> Result<String, Al
 }
 
 /// A command that edits.
-fn told_edit(alloc: Global, command: &Command<'_>) -> Result<String, AllocError> {
+fn show_edit(alloc: Global, command: &Command<'_>) -> Result<String, AllocError> {
     match command {
-        Command::SetOperand { op, operand, value } => told_set(alloc, *op, *operand, *value),
-        Command::Move { op, point } => told_move(alloc, *op, point),
-        Command::SetAttr { op, key, attribute } => told_set_attr(alloc, *op, key, attribute),
-        Command::DropAttr { op, key } => told_drop_attr(alloc, *op, key),
-        Command::Replace { old, new } => told_replace(alloc, *old, *new),
+        Command::SetOperand { op, operand, value } => show_set(alloc, *op, *operand, *value),
+        Command::Move { op, point } => show_move(alloc, *op, point),
+        Command::SetAttr { op, key, attribute } => show_set_attr(alloc, *op, key, attribute),
+        Command::DropAttr { op, key } => show_drop_attr(alloc, *op, key),
+        Command::Replace { old, new } => show_replace(alloc, *old, *new),
         Command::Erase(op) => format!(in alloc; "erase {}", op.number()),
-        Command::Insert { point, operation } => told_insert(alloc, point, operation),
+        Command::Insert { point, operation } => show_insert(alloc, point, operation),
         _ => String::from_str(alloc, "no edit"),
     }
 }
 
 /// A command.
-fn told_command(alloc: Global, command: &Command<'_>) -> Result<String, AllocError> {
+fn show_command(alloc: Global, command: &Command<'_>) -> Result<String, AllocError> {
     match command {
         Command::Report(kind) => format!(in alloc; "report {}", kind.number()),
         Command::Print => String::from_str(alloc, "print"),
         Command::Detach(kind) => format!(in alloc; "detach {}", kind.number()),
         Command::Resync(kind) => format!(in alloc; "resync {}", kind.number()),
-        Command::Canon(limit) => told_canon(alloc, *limit),
-        Command::Convert { full, clauses } => told_convert(alloc, *full, clauses),
+        Command::Canon(limit) => show_canon(alloc, *limit),
+        Command::Convert { full, clauses } => show_convert(alloc, *full, clauses),
         Command::Sweep => String::from_str(alloc, "sweep"),
-        Command::Apply { rule, op } => told_apply(alloc, rule, *op),
+        Command::Apply { rule, op } => show_apply(alloc, rule, *op),
         Command::Begin => String::from_str(alloc, "begin"),
         Command::Commit => String::from_str(alloc, "commit"),
         Command::Rollback => String::from_str(alloc, "rollback"),
-        _ => told_edit(alloc, command),
+        _ => show_edit(alloc, command),
     }
 }
 
 /// What a line says of patterns that no check proves.
-fn told_proved(proved: bool) -> &'static str {
+fn show_proved(proved: bool) -> &'static str {
     if proved { " proved" } else { "" }
 }
 
 /// A line that rewrites by some rules.
-fn told_rewrite(
+fn show_rewrite(
     alloc: Global,
     rules: &[u8],
     proved: bool,
     limit: Option<u32>,
 ) -> Result<String, AllocError> {
     let rules = shown(alloc, rules)?;
-    let proved = told_proved(proved);
-    let limit = told_number(alloc, limit)?;
+    let proved = show_proved(proved);
+    let limit = show_number(alloc, limit)?;
     format!(in alloc; "rewrite {rules}{proved} limit {limit}")
 }
 
 /// A line that rewrites by some rules, or by those of canonicalization, and lists each rewrite (`trace`) or counts what
 /// fired (`fired`).
-fn told_trace(
+fn show_trace(
     alloc: Global,
     form: &str,
     rules: Option<&[u8]>,
@@ -217,19 +217,19 @@ fn told_trace(
         Some(rules) => shown(alloc, rules)?,
         None => String::from_str(alloc, "all")?,
     };
-    let proved = told_proved(proved);
-    let limit = told_number(alloc, limit)?;
+    let proved = show_proved(proved);
+    let limit = show_number(alloc, limit)?;
     format!(in alloc; "{form} {rules}{proved} limit {limit}")
 }
 
 /// A line that canonicalizes one operation.
-fn told_canon_at(alloc: Global, op: OpId, limit: Option<u32>) -> Result<String, AllocError> {
-    let limit = told_number(alloc, limit)?;
+fn show_canon_at(alloc: Global, op: OpId, limit: Option<u32>) -> Result<String, AllocError> {
+    let limit = show_number(alloc, limit)?;
     format!(in alloc; "canon {} limit {limit}", op.number())
 }
 
 /// A line that asks why rules don't apply at an operation.
-fn told_why(alloc: Global, op: OpId, rule: &Option<RuleName<'_>>) -> Result<String, AllocError> {
+fn show_why(alloc: Global, op: OpId, rule: &Option<RuleName<'_>>) -> Result<String, AllocError> {
     match rule {
         None => format!(in alloc; "why {} all", op.number()),
         Some(RuleName::Number(number)) => format!(in alloc; "why {} {number}", op.number()),
@@ -241,105 +241,105 @@ fn told_why(alloc: Global, op: OpId, rule: &Option<RuleName<'_>>) -> Result<Stri
 }
 
 /// A line that asks for the rows about an operation or a value.
-fn told_about(alloc: Global, kind: Kind, subject: &Subject) -> Result<String, AllocError> {
+fn show_about(alloc: Global, kind: Kind, subject: &Subject) -> Result<String, AllocError> {
     match subject {
         Subject::Op(op) => format!(in alloc; "report {} of op {}", kind.number(), op.number()),
         Subject::Val(value) => {
-            let value = told_value(alloc, *value)?;
+            let value = show_value(alloc, *value)?;
             format!(in alloc; "report {} of value {value}", kind.number())
         }
     }
 }
 
 /// An order.
-fn told_order(alloc: Global, order: &SessionCommand<'_>) -> Result<String, AllocError> {
+fn show_session_command(alloc: Global, order: &SessionCommand<'_>) -> Result<String, AllocError> {
     match order {
         SessionCommand::Attach(kind) => format!(in alloc; "attach {}", kind.number()),
         SessionCommand::PrintIds => String::from_str(alloc, "ids"),
-        SessionCommand::ReportAbout { kind, subject } => told_about(alloc, *kind, subject),
+        SessionCommand::ReportAbout { kind, subject } => show_about(alloc, *kind, subject),
         SessionCommand::Rewrite {
             rules,
             proved,
             limit,
-        } => told_rewrite(alloc, rules, *proved, *limit),
+        } => show_rewrite(alloc, rules, *proved, *limit),
         SessionCommand::Trace {
             rules,
             proved,
             limit,
-        } => told_trace(alloc, "trace", *rules, *proved, *limit),
+        } => show_trace(alloc, "trace", *rules, *proved, *limit),
         SessionCommand::Fired {
             rules,
             proved,
             limit,
-        } => told_trace(alloc, "fired", *rules, *proved, *limit),
-        SessionCommand::TraceConvert { full, clauses } => told_convert_trace(alloc, *full, clauses),
-        SessionCommand::CanonAt { op, limit } => told_canon_at(alloc, *op, *limit),
-        SessionCommand::Why { op, rule } => told_why(alloc, *op, rule),
+        } => show_trace(alloc, "fired", *rules, *proved, *limit),
+        SessionCommand::TraceConvert { full, clauses } => show_convert_trace(alloc, *full, clauses),
+        SessionCommand::CanonAt { op, limit } => show_canon_at(alloc, *op, *limit),
+        SessionCommand::Why { op, rule } => show_why(alloc, *op, rule),
     }
 }
 
 /// A line that checks a pattern.
-fn told_check(alloc: Global, name: &[u8], width: Option<u32>) -> Result<String, AllocError> {
+fn show_check(alloc: Global, name: &[u8], width: Option<u32>) -> Result<String, AllocError> {
     let name = shown(alloc, name)?;
-    let width = told_number(alloc, width)?;
+    let width = show_number(alloc, width)?;
     format!(in alloc; "check {name} width {width}")
 }
 
 /// A line that samples a pattern.
-fn told_sample(alloc: Global, name: &[u8], width: u32) -> Result<String, AllocError> {
+fn show_sample(alloc: Global, name: &[u8], width: u32) -> Result<String, AllocError> {
     let name = shown(alloc, name)?;
     format!(in alloc; "check {name} width {width} sampled")
 }
 
 /// A line that defines a pattern.
-fn told_pattern(alloc: Global, text: &[u8]) -> Result<String, AllocError> {
+fn show_pattern(alloc: Global, text: &[u8]) -> Result<String, AllocError> {
     let text = shown(alloc, text)?;
     format!(in alloc; "pattern {text}")
 }
 
 /// A line that defines a pattern in place of another one.
-fn told_redefined(alloc: Global, text: &[u8]) -> Result<String, AllocError> {
+fn show_redefined(alloc: Global, text: &[u8]) -> Result<String, AllocError> {
     let text = shown(alloc, text)?;
     format!(in alloc; "pattern! {text}")
 }
 
 /// A line that removes a pattern.
-fn told_forget(alloc: Global, name: &[u8]) -> Result<String, AllocError> {
+fn show_forget(alloc: Global, name: &[u8]) -> Result<String, AllocError> {
     let name = shown(alloc, name)?;
     format!(in alloc; "forget {name}")
 }
 
 /// An order about patterns.
-fn told_registry_order(alloc: Global, order: &RegistryCommand<'_>) -> Result<String, AllocError> {
+fn show_registry_command(alloc: Global, order: &RegistryCommand<'_>) -> Result<String, AllocError> {
     match order {
-        RegistryCommand::Define(text) => told_pattern(alloc, text),
-        RegistryCommand::Redefine(text) => told_redefined(alloc, text),
-        RegistryCommand::Forget(name) => told_forget(alloc, name),
+        RegistryCommand::Define(text) => show_pattern(alloc, text),
+        RegistryCommand::Redefine(text) => show_redefined(alloc, text),
+        RegistryCommand::Forget(name) => show_forget(alloc, name),
         RegistryCommand::Patterns => String::from_str(alloc, "patterns"),
-        RegistryCommand::Check { name, width } => told_check(alloc, name, *width),
+        RegistryCommand::Check { name, width } => show_check(alloc, name, *width),
         RegistryCommand::CheckAll => String::from_str(alloc, "check all"),
-        RegistryCommand::Sample { name, width } => told_sample(alloc, name, *width),
+        RegistryCommand::Sample { name, width } => show_sample(alloc, name, *width),
     }
 }
 
 /// What a line says.
-fn told_said(alloc: Global, line: &Line<'_>) -> Result<String, AllocError> {
+fn show_said(alloc: Global, line: &Line<'_>) -> Result<String, AllocError> {
     match line {
         Line::Empty => String::from_str(alloc, "nothing"),
         Line::BadCommand => String::from_str(alloc, "bad"),
-        Line::Command(command) => told_command(alloc, command),
-        Line::Session(order) => told_order(alloc, order),
-        Line::Registry(order) => told_registry_order(alloc, order),
+        Line::Command(command) => show_command(alloc, command),
+        Line::Session(order) => show_session_command(alloc, order),
+        Line::Registry(order) => show_registry_command(alloc, order),
     }
 }
 
 /// A line. (The checker of borrows has to meet each type that a line may hold.)
-fn told_line(alloc: Global, text: &[u8]) -> Result<String, AllocError> {
+fn show_line(alloc: Global, text: &[u8]) -> Result<String, AllocError> {
     let _command = Line::Command(Command::Print);
     let _order = Line::Session(SessionCommand::PrintIds);
     let _registered = Line::Registry(RegistryCommand::Patterns);
     let line = read_line(text);
-    let said = told_said(alloc, &line)?;
+    let said = show_said(alloc, &line)?;
     match expected_of(text) {
         Some(refusal) => {
             format!(in alloc; "expects {} {} {said}", refusal.number(), refusal.word())
@@ -349,7 +349,7 @@ fn told_line(alloc: Global, text: &[u8]) -> Result<String, AllocError> {
 }
 
 /// A number, if there is one.
-fn told_number(alloc: Global, number: Option<u32>) -> Result<String, AllocError> {
+fn show_number(alloc: Global, number: Option<u32>) -> Result<String, AllocError> {
     match number {
         Some(number) => format!(in alloc; "{number}"),
         None => String::from_str(alloc, "none"),
@@ -357,7 +357,7 @@ fn told_number(alloc: Global, number: Option<u32>) -> Result<String, AllocError>
 }
 
 /// A value.
-fn told_value(alloc: Global, value: Value) -> Result<String, AllocError> {
+fn show_value(alloc: Global, value: Value) -> Result<String, AllocError> {
     match value {
         Value::Result(op, place) => format!(in alloc; "{}.{place}", op.number()),
         Value::Arg(op, region, place) => format!(in alloc; "{}.{region}.{place}", op.number()),
@@ -365,9 +365,9 @@ fn told_value(alloc: Global, value: Value) -> Result<String, AllocError> {
 }
 
 /// A value, if there is one.
-fn told_some_value(alloc: Global, value: Option<Value>) -> Result<String, AllocError> {
+fn show_some_value(alloc: Global, value: Option<Value>) -> Result<String, AllocError> {
     match value {
-        Some(value) => told_value(alloc, value),
+        Some(value) => show_value(alloc, value),
         None => String::from_str(alloc, "none"),
     }
 }
@@ -375,18 +375,18 @@ fn told_some_value(alloc: Global, value: Option<Value>) -> Result<String, AllocE
 /// Returns the answer to bytes.
 fn told(alloc: Global, call: &str, bytes: &[u8]) -> Result<String, AllocError> {
     match call {
-        "line" => told_line(alloc, bytes),
+        "line" => show_line(alloc, bytes),
         "split" => both_shown(alloc, split(bytes)),
         "first" => both_shown(alloc, split_line(bytes)),
         "word" => both_shown(alloc, split_word(bytes)),
         "trim" => shown(alloc, trim(bytes)),
-        "kind" => told_number(
+        "kind" => show_number(
             alloc,
             kind_named(bytes).map(|kind| u32::from(kind.number())),
         ),
-        "op" => told_number(alloc, op_named(bytes).map(|op| op.number())),
-        "value" => told_some_value(alloc, value_named(bytes)),
-        _ => told_number(alloc, numbers::parse_number(bytes)),
+        "op" => show_number(alloc, op_named(bytes).map(|op| op.number())),
+        "value" => show_some_value(alloc, value_named(bytes)),
+        _ => show_number(alloc, numbers::parse_number(bytes)),
     }
 }
 

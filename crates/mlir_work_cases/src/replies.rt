@@ -144,7 +144,7 @@ fn write_box(writer: &mut Vec<u8>, text: &str) -> Result<(), WriteFault> {
 }
 
 /// What was expected: `7 HasUses`.
-fn write_wanted(writer: &mut Vec<u8>, text: &str) -> Result<(), WriteFault> {
+fn write_expected_refusal(writer: &mut Vec<u8>, text: &str) -> Result<(), WriteFault> {
     let (count, word) = first_word(text);
     write_expected(writer, parse_number(count), refusal(word))
 }
@@ -159,7 +159,7 @@ fn write_reply(writer: &mut Vec<u8>, call: &str, text: &str) -> Result<(), Write
         "came" => write_what_came(writer, text),
         "module" => write_module(writer, text),
         "attach" => write_box(writer, text),
-        "expected" => write_wanted(writer, text),
+        "expected" => write_expected_refusal(writer, text),
         "rows" => write_report_heading(writer, kind(text)),
         "stale" => write_report_stale(writer, kind(text)),
         "memory" => write_report_memory(writer, kind(text)),

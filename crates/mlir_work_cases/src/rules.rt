@@ -1,7 +1,7 @@
 //! A rule at an operation of a module.
 use crate::texts::{bytes, first_word, small, write_all_shown};
 use crate::witness::Witness;
-use crate::worlds::{bench_from, text_of};
+use crate::worlds::{rewriter_from, text_of};
 use ir_event::types::ids::OpId;
 use mlir_work_session::Bench;
 use mlir_work_session::greedy::patterns::apply::apply;
@@ -56,7 +56,7 @@ pub fn answer(alloc: Global, line: &str) -> Result<String, AllocError> {
     let (op, rest) = first_word(rest);
     let (next, text) = first_word(rest);
     let text = bytes(alloc, text)?;
-    match bench_from(alloc, &text, small(next)) {
+    match rewriter_from(alloc, &text, small(next)) {
         Ok(mut bench) => applied(alloc, &mut bench, small(rule), OpId::new(small(op))),
         Err(refusal) => format!(in alloc; "{refusal}"),
     }

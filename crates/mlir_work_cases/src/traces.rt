@@ -4,7 +4,7 @@ ghost use Rattle.std.specs.Prelude.{◌≡◌, []};
 use crate::events::write_event;
 use crate::texts::{bytes, write_all_shown};
 use crate::witness::Witness;
-use crate::worlds::bench_of;
+use crate::worlds::rewriter_of;
 use ir_event::event::Event;
 use ir_event::types::context::Context;
 use mlir_work_session::Bench;
@@ -120,7 +120,7 @@ fn traced(
 pub fn trace(alloc: Global, text: &str) -> Result<String, AllocError> {
     let input = bytes(alloc, text)?;
     let (module, script) = split(&input);
-    match bench_of(alloc, module) {
+    match rewriter_of(alloc, module) {
         Ok(mut bench) => traced(alloc, input.len(), &mut bench, script),
         Err(refusal) => format!(in alloc; "{refusal}"),
     }

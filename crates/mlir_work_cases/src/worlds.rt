@@ -43,7 +43,11 @@ fn next_of(tree: &TreeOp) -> u32 {
 
 /// A bench over the module that a text spells, whose next free id is at least a number, or `BadToken` where it spells
 /// none.
-pub fn bench_from<L: Analysis>(alloc: Global, text: &[u8], least: u32) -> Result<Bench<L>, Refusal>
+pub fn rewriter_from<L: Analysis>(
+    alloc: Global,
+    text: &[u8],
+    least: u32,
+) -> Result<Bench<L>, Refusal>
     ensures { IfOk result (λ b. b.listeners ≡ []) }
 {
     let Ok((ctx, tree)) = read_new(alloc, 7, false, text) else {
@@ -58,10 +62,10 @@ pub fn bench_from<L: Analysis>(alloc: Global, text: &[u8], least: u32) -> Result
 }
 
 /// A bench over the module that a text spells, or `BadToken` where it spells none.
-pub fn bench_of<L: Analysis>(alloc: Global, text: &[u8]) -> Result<Bench<L>, Refusal>
+pub fn rewriter_of<L: Analysis>(alloc: Global, text: &[u8]) -> Result<Bench<L>, Refusal>
     ensures { IfOk result (λ b. b.listeners ≡ []) }
 {
-    bench_from(alloc, text, 0)
+    rewriter_from(alloc, text, 0)
 }
 
 /// The text of a world's module.

@@ -9,7 +9,7 @@ use Rattle.mlir_work_script_base.proofs.Joins.{grows_fails, grows_stays}
 use Rattle.mlir_work_json.specs.Lines.{json_text}
 use Rattle.mlir_work_run.specs.Ends.{HasStatus, IsFinal, LeavesAt}
 use Rattle.mlir_work_run.specs.Whole.{IsOutput, Setting}
-use Rattle.mlir_work_cli.specs.Json.{IsJsonOutput, IsTold, ReadsFor}
+use Rattle.mlir_work_cli.specs.Json.{IsJsonOutput, IsReported, ReadsFor}
 
 -- a flush after the writes
 pub flushed : {T E : Type 0} (a b c : Stream) (o : List ℕ) (r : Result T E) → Grows a b o → HandsOn b c r → Writes a c o r
@@ -27,13 +27,13 @@ kept_is : (Q : ℕ → List ℕ → Type 0) (kept : List ℕ) (status : ℕ) →
 kept_is Q kept status none (inl (final, (out, h, wrote))) = (final, subst (λ (xs : List ℕ). Q status xs) (sym wrote) h)
 kept_is Q kept status none (inr (four, h)) = absurd (none four)
 
-told_so : (setting : Setting) (boxes : List Shown) (input kept : List ℕ) (a b : Stream) (handed : Bool) (status told : ℕ) → IsFinal status × IsOutput setting boxes input status kept → IsTold status kept a b handed told → HasStatus (IsJsonOutput setting boxes input) a.contents b.contents told
+told_so : (setting : Setting) (boxes : List Shown) (input kept : List ℕ) (a b : Stream) (handed : Bool) (status told : ℕ) → IsFinal status × IsOutput setting boxes input status kept → IsReported status kept a b handed told → HasStatus (IsJsonOutput setting boxes input) a.contents b.contents told
 told_so setting boxes input kept a b handed status told ran (inl (e, wrote, on)) =
     subst (λ (n : ℕ). HasStatus (IsJsonOutput setting boxes input) a.contents b.contents n) (sym e) (inl (ran.0, (json_text kept, (kept, ran.1, refl), wrote.0)))
 told_so setting boxes input kept a b handed status told ran (inr (four, wrote)) = inr (four, inr (status, json_text kept, (kept, ran.1, refl), wrote.0))
 
 -- the JSON of the buffered output was written, or a prefix of it
-pub if_told : (o : Option (List ℕ)) (setting : Setting) (boxes : List Shown) (kept : List ℕ) (a b : Stream) (handed : Bool) (status told : ℕ) → (status ≡ 4 → ⊥) → IfSome o (λ input. HasStatus (IsOutput setting boxes input) (Some []) (Some kept) status) → IsTold status kept a b handed told → IfSome o (λ input. HasStatus (IsJsonOutput setting boxes input) a.contents b.contents told)
+pub if_told : (o : Option (List ℕ)) (setting : Setting) (boxes : List Shown) (kept : List ℕ) (a b : Stream) (handed : Bool) (status told : ℕ) → (status ≡ 4 → ⊥) → IfSome o (λ input. HasStatus (IsOutput setting boxes input) (Some []) (Some kept) status) → IsReported status kept a b handed told → IfSome o (λ input. HasStatus (IsJsonOutput setting boxes input) a.contents b.contents told)
 if_told None setting boxes kept a b handed status told none h t = tt
 if_told (Some input) setting boxes kept a b handed status told none h t = told_so setting boxes input kept a b handed status told (kept_is (IsOutput setting boxes input) kept status none h) t
 
@@ -69,7 +69,7 @@ fault_leaves taken left a b handed status four (inl h) stays = absurd (not_final
 fault_leaves taken left a b handed status four (inr h) stays = inr (refl, inl (h.1, stays))
 
 -- the JSON was written, or a prefix of it
-pub told_leaves : (taken left : Intake) (a b : Stream) (handed : Bool) (kept : List ℕ) (status told : ℕ) → (status ≡ 4 → ⊥) → ReadsFor taken left status → IsTold status kept a b handed told → LeavesAt taken left a b handed told
+pub told_leaves : (taken left : Intake) (a b : Stream) (handed : Bool) (kept : List ℕ) (status told : ℕ) → (status ≡ 4 → ⊥) → ReadsFor taken left status → IsReported status kept a b handed told → LeavesAt taken left a b handed told
 told_leaves taken left a b handed kept status told none reads (inl (e, wrote, on)) =
     let whole = whole_of taken left status none reads in
     subst (λ (n : ℕ). LeavesAt taken left a b handed n) (sym e) (inl (whole.0, whole.1, wrote.1, on))

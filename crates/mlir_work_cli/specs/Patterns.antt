@@ -42,8 +42,8 @@ pub record IsFirstWrong (registry new : RegistryModel) (lines : List (List ℕ))
 -- ---- theorems
 
 -- lines with a first malformed line are refused for its fault
-abbrev pub WrongLinesAreTold : Type 0
-WrongLinesAreTold = (registry new : RegistryModel) (lines : List (List ℕ)) (n : ℕ) (line : List ℕ) (fault : Fault)
+abbrev pub WrongLinesAreReported : Type 0
+WrongLinesAreReported = (registry new : RegistryModel) (lines : List (List ℕ)) (n : ℕ) (line : List ℕ) (fault : Fault)
     → IsFirstWrong registry new lines n line fault → defined_by registry lines ≡ Err fault
 
 -- refused lines have a first malformed line

@@ -7,7 +7,7 @@ ghost use Rattle.mlir_work_run.specs.session.Registry.{registry_model};
 ghost use Rattle.mlir_work_run.specs.session.Writes.{Stays, Writes};
 ghost use Rattle.mlir_work_run.specs.Ends.{HasFailed, HasStatus, LeavesAt};
 ghost use Rattle.mlir_work_run.specs.Whole.{IsOutput, setting_with};
-ghost use Rattle.mlir_work_cli.specs.Json.{IsJsonOutput, IsTold, ReadsFor};
+ghost use Rattle.mlir_work_cli.specs.Json.{IsJsonOutput, IsReported, ReadsFor};
 
 use mlir_work_json::text::json_text;
 use mlir_work_run::analysis_source::AnalysisSource;
@@ -59,7 +59,7 @@ fn kept_output<L: AnalysisSource, R: Source>(
 
 /// Writes an output as JSON and flushes the writer. Returns its status, or 4 if a write fails.
 fn tell<W: Sink>(alloc: Global, writer: &mut W, status: u8, output: &[u8]) -> Result<u8, AllocError>
-    ensures told { IfOk result (λ told. IsTold status output.now
+    ensures told { IfOk result (λ told. IsReported status output.now
         (W.stream writer.old) (W.stream writer.new) (W.handed writer.new) told) }
     ensures unwritten { OnErr result (Stays (W.stream writer.old) (W.stream writer.new)) }
 {

@@ -64,12 +64,12 @@ begins_op (b ∷ bs) = b == 35
 
 -- the trace of a rewrite by a rule has an operation after the number and the word of the rule; a constant of a
 -- pattern named `rewrote` has none
-abbrev pub tells_rewrite : List ℕ → Bool
-tells_rewrite line = bytes_eq (cell line) (codes "rewrote") && begins_op (trailing (after_second line))
+abbrev pub is_rule_trace : List ℕ → Bool
+is_rule_trace line = bytes_eq (cell line) (codes "rewrote") && begins_op (trailing (after_second line))
 
 -- the trace of a rewrite by a user pattern has an operation after the name
-abbrev pub tells_pattern : List ℕ → Bool
-tells_pattern line = bytes_eq (cell line) (codes "rewrote") && begins_op (after_second line)
+abbrev pub is_pattern_trace : List ℕ → Bool
+is_pattern_trace line = bytes_eq (cell line) (codes "rewrote") && begins_op (after_second line)
 
 -- the count of a rule has a number after the number and the word of the rule; a constant of a pattern named `fired` has
 -- its type there
@@ -90,8 +90,8 @@ is_verdict word = says_width word || bytes_eq word (codes "unchecked")
 
 -- the line of an unproved pattern has a check result after the name; a pattern named `unproved`, or a constant of
 -- that name in a check, has none
-abbrev pub tells_unproved : List ℕ → Bool
-tells_unproved line =
+abbrev pub is_unproved_line : List ℕ → Bool
+is_unproved_line line =
     bytes_eq (cell line) (codes "unproved") && (is_verdict (cell (after_second line)) && not (has_arrow line))
 
 -- a check result, or the refusal of a check
@@ -99,8 +99,8 @@ abbrev pub is_answer : List ℕ → Bool
 is_answer word = says_width word || bytes_eq word (codes "refused")
 
 -- the line of a checked pattern has the answer after the name
-abbrev pub tells_checked : List ℕ → Bool
-tells_checked line =
+abbrev pub is_checked_line : List ℕ → Bool
+is_checked_line line =
     bytes_eq (cell line) (codes "checked") && (is_answer (cell (after_second line)) && not (has_arrow line))
 
 -- a row of `symbols` or a verdict on a rule: an operation follows the word
@@ -127,12 +127,12 @@ abbrev pub word_form : List ℕ → LineKind
 word_form line =
     if bytes_eq (cell line) (codes "--") then Heading
     else if begins_op (trailing line) then symbol_form (cell line)
-    else if tells_rewrite line then AppliedRule
-    else if tells_pattern line then AppliedPattern
+    else if is_rule_trace line then AppliedRule
+    else if is_pattern_trace line then AppliedPattern
     else if counts_rule line then FiredRule
     else if counts_pattern line then FiredPattern
-    else if tells_unproved line then Unproved
-    else if tells_checked line then Checked
+    else if is_unproved_line line then Unproved
+    else if is_checked_line line then Checked
     else if is_outcome (second line) then Outcome
     else if has_arrow line then Pattern
     else refusal_form (cell line)

@@ -43,10 +43,10 @@ data_of (Number n) = number (unsigned n)
 data_of (Texts words) = array (items_of (map text_data words))
 
 -- members are set one by one; the object keeps them ordered by their keys
-abbrev pub put_all : List Member → Members → Members
-put_all [] found = found
-put_all (m ∷ ms) found = put_all ms (put m.0 (data_of m.1) found)
+abbrev pub add_members : List Member → Members → Members
+add_members [] found = found
+add_members (m ∷ ms) found = add_members ms (put m.0 (data_of m.1) found)
 
 -- unless memory runs out, the object has these members too
-abbrev pub Puts : Result (Unit {0}) AllocError → BTreeMap (String Global) Value → BTreeMap (String Global) Value → List Member → Type 0
-Puts result old new ms = OnOk result (members_view new.entries ≡ put_all ms (members_view old.entries))
+abbrev pub HasMembers : Result (Unit {0}) AllocError → BTreeMap (String Global) Value → BTreeMap (String Global) Value → List Member → Type 0
+HasMembers result old new ms = OnOk result (members_view new.entries ≡ add_members ms (members_view old.entries))

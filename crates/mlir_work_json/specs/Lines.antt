@@ -4,7 +4,7 @@ use Rattle.serde_json.specs.Data.{Data, object, no_members}
 use Rattle.serde_json.specs.Written.{compact_text}
 use Rattle.mlir_work_json.specs.Cuts.{parts}
 use Rattle.mlir_work_json.specs.Forms.{form_of}
-use Rattle.mlir_work_json.specs.Items.{Member, text, put_all}
+use Rattle.mlir_work_json.specs.Items.{Member, text, add_members}
 use Rattle.mlir_work_json.specs.Replies.{reply_members, heading_members, unparsed_members, unattached_members}
 use Rattle.mlir_work_json.specs.Rows.{use_members, constant_members, dead_members, unreached_members, diagnostic_members, effect_members, definition_members, reference_members, unresolved_members, mismatch_members, reason_members, stayed_members, rewritten_members, applied_members, fired_rule_members, fired_pattern_members, unproved_members, checked_members, pattern_members, outcome_members}
 use Rattle.mlir_work_json.specs.declared.form.LineKind.{LineKind}
@@ -46,7 +46,7 @@ line_members line = form_members (form_of line) line
 
 -- the object of a line
 abbrev pub line_data : List ℕ → Data
-line_data line = object (put_all (line_members line) no_members)
+line_data line = object (add_members (line_members line) no_members)
 
 -- a line as JSON, both without line feeds
 abbrev pub json_line : List ℕ → List ℕ

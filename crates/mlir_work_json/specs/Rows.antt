@@ -120,8 +120,8 @@ reason_members line =
     kind (codes "why") ∷ text (codes "op") (second line) ∷ verdict_members (after_second line)
 
 -- the rule that was tried last with its failure, `27 expand-remainder makes-illegal`, or `no-rule`
-abbrev pub stay_members : List ℕ → List Member
-stay_members said =
+abbrev pub match_failure_members : List ℕ → List Member
+match_failure_members said =
     if is_some (number_of (cell said))
     then numeral (codes "rule") (cell said) ∷ text (codes "word") (second said)
     ∷ text (codes "said") (after_second said) ∷ []
@@ -130,7 +130,7 @@ stay_members said =
 -- `stays #5 27 expand-remainder makes-illegal`, `stays #5 no-rule`
 abbrev pub stayed_members : List ℕ → List Member
 stayed_members line =
-    kind (codes "stays") ∷ text (codes "op") (second line) ∷ stay_members (after_second line)
+    kind (codes "stays") ∷ text (codes "op") (second line) ∷ match_failure_members (after_second line)
 
 -- ---- user patterns
 

@@ -2,7 +2,7 @@
 ghost use Rattle.std.specs.Prelude.{◌≡◌};
 ghost use Rattle.mlir_work_json.specs.Forms.{are_three, are_two, begins_module, begins_number, begins_op, form_of};
 ghost use Rattle.mlir_work_json.specs.Forms.{has_arrow, is_number, is_outcome, is_verdict, named_form, names_value, op_form};
-ghost use Rattle.mlir_work_json.specs.Forms.{counts_pattern, counts_rule, is_answer, refusal_form, symbol_form, tells_checked, tells_pattern, tells_rewrite, tells_unproved, value_form};
+ghost use Rattle.mlir_work_json.specs.Forms.{counts_pattern, counts_rule, is_answer, refusal_form, symbol_form, is_checked_line, is_pattern_trace, is_rule_trace, is_unproved_line, value_form};
 ghost use Rattle.mlir_work_json.specs.Forms.{word_form};
 
 use crate::cuts::{after_cell, cut_cell, has_byte};
@@ -173,8 +173,8 @@ fn begins_op(text: &[u8]) -> bool
 }
 
 /// Returns whether a line is the trace of a rewrite by a rule.
-fn tells_rewrite(line: &[u8]) -> bool
-    ensures { result ≡ tells_rewrite line.now }
+fn is_rule_trace(line: &[u8]) -> bool
+    ensures { result ≡ is_rule_trace line.now }
 {
     let (word, trailing) = cut_cell(line);
     let rule = after_cell(trailing);
@@ -182,8 +182,8 @@ fn tells_rewrite(line: &[u8]) -> bool
 }
 
 /// Returns whether a line is the trace of a rewrite by a user pattern.
-fn tells_pattern(line: &[u8]) -> bool
-    ensures { result ≡ tells_pattern line.now }
+fn is_pattern_trace(line: &[u8]) -> bool
+    ensures { result ≡ is_pattern_trace line.now }
 {
     let (word, trailing) = cut_cell(line);
     word == b"rewrote".as_slice() && begins_op(after_cell(trailing))
@@ -221,8 +221,8 @@ fn is_verdict(word: &[u8]) -> bool
 }
 
 /// Returns whether a line names a pattern that no check proves.
-fn tells_unproved(line: &[u8]) -> bool
-    ensures { result ≡ tells_unproved line.now }
+fn is_unproved_line(line: &[u8]) -> bool
+    ensures { result ≡ is_unproved_line line.now }
 {
     let (word, trailing) = cut_cell(line);
     let said = after_cell(trailing);
@@ -237,8 +237,8 @@ fn is_answer(word: &[u8]) -> bool
 }
 
 /// Returns whether a line names a pattern that a command checked.
-fn tells_checked(line: &[u8]) -> bool
-    ensures { result ≡ tells_checked line.now }
+fn is_checked_line(line: &[u8]) -> bool
+    ensures { result ≡ is_checked_line line.now }
 {
     let (word, trailing) = cut_cell(line);
     let said = after_cell(trailing);
@@ -294,10 +294,10 @@ fn word_form(line: &[u8]) -> LineKind
     if begins_op(trailing) {
         return symbol_form(word);
     }
-    if tells_rewrite(line) {
+    if is_rule_trace(line) {
         return LineKind::AppliedRule;
     }
-    if tells_pattern(line) {
+    if is_pattern_trace(line) {
         return LineKind::AppliedPattern;
     }
     if counts_rule(line) {
@@ -306,10 +306,10 @@ fn word_form(line: &[u8]) -> LineKind
     if counts_pattern(line) {
         return LineKind::FiredPattern;
     }
-    if tells_unproved(line) {
+    if is_unproved_line(line) {
         return LineKind::Unproved;
     }
-    if tells_checked(line) {
+    if is_checked_line(line) {
         return LineKind::Checked;
     }
     if is_outcome(cut_cell(trailing).0) {

@@ -2,7 +2,7 @@
 ghost use Rattle.std.specs.Prelude.{◌≡◌, ◌==◌, [], ◌∷◌, map, IfOk};
 ghost use Rattle.serde_json.specs.View.{view};
 ghost use Rattle.mlir_work_json.specs.Cuts.{cells, parts};
-ghost use Rattle.mlir_work_json.specs.Items.{Puts, Texts, text, numeral, text_data};
+ghost use Rattle.mlir_work_json.specs.Items.{HasMembers, Texts, text, numeral, text_data};
 
 use crate::cuts::cut_cell;
 use crate::numbers::parse_number;
@@ -27,7 +27,7 @@ pub(crate) fn set_text(
     key: &str,
     word: &[u8],
 ) -> Result<(), AllocError>
-    ensures { Puts result object.old object.new (text key.now word.now ∷ []) }
+    ensures { HasMembers result object.old object.new (text key.now word.now ∷ []) }
 {
     let value = text_value(alloc, word)?;
     put(object, alloc, key, value)
@@ -40,7 +40,7 @@ pub(crate) fn set_number(
     key: &str,
     word: &[u8],
 ) -> Result<(), AllocError>
-    ensures { Puts result object.old object.new (numeral key.now word.now ∷ []) }
+    ensures { HasMembers result object.old object.new (numeral key.now word.now ∷ []) }
 {
     match parse_number(word) {
         Some(n) => put(object, alloc, key, Value::from(n)),
@@ -83,7 +83,7 @@ pub(crate) fn set_cells(
     key: &str,
     text: &[u8],
 ) -> Result<(), AllocError>
-    ensures { Puts result object.old object.new ((key.now, Texts (cells text.now)) ∷ []) }
+    ensures { HasMembers result object.old object.new ((key.now, Texts (cells text.now)) ∷ []) }
 {
     let values = cells_value(alloc, text)?;
     put(object, alloc, key, Value::Array(values))
@@ -97,7 +97,7 @@ pub(crate) fn set_parts(
     text: &[u8],
     end: u8,
 ) -> Result<(), AllocError>
-    ensures { Puts result object.old object.new ((key.now, Texts (parts (λ b. b == end) text.now)) ∷ []) }
+    ensures { HasMembers result object.old object.new ((key.now, Texts (parts (λ b. b == end) text.now)) ∷ []) }
 {
     let values = parts_value(alloc, text, end)?;
     put(object, alloc, key, Value::Array(values))

@@ -1,7 +1,7 @@
 //! The members of reply lines.
 ghost use Rattle.std.specs.Prelude.{◌≡◌, ◌∷◌, codes};
 ghost use Rattle.mlir_work_json.specs.Cuts.{trailing, cell};
-ghost use Rattle.mlir_work_json.specs.Items.{Puts, text};
+ghost use Rattle.mlir_work_json.specs.Items.{HasMembers, text};
 ghost use Rattle.mlir_work_json.specs.Replies.{about_members, place_members, worded_members, refusal_members, expected_members, result_members};
 ghost use Rattle.mlir_work_json.specs.Replies.{number_key, says_width, done_members, answer_members, reply_members, unparsed_members};
 ghost use Rattle.mlir_work_json.specs.Replies.{unattached_members, state_members, heading_members};
@@ -12,7 +12,7 @@ use std::alloc::{AllocError, Global};
 
 /// Sets the members of the note of a refusal, if there is one: `about #3 %v2.0`.
 fn set_about(object: &mut Object, alloc: Global, rest: &[u8]) -> Result<(), AllocError>
-    ensures { Puts result object.old object.new (about_members rest.now) }
+    ensures { HasMembers result object.old object.new (about_members rest.now) }
 {
     if rest.is_empty() {
         return Ok(());
@@ -22,7 +22,7 @@ fn set_about(object: &mut Object, alloc: Global, rest: &[u8]) -> Result<(), Allo
 
 /// Sets the operation of a refusal and the members of its note.
 fn set_refused_op(object: &mut Object, alloc: Global, place: &[u8]) -> Result<(), AllocError>
-    ensures { Puts result object.old object.new (text (codes "op") (cell place.now) ∷ about_members (trailing place.now)) }
+    ensures { HasMembers result object.old object.new (text (codes "op") (cell place.now) ∷ about_members (trailing place.now)) }
 {
     let (op, rest) = cut_cell(place);
     set_text(object, alloc, "op", op)?;
@@ -31,7 +31,7 @@ fn set_refused_op(object: &mut Object, alloc: Global, place: &[u8]) -> Result<()
 
 /// Sets the members of `about #3`, or of `at 17` with an optional note such as `about location`.
 fn set_worded(object: &mut Object, alloc: Global, place: &[u8]) -> Result<(), AllocError>
-    ensures { Puts result object.old object.new (worded_members place.now) }
+    ensures { HasMembers result object.old object.new (worded_members place.now) }
 {
     let (word, rest) = cut_cell(place);
     if word == b"about".as_slice() {
@@ -44,7 +44,7 @@ fn set_worded(object: &mut Object, alloc: Global, place: &[u8]) -> Result<(), Al
 
 /// Sets the members of the text after a refusal: nothing, `#2`, `at 17`, or a note.
 fn set_place(object: &mut Object, alloc: Global, place: &[u8]) -> Result<(), AllocError>
-    ensures { Puts result object.old object.new (place_members place.now) }
+    ensures { HasMembers result object.old object.new (place_members place.now) }
 {
     match place {
         [] => Ok(()),
@@ -55,7 +55,7 @@ fn set_place(object: &mut Object, alloc: Global, place: &[u8]) -> Result<(), All
 
 /// Sets the members of a refusal, `22 HasUses`, and of the text after it.
 fn set_refusal(object: &mut Object, alloc: Global, line: &[u8]) -> Result<(), AllocError>
-    ensures { Puts result object.old object.new (refusal_members line.now) }
+    ensures { HasMembers result object.old object.new (refusal_members line.now) }
 {
     let (refusal, rest) = cut_cell(line);
     let (word, place) = cut_cell(rest);
@@ -66,7 +66,7 @@ fn set_refusal(object: &mut Object, alloc: Global, line: &[u8]) -> Result<(), Al
 
 /// Sets the members of an expected refusal, `22 HasUses`.
 fn set_expected(object: &mut Object, alloc: Global, line: &[u8]) -> Result<(), AllocError>
-    ensures { Puts result object.old object.new (expected_members line.now) }
+    ensures { HasMembers result object.old object.new (expected_members line.now) }
 {
     let (refusal, word) = cut_cell(line);
     set_number(object, alloc, "expected", refusal)?;
@@ -97,7 +97,7 @@ fn set_result(
     word: &[u8],
     made: &[u8],
 ) -> Result<(), AllocError>
-    ensures { Puts result object.old object.new (result_members word.now made.now) }
+    ensures { HasMembers result object.old object.new (result_members word.now made.now) }
 {
     match made {
         [] => Ok(()),
@@ -108,7 +108,7 @@ fn set_result(
 
 /// Sets the members of an accepted reply: `ok`, `ok #12`, `converged 3`, `holds 8`, `holds`.
 fn set_done(object: &mut Object, alloc: Global, line: &[u8]) -> Result<(), AllocError>
-    ensures { Puts result object.old object.new (done_members line.now) }
+    ensures { HasMembers result object.old object.new (done_members line.now) }
 {
     let (word, made) = cut_cell(line);
     set_text(object, alloc, "reply", word)?;
@@ -117,7 +117,7 @@ fn set_done(object: &mut Object, alloc: Global, line: &[u8]) -> Result<(), Alloc
 
 /// Sets the members of the text after a reply's number.
 fn set_answer(object: &mut Object, alloc: Global, line: &[u8]) -> Result<(), AllocError>
-    ensures { Puts result object.old object.new (answer_members line.now) }
+    ensures { HasMembers result object.old object.new (answer_members line.now) }
 {
     let (word, rest) = cut_cell(line);
     if word == b"refused".as_slice() {
@@ -131,7 +131,7 @@ fn set_answer(object: &mut Object, alloc: Global, line: &[u8]) -> Result<(), All
 
 /// Sets the members of a reply line.
 pub(crate) fn set_reply(object: &mut Object, alloc: Global, line: &[u8]) -> Result<(), AllocError>
-    ensures { Puts result object.old object.new (reply_members line.now) }
+    ensures { HasMembers result object.old object.new (reply_members line.now) }
 {
     let (n, answer) = cut_cell(line);
     set_number(object, alloc, "n", n)?;
@@ -144,7 +144,7 @@ pub(crate) fn add_module_refused(
     alloc: Global,
     line: &[u8],
 ) -> Result<(), AllocError>
-    ensures { Puts result object.old object.new (unparsed_members line.now) }
+    ensures { HasMembers result object.old object.new (unparsed_members line.now) }
 {
     set_refusal(object, alloc, after_cell(after_cell(line)))
 }
@@ -155,7 +155,7 @@ pub(crate) fn add_attach_refused(
     alloc: Global,
     line: &[u8],
 ) -> Result<(), AllocError>
-    ensures { Puts result object.old object.new (unattached_members line.now) }
+    ensures { HasMembers result object.old object.new (unattached_members line.now) }
 {
     let (kind, rest) = cut_cell(after_cell(line));
     set_text(object, alloc, "attach", kind)?;
@@ -164,7 +164,7 @@ pub(crate) fn add_attach_refused(
 
 /// Sets the member for the word in place of the rows of a kind.
 fn set_state(object: &mut Object, alloc: Global, state: &[u8]) -> Result<(), AllocError>
-    ensures { Puts result object.old object.new (state_members state.now) }
+    ensures { HasMembers result object.old object.new (state_members state.now) }
 {
     if state.is_empty() {
         return Ok(());
@@ -174,7 +174,7 @@ fn set_state(object: &mut Object, alloc: Global, state: &[u8]) -> Result<(), All
 
 /// Sets the members of the heading of a kind's rows, or of the line in their place.
 pub(crate) fn set_heading(object: &mut Object, alloc: Global, line: &[u8]) -> Result<(), AllocError>
-    ensures { Puts result object.old object.new (heading_members line.now) }
+    ensures { HasMembers result object.old object.new (heading_members line.now) }
 {
     let (kind, state) = cut_cell(after_cell(line));
     set_text(object, alloc, "kind", kind)?;

@@ -1,10 +1,10 @@
 //! The members of report rows.
-ghost use Rattle.mlir_work_json.specs.Items.{Puts};
+ghost use Rattle.mlir_work_json.specs.Items.{HasMembers};
 ghost use Rattle.mlir_work_json.specs.Rows.{use_members, constant_members, dead_members, unreached_members};
 ghost use Rattle.mlir_work_json.specs.Rows.{diagnostic_members, effect_members, definition_members, reference_members};
 ghost use Rattle.mlir_work_json.specs.Rows.{unresolved_members, mismatch_members, said_members, pattern_members};
 ghost use Rattle.mlir_work_json.specs.Rows.{applied_members, change_members, erased_members, outcome_members, reason_members, rewritten_members};
-ghost use Rattle.mlir_work_json.specs.Rows.{checked_members, fired_pattern_members, fired_rule_members, stay_members, stayed_members, unproved_members, verdict_members};
+ghost use Rattle.mlir_work_json.specs.Rows.{checked_members, fired_pattern_members, fired_rule_members, match_failure_members, stayed_members, unproved_members, verdict_members};
 
 use crate::cuts::{BLANK, after_cell, cut_cell, without_last};
 use crate::members::{Object, set_number, set_parts, set_text};
@@ -14,7 +14,7 @@ use std::alloc::{AllocError, Global};
 
 /// Sets the members of a row of `uses`: `%a1.0.0 #3 0`.
 pub(crate) fn set_use(object: &mut Object, alloc: Global, line: &[u8]) -> Result<(), AllocError>
-    ensures { Puts result object.old object.new (use_members line.now) }
+    ensures { HasMembers result object.old object.new (use_members line.now) }
 {
     let (value, rest) = cut_cell(line);
     let (user, operand) = cut_cell(rest);
@@ -30,7 +30,7 @@ pub(crate) fn set_constant(
     alloc: Global,
     line: &[u8],
 ) -> Result<(), AllocError>
-    ensures { Puts result object.old object.new (constant_members line.now) }
+    ensures { HasMembers result object.old object.new (constant_members line.now) }
 {
     let (value, attribute) = cut_cell(line);
     set_text(object, alloc, "kind", b"constants")?;
@@ -40,7 +40,7 @@ pub(crate) fn set_constant(
 
 /// Sets the members of a row of `dead`: `#3`.
 pub(crate) fn set_dead(object: &mut Object, alloc: Global, line: &[u8]) -> Result<(), AllocError>
-    ensures { Puts result object.old object.new (dead_members line.now) }
+    ensures { HasMembers result object.old object.new (dead_members line.now) }
 {
     set_text(object, alloc, "kind", b"dead")?;
     set_text(object, alloc, "op", line)
@@ -52,7 +52,7 @@ pub(crate) fn set_unreached(
     alloc: Global,
     line: &[u8],
 ) -> Result<(), AllocError>
-    ensures { Puts result object.old object.new (unreached_members line.now) }
+    ensures { HasMembers result object.old object.new (unreached_members line.now) }
 {
     let (op, name) = cut_cell(line);
     set_text(object, alloc, "kind", b"unreached")?;
@@ -66,7 +66,7 @@ pub(crate) fn set_diagnostic(
     alloc: Global,
     line: &[u8],
 ) -> Result<(), AllocError>
-    ensures { Puts result object.old object.new (diagnostic_members line.now) }
+    ensures { HasMembers result object.old object.new (diagnostic_members line.now) }
 {
     let (op, rule) = cut_cell(line);
     set_text(object, alloc, "kind", b"diagnostics")?;
@@ -76,7 +76,7 @@ pub(crate) fn set_diagnostic(
 
 /// Sets the members of a row of `effects`: `#6 read write`.
 pub(crate) fn set_effect(object: &mut Object, alloc: Global, line: &[u8]) -> Result<(), AllocError>
-    ensures { Puts result object.old object.new (effect_members line.now) }
+    ensures { HasMembers result object.old object.new (effect_members line.now) }
 {
     let (op, words) = cut_cell(line);
     set_text(object, alloc, "kind", b"effects")?;
@@ -90,7 +90,7 @@ pub(crate) fn set_definition(
     alloc: Global,
     line: &[u8],
 ) -> Result<(), AllocError>
-    ensures { Puts result object.old object.new (definition_members line.now) }
+    ensures { HasMembers result object.old object.new (definition_members line.now) }
 {
     let (group, rest) = cut_cell(line);
     let (table, rest) = cut_cell(rest);
@@ -108,7 +108,7 @@ pub(crate) fn set_reference(
     alloc: Global,
     line: &[u8],
 ) -> Result<(), AllocError>
-    ensures { Puts result object.old object.new (reference_members line.now) }
+    ensures { HasMembers result object.old object.new (reference_members line.now) }
 {
     let (group, rest) = cut_cell(line);
     let (op, rest) = cut_cell(rest);
@@ -126,7 +126,7 @@ pub(crate) fn set_unresolved(
     alloc: Global,
     line: &[u8],
 ) -> Result<(), AllocError>
-    ensures { Puts result object.old object.new (unresolved_members line.now) }
+    ensures { HasMembers result object.old object.new (unresolved_members line.now) }
 {
     let (group, rest) = cut_cell(line);
     let (op, name) = cut_cell(rest);
@@ -142,7 +142,7 @@ pub(crate) fn set_mismatch(
     alloc: Global,
     line: &[u8],
 ) -> Result<(), AllocError>
-    ensures { Puts result object.old object.new (mismatch_members line.now) }
+    ensures { HasMembers result object.old object.new (mismatch_members line.now) }
 {
     let (group, rest) = cut_cell(line);
     let (op, target) = cut_cell(rest);
@@ -154,7 +154,7 @@ pub(crate) fn set_mismatch(
 
 /// Sets the member for an erased operation, `erased #7`. Sets nothing for an empty text.
 fn set_erased(object: &mut Object, alloc: Global, line: &[u8]) -> Result<(), AllocError>
-    ensures { Puts result object.old object.new (erased_members line.now) }
+    ensures { HasMembers result object.old object.new (erased_members line.now) }
 {
     if line.is_empty() {
         return Ok(());
@@ -164,7 +164,7 @@ fn set_erased(object: &mut Object, alloc: Global, line: &[u8]) -> Result<(), All
 
 /// Sets the members for the new operations of a rewrite and the erased one: `made #12,#13 erased #7`.
 fn set_change(object: &mut Object, alloc: Global, line: &[u8]) -> Result<(), AllocError>
-    ensures { Puts result object.old object.new (change_members line.now) }
+    ensures { HasMembers result object.old object.new (change_members line.now) }
 {
     let (word, rest) = cut_cell(line);
     if word != b"made".as_slice() {
@@ -181,7 +181,7 @@ pub(crate) fn set_rewritten(
     alloc: Global,
     line: &[u8],
 ) -> Result<(), AllocError>
-    ensures { Puts result object.old object.new (rewritten_members line.now) }
+    ensures { HasMembers result object.old object.new (rewritten_members line.now) }
 {
     let (_, rest) = cut_cell(line);
     let (rule, rest) = cut_cell(rest);
@@ -196,7 +196,7 @@ pub(crate) fn set_rewritten(
 
 /// Sets the members of a traced rewrite by a user pattern: `rewrote times_power #3 made #7,#8 erased #3`.
 pub(crate) fn set_applied(object: &mut Object, alloc: Global, line: &[u8]) -> Result<(), AllocError>
-    ensures { Puts result object.old object.new (applied_members line.now) }
+    ensures { HasMembers result object.old object.new (applied_members line.now) }
 {
     let (_, rest) = cut_cell(line);
     let (name, rest) = cut_cell(rest);
@@ -213,7 +213,7 @@ pub(crate) fn set_fired_rule(
     alloc: Global,
     line: &[u8],
 ) -> Result<(), AllocError>
-    ensures { Puts result object.old object.new (fired_rule_members line.now) }
+    ensures { HasMembers result object.old object.new (fired_rule_members line.now) }
 {
     let (_, rest) = cut_cell(line);
     let (rule, rest) = cut_cell(rest);
@@ -230,7 +230,7 @@ pub(crate) fn set_fired_pattern(
     alloc: Global,
     line: &[u8],
 ) -> Result<(), AllocError>
-    ensures { Puts result object.old object.new (fired_pattern_members line.now) }
+    ensures { HasMembers result object.old object.new (fired_pattern_members line.now) }
 {
     let (_, rest) = cut_cell(line);
     let (name, count) = cut_cell(rest);
@@ -242,7 +242,7 @@ pub(crate) fn set_fired_pattern(
 /// Sets the members of a rule with its verdict, `4 drop-zero second-not-zero`, or of a pattern with its verdict, `mine
 /// applies`.
 fn set_verdict(object: &mut Object, alloc: Global, said: &[u8]) -> Result<(), AllocError>
-    ensures { Puts result object.old object.new (verdict_members said.now) }
+    ensures { HasMembers result object.old object.new (verdict_members said.now) }
 {
     let (name, rest) = cut_cell(said);
     if parse_number(name).is_none() {
@@ -257,7 +257,7 @@ fn set_verdict(object: &mut Object, alloc: Global, said: &[u8]) -> Result<(), Al
 
 /// Sets the members of a verdict: `why #5 4 drop-zero second-not-zero`, `why #5 mine applies`.
 pub(crate) fn set_reason(object: &mut Object, alloc: Global, line: &[u8]) -> Result<(), AllocError>
-    ensures { Puts result object.old object.new (reason_members line.now) }
+    ensures { HasMembers result object.old object.new (reason_members line.now) }
 {
     let (_, rest) = cut_cell(line);
     let (op, rest) = cut_cell(rest);
@@ -268,8 +268,8 @@ pub(crate) fn set_reason(object: &mut Object, alloc: Global, line: &[u8]) -> Res
 
 /// Sets the members for the rule that was tried last and its failure, `27 expand-remainder makes-illegal`, or for
 /// `no-rule`.
-fn set_stay(object: &mut Object, alloc: Global, said: &[u8]) -> Result<(), AllocError>
-    ensures { Puts result object.old object.new (stay_members said.now) }
+fn set_match_failure(object: &mut Object, alloc: Global, said: &[u8]) -> Result<(), AllocError>
+    ensures { HasMembers result object.old object.new (match_failure_members said.now) }
 {
     let (rule, rest) = cut_cell(said);
     if parse_number(rule).is_none() {
@@ -288,18 +288,18 @@ pub(crate) fn add_not_legalised(
     alloc: Global,
     line: &[u8],
 ) -> Result<(), AllocError>
-    ensures { Puts result object.old object.new (stayed_members line.now) }
+    ensures { HasMembers result object.old object.new (stayed_members line.now) }
 {
     let (_, rest) = cut_cell(line);
     let (op, said) = cut_cell(rest);
     set_text(object, alloc, "kind", b"stays")?;
     set_text(object, alloc, "op", op)?;
-    set_stay(object, alloc, said)
+    set_match_failure(object, alloc, said)
 }
 
 /// Sets the members of a check result: `holds 8`, `holds`, or that there was no check.
 fn set_said(object: &mut Object, alloc: Global, said: &[u8]) -> Result<(), AllocError>
-    ensures { Puts result object.old object.new (said_members said.now) }
+    ensures { HasMembers result object.old object.new (said_members said.now) }
 {
     let (word, width) = cut_cell(said);
     if parse_number(width).is_none() {
@@ -315,7 +315,7 @@ pub(crate) fn set_unproved(
     alloc: Global,
     line: &[u8],
 ) -> Result<(), AllocError>
-    ensures { Puts result object.old object.new (unproved_members line.now) }
+    ensures { HasMembers result object.old object.new (unproved_members line.now) }
 {
     let (_, rest) = cut_cell(line);
     let (name, said) = cut_cell(rest);
@@ -326,7 +326,7 @@ pub(crate) fn set_unproved(
 
 /// Sets the members of the line of a checked pattern: `checked mask holds 8`, `checked mask refused 50 BadLimit`.
 pub(crate) fn set_checked(object: &mut Object, alloc: Global, line: &[u8]) -> Result<(), AllocError>
-    ensures { Puts result object.old object.new (checked_members line.now) }
+    ensures { HasMembers result object.old object.new (checked_members line.now) }
 {
     let (_, rest) = cut_cell(line);
     let (name, said) = cut_cell(rest);
@@ -337,7 +337,7 @@ pub(crate) fn set_checked(object: &mut Object, alloc: Global, line: &[u8]) -> Re
 
 /// Sets the members of a pattern: `half arith.divui(%a, 2) => arith.shrui(%a, 1) // holds 8`.
 pub(crate) fn set_pattern(object: &mut Object, alloc: Global, line: &[u8]) -> Result<(), AllocError>
-    ensures { Puts result object.old object.new (pattern_members line.now) }
+    ensures { HasMembers result object.old object.new (pattern_members line.now) }
 {
     let (pattern, comment) = cut_at(line, b'/');
     set_text(object, alloc, "kind", b"patterns")?;
@@ -348,7 +348,7 @@ pub(crate) fn set_pattern(object: &mut Object, alloc: Global, line: &[u8]) -> Re
 
 /// Sets the members of a row of a check: `%a -2 : i2`, `new poison`.
 pub(crate) fn set_outcome(object: &mut Object, alloc: Global, line: &[u8]) -> Result<(), AllocError>
-    ensures { Puts result object.old object.new (outcome_members line.now) }
+    ensures { HasMembers result object.old object.new (outcome_members line.now) }
 {
     let (name, outcome) = cut_cell(line);
     set_text(object, alloc, "kind", b"check")?;

@@ -3,7 +3,7 @@ ghost use Rattle.std.specs.Prelude.{◌≡◌, [], ◌∷◌, ◌++◌, map, Som
 ghost use Rattle.serde_json.specs.Read.{read};
 ghost use Rattle.serde_json.specs.View.{view};
 ghost use Rattle.mlir_work_json.specs.Cuts.{parts};
-ghost use Rattle.mlir_work_json.specs.Items.{Puts};
+ghost use Rattle.mlir_work_json.specs.Items.{HasMembers};
 ghost use Rattle.mlir_work_json.specs.Lines.{form_members, line_data, json_line, json_text};
 ghost use Rattle.mlir_work_script_base.specs.Lines.{is_newline};
 
@@ -27,7 +27,7 @@ fn set_form(
     form: &LineKind,
     line: &[u8],
 ) -> Result<(), AllocError>
-    ensures { Puts result object.old object.new (form_members form.now line.now) }
+    ensures { HasMembers result object.old object.new (form_members form.now line.now) }
 {
     match form {
         LineKind::Reply => set_reply(object, alloc, line),

@@ -19,7 +19,7 @@ use Rattle.ir_event.proofs.of_tree_laws.Contents.{map_has_id, map_has_value, map
 use Rattle.ir_event.proofs.of_tree_laws.DominatedBy.{any_same}
 use Rattle.rewriter_machine.specs.Commands.{Command, Erase, Replace, SetOperand}
 use Rattle.mlir_work_notes.specs.Notes.{Held, Operation, missing_op, missing_value, unseen, users_left}
-use Rattle.mlir_work_notes.specs.Standing.{blind_users, comes_from, has_such, is_blind, is_inside, outside_users, stands_in, takes, takes_from, uses_from_outside}
+use Rattle.mlir_work_notes.specs.Standing.{blind_users, comes_from, has_such, is_blind, is_inside, outside_users, is_within_ancestors, takes, takes_from, uses_from_outside}
 
 has_alike : (p q : ℕ → Bool) → ((x : ℕ) → p x ≡ q x) → (o : Option ℕ) → has_such p o ≡ has_such q o
 has_alike p q f None = refl
@@ -37,15 +37,15 @@ module _ (c : ContextModel) (t : Op) where
   pub type_meant : (v : Value) → type_of_value v (meaning c t) ≡ option_map (type_term c) (type_of_value v t)
   type_meant v = map_type_of_value (name_term c) (type_term c) (attr_term c) v t
 
-  stands_meant : (n x y : ℕ) → stands_in n x (meaning c t) y ≡ stands_in n x t y
+  stands_meant : (n x y : ℕ) → is_within_ancestors n x (meaning c t) y ≡ is_within_ancestors n x t y
   stands_meant zero x y = refl
   stands_meant (suc n) x y =
-      ap (λ (o : Option ℕ). eqb y x || has_such (stands_in n x (meaning c t)) o) (ap (option_map (λ p. p.parent)) (map_place (name_term c) (type_term c) (attr_term c) y t))
-      ∙ ap (λ (b : Bool). eqb y x || b) (has_alike (stands_in n x (meaning c t)) (stands_in n x t) (λ z. stands_meant n x z) (parent_of y t))
+      ap (λ (o : Option ℕ). eqb y x || has_such (is_within_ancestors n x (meaning c t)) o) (ap (option_map (λ p. p.parent)) (map_place (name_term c) (type_term c) (attr_term c) y t))
+      ∙ ap (λ (b : Bool). eqb y x || b) (has_alike (is_within_ancestors n x (meaning c t)) (is_within_ancestors n x t) (λ z. stands_meant n x z) (parent_of y t))
 
   inside_meant : (x y : ℕ) → is_inside x (meaning c t) y ≡ is_inside x t y
   inside_meant x y =
-      ap (λ (zs : List ℕ). stands_in (length zs) x (meaning c t) y) (map_ids (name_term c) (type_term c) (attr_term c) t)
+      ap (λ (zs : List ℕ). is_within_ancestors (length zs) x (meaning c t) y) (map_ids (name_term c) (type_term c) (attr_term c) t)
       ∙ stands_meant (op_count t) x y
 
   takes_from_meant : (x : ℕ) (o : Option Op) → takes_from x (meaning c t) (option_map (meaning c) o) ≡ takes_from x t o

@@ -1,7 +1,7 @@
 -- Concatenation of note entries.
 use Rattle.std.proofs.Common.{◌≡◌, ℕ, List, [], ◌∷◌, ◌++◌, refl, sym, ap, ◌∙◌, append_assoc, Result, Ok, Err}
 use Rattle.std.specs.Prelude.{codes}
-use Rattle.mlir_work_notes.specs.Notes.{Note, Tells, note_text, told}
+use Rattle.mlir_work_notes.specs.Notes.{Note, AppendsNotes, note_text, told}
 
 pub told_both : (xs ys : List Note) → told (xs ++ ys) ≡ told xs ++ told ys
 told_both [] ys = refl
@@ -10,7 +10,7 @@ told_both (x ∷ xs) ys =
     ∙ sym (append_assoc (codes " " ++ note_text x) (told xs) (told ys))
 
 -- appending entries after other entries
-pub tells_both : {E : Type 0} (r : Result (Unit {0}) E) (a b c : List ℕ) (xs ys : List Note) → b ≡ a ++ told xs → Tells r b c ys → Tells r a c (xs ++ ys)
+pub tells_both : {E : Type 0} (r : Result (Unit {0}) E) (a b c : List ℕ) (xs ys : List Note) → b ≡ a ++ told xs → AppendsNotes r b c ys → AppendsNotes r a c (xs ++ ys)
 tells_both (Err e) a b c xs ys p q = tt
 tells_both (Ok u) a b c xs ys p q =
     q ∙ (ap (λ zs. zs ++ told ys) p ∙ (append_assoc a (told xs) (told ys) ∙ ap (λ zs. a ++ zs) (sym (told_both xs ys))))

@@ -111,5 +111,5 @@ abbrev pub no_memory_text : List ℕ
 no_memory_text = codes " about memory"
 
 -- unless memory ran out, these entries were appended
-abbrev pub Tells : {E : Type 0} → Result (Unit {0}) E → List ℕ → List ℕ → List Note → Type 0
-Tells result old new cs = OnOk result (new ≡ old ++ told cs)
+abbrev pub AppendsNotes : {E : Type 0} → Result (Unit {0}) E → List ℕ → List ℕ → List Note → Type 0
+AppendsNotes result old new cs = OnOk result (new ≡ old ++ told cs)

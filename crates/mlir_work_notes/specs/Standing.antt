@@ -15,13 +15,13 @@ has_such p None = false
 has_such p (Some x) = p x
 
 -- whether operation `y` or one of its first `n` ancestors is `x`
-abbrev pub stands_in : {N T A : Type 0} → ℕ → ℕ → OpOf N T A → ℕ → Bool
-stands_in zero x t y = eqb y x
-stands_in (suc n) x t y = eqb y x || has_such (stands_in n x t) (parent_of y t)
+abbrev pub is_within_ancestors : {N T A : Type 0} → ℕ → ℕ → OpOf N T A → ℕ → Bool
+is_within_ancestors zero x t y = eqb y x
+is_within_ancestors (suc n) x t y = eqb y x || has_such (is_within_ancestors n x t) (parent_of y t)
 
 -- whether operation `y` is `x` or is nested in it; an operation has fewer ancestors than the tree has operations
 abbrev pub is_inside : {N T A : Type 0} → ℕ → OpOf N T A → ℕ → Bool
-is_inside x t y = stands_in (op_count t) x t y
+is_inside x t y = is_within_ancestors (op_count t) x t y
 
 -- whether a value belongs to operation `x` or to one nested in it
 abbrev pub comes_from : {N T A : Type 0} → ℕ → OpOf N T A → Value → Bool

@@ -8,23 +8,23 @@ use Rattle.mlir_work_notes.specs.declared.unsupported.UnsupportedConstruct.{Unsu
 use Rattle.mlir_work_notes.specs.declared.unsupported.UnsupportedConstruct.TheVariants.{Affine, Alias, BetweenLines, ElementsAttribute, DialectAttribute, DialectType, Float, FloatType, Location, Other, OtherType, CustomForm, Symbol, TensorType, VectorType, Word}
 
 -- the word of a construct
-abbrev pub cause_word : UnsupportedConstruct → List ℕ
-cause_word CustomForm = codes "pretty-form"
-cause_word Alias = codes "alias"
-cause_word Location = codes "location"
-cause_word FloatType = codes "float-type"
-cause_word TensorType = codes "tensor-type"
-cause_word VectorType = codes "vector-type"
-cause_word OtherType = codes "other-type"
-cause_word DialectType = codes "dialect-type"
-cause_word DialectAttribute = codes "dialect-attribute"
-cause_word Float = codes "float"
-cause_word ElementsAttribute = codes "dense"
-cause_word Affine = codes "affine"
-cause_word Symbol = codes "symbol"
-cause_word BetweenLines = codes "between-lines"
-cause_word Word = codes "word"
-cause_word Other = codes "other"
+abbrev pub construct_word : UnsupportedConstruct → List ℕ
+construct_word CustomForm = codes "pretty-form"
+construct_word Alias = codes "alias"
+construct_word Location = codes "location"
+construct_word FloatType = codes "float-type"
+construct_word TensorType = codes "tensor-type"
+construct_word VectorType = codes "vector-type"
+construct_word OtherType = codes "other-type"
+construct_word DialectType = codes "dialect-type"
+construct_word DialectAttribute = codes "dialect-attribute"
+construct_word Float = codes "float"
+construct_word ElementsAttribute = codes "dense"
+construct_word Affine = codes "affine"
+construct_word Symbol = codes "symbol"
+construct_word BetweenLines = codes "between-lines"
+construct_word Word = codes "word"
+construct_word Other = codes "other"
 
 -- the bare identifier at the start of a text
 abbrev pub word_at : List ℕ → List ℕ
@@ -56,8 +56,8 @@ abbrev pub is_pretty : List ℕ → Bool
 is_pretty word = has_dot word || bytes_eq word (codes "module")
 
 -- the construct of a word
-abbrev pub cause_of_word : List ℕ → UnsupportedConstruct
-cause_of_word word =
+abbrev pub construct_of_word : List ℕ → UnsupportedConstruct
+construct_of_word word =
     if bytes_eq word (codes "loc") then Location
     else if is_float word then FloatType
     else if bytes_eq word (codes "tensor") then TensorType
@@ -69,30 +69,30 @@ cause_of_word word =
     else Word
 
 -- the construct of a name after `#` or `!`: a name without a dot is an alias
-abbrev pub cause_of_name : UnsupportedConstruct → List ℕ → UnsupportedConstruct
-cause_of_name dialect rest = if has_dot (word_at rest) then dialect else Alias
+abbrev pub construct_of_name : UnsupportedConstruct → List ℕ → UnsupportedConstruct
+construct_of_name dialect rest = if has_dot (word_at rest) then dialect else Alias
 
 -- an opaque type or attribute has no line end, tab or comment between its brackets
 abbrev pub is_between_lines : ℕ → Bool
 is_between_lines b = (b == 9) || ((b == 10) || ((b == 13) || (b == 47)))
 
 -- the construct by the first byte
-abbrev pub cause_of_byte : ℕ → UnsupportedConstruct
-cause_of_byte b =
+abbrev pub construct_of_byte : ℕ → UnsupportedConstruct
+construct_of_byte b =
     if is_ascii_digit b || ((b == 45) || (b == 43)) then Float
     else if b == 64 then Symbol
     else if is_between_lines b then BetweenLines
     else Other
 
 -- the construct at the start of a text
-abbrev pub cause_of : List ℕ → UnsupportedConstruct
-cause_of [] = Other
-cause_of (b ∷ bs) =
-    if b == 35 then cause_of_name DialectAttribute bs
-    else if b == 33 then cause_of_name DialectType bs
-    else if is_letter b then cause_of_word (word_at (b ∷ bs))
-    else cause_of_byte b
+abbrev pub construct_of : List ℕ → UnsupportedConstruct
+construct_of [] = Other
+construct_of (b ∷ bs) =
+    if b == 35 then construct_of_name DialectAttribute bs
+    else if b == 33 then construct_of_name DialectType bs
+    else if is_letter b then construct_of_word (word_at (b ∷ bs))
+    else construct_of_byte b
 
 -- the construct at the byte at which a text was refused
 abbrev pub unsupported_at : List ℕ → ℕ → UnsupportedConstruct
-unsupported_at text offset = cause_of (drop offset text)
+unsupported_at text offset = construct_of (drop offset text)

@@ -4,7 +4,7 @@ ghost use Rattle.ir_event.specs.Modules.{module_in};
 ghost use Rattle.ir_event.specs.trees.Meaning.{isolated_in};
 ghost use Rattle.ir_event.specs.types.declared.refusal.Refusal.TheVariants.{IntoItself, IsRoot, NoSuchOp, NoSuchValue, TypeDiffers};
 ghost use Rattle.mlir_work_script.specs.Commands.{said_of};
-ghost use Rattle.mlir_work_notes.specs.Notes.{Tells, about_if, about_text, notes_of, unseen, users_left};
+ghost use Rattle.mlir_work_notes.specs.Notes.{AppendsNotes, about_if, about_text, notes_of, unseen, users_left};
 ghost use Rattle.rewriter_machine.specs.Commands.{Replace};
 
 use crate::note_subjects::{
@@ -27,7 +27,7 @@ fn write_missing_ops(
     out: &mut Vec<u8>,
     command: &Command<'_>,
 ) -> Result<(), AllocError>
-    ensures { Tells result out.old.items out.new.items (notes_of NoSuchOp (said_of command.now) (module_in world.now)) }
+    ensures { AppendsNotes result out.old.items out.new.items (notes_of NoSuchOp (said_of command.now) (module_in world.now)) }
 {
     write_missing_op(out, &world.store, subject_of(command))?;
     write_missing_op(out, &world.store, place_of_command(command))
@@ -39,7 +39,7 @@ fn write_missing_values(
     out: &mut Vec<u8>,
     command: &Command<'_>,
 ) -> Result<(), AllocError>
-    ensures { Tells result out.old.items out.new.items (notes_of NoSuchValue (said_of command.now) (module_in world.now)) }
+    ensures { AppendsNotes result out.old.items out.new.items (notes_of NoSuchValue (said_of command.now) (module_in world.now)) }
 {
     write_missing_value(out, &world.store, &value_replaced(command))?;
     write_missing_value(out, &world.store, &value_given(command))
@@ -52,7 +52,7 @@ fn write_users_left(
     out: &mut Vec<u8>,
     command: &Command<'_>,
 ) -> Result<(), AllocError>
-    ensures { Tells result out.old.items out.new.items (users_left world.now.store.module_of.tree (said_of command.now)) }
+    ensures { AppendsNotes result out.old.items out.new.items (users_left world.now.store.module_of.tree (said_of command.now)) }
 {
     match command {
         Command::Erase(op) => write_ops(out, &outside_users(alloc, world, *op)?),
@@ -68,7 +68,7 @@ fn write_blind(
     old: &Value,
     new: &Value,
 ) -> Result<(), AllocError>
-    ensures { Tells result out.old.items out.new.items (unseen (isolated_in world.now.ctx) world.now.store.module_of.tree (Replace old.now new.now)) }
+    ensures { AppendsNotes result out.old.items out.new.items (unseen (isolated_in world.now.ctx) world.now.store.module_of.tree (Replace old.now new.now)) }
 {
     write_value(out, *new)?;
     write_ops(out, &blind_users(alloc, world, old, new)?)
@@ -81,7 +81,7 @@ fn write_unseen(
     out: &mut Vec<u8>,
     command: &Command<'_>,
 ) -> Result<(), AllocError>
-    ensures { Tells result out.old.items out.new.items (unseen (isolated_in world.now.ctx) world.now.store.module_of.tree (said_of command.now)) }
+    ensures { AppendsNotes result out.old.items out.new.items (unseen (isolated_in world.now.ctx) world.now.store.module_of.tree (said_of command.now)) }
 {
     match command {
         Command::SetOperand { op, value, .. } => {
@@ -100,7 +100,7 @@ fn write_types(
     out: &mut Vec<u8>,
     command: &Command<'_>,
 ) -> Result<(), AllocError>
-    ensures { Tells result out.old.items out.new.items (notes_of TypeDiffers (said_of command.now) (module_in world.now)) }
+    ensures { AppendsNotes result out.old.items out.new.items (notes_of TypeDiffers (said_of command.now) (module_in world.now)) }
 {
     write_value_with_type(alloc, world, out, &value_replaced(command))?;
     write_value_with_type(alloc, world, out, &value_given(command))
@@ -108,7 +108,7 @@ fn write_types(
 
 /// Appends the operation that a command moves and the operation of its insertion point.
 fn write_both(world: &World, out: &mut Vec<u8>, command: &Command<'_>) -> Result<(), AllocError>
-    ensures { Tells result out.old.items out.new.items (notes_of IntoItself (said_of command.now) (module_in world.now)) }
+    ensures { AppendsNotes result out.old.items out.new.items (notes_of IntoItself (said_of command.now) (module_in world.now)) }
 {
     write_listed_op(out, subject_of(command))?;
     write_listed_op(out, place_of_command(command))
@@ -116,7 +116,7 @@ fn write_both(world: &World, out: &mut Vec<u8>, command: &Command<'_>) -> Result
 
 /// Appends those of the named operations that are the module's root.
 fn write_roots(world: &World, out: &mut Vec<u8>, command: &Command<'_>) -> Result<(), AllocError>
-    ensures { Tells result out.old.items out.new.items (notes_of IsRoot (said_of command.now) (module_in world.now)) }
+    ensures { AppendsNotes result out.old.items out.new.items (notes_of IsRoot (said_of command.now) (module_in world.now)) }
 {
     write_root(out, &world.store, subject_of(command))?;
     write_root(out, &world.store, place_of_command(command))
@@ -130,7 +130,7 @@ fn write_notes(
     refusal: Refusal,
     command: &Command<'_>,
 ) -> Result<(), AllocError>
-    ensures { Tells result out.old.items out.new.items (notes_of refusal (said_of command.now) (module_in world.now)) }
+    ensures { AppendsNotes result out.old.items out.new.items (notes_of refusal (said_of command.now) (module_in world.now)) }
 {
     match refusal {
         Refusal::NoSuchOp => write_missing_ops(world, out, command),

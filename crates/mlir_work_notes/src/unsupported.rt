@@ -2,7 +2,7 @@
 ghost use Rattle.std.specs.Prelude.{◌≡◌, ◌≤◌, length};
 ghost use Rattle.std.specs.List.{prefix_len};
 ghost use Rattle.ir_text_tokens.specs.Bytes.{is_letter, is_word};
-ghost use Rattle.mlir_work_notes.specs.Unsupported.{unsupported_at, cause_of, cause_of_byte, cause_of_name, cause_of_word, cause_word};
+ghost use Rattle.mlir_work_notes.specs.Unsupported.{unsupported_at, construct_of, construct_of_byte, construct_of_name, construct_of_word, construct_word};
 ghost use Rattle.mlir_work_notes.specs.Unsupported.{has_dot, is_affine, is_between_lines, is_dense, is_float, is_other_type, is_pretty, word_at};
 
 /// An unsupported MLIR construct.
@@ -45,7 +45,7 @@ pub enum UnsupportedConstruct {
 impl UnsupportedConstruct {
     /// Returns the word of the construct in a note.
     pub fn word(self) -> &'static [u8]
-        ensures { result.now ≡ cause_word self }
+        ensures { result.now ≡ construct_word self }
     {
         match self {
             UnsupportedConstruct::CustomForm => b"pretty-form",
@@ -152,8 +152,8 @@ fn is_pretty(word: &[u8]) -> bool
 }
 
 /// Returns the construct of a word.
-fn cause_of_word(word: &[u8]) -> UnsupportedConstruct
-    ensures { result ≡ cause_of_word word.now }
+fn construct_of_word(word: &[u8]) -> UnsupportedConstruct
+    ensures { result ≡ construct_of_word word.now }
 {
     if word == b"loc".as_slice() {
         return UnsupportedConstruct::Location;
@@ -183,8 +183,8 @@ fn cause_of_word(word: &[u8]) -> UnsupportedConstruct
 }
 
 /// Returns the construct of a name after `#` or `!`: an alias, or a dialect's type or attribute.
-fn cause_of_name(dialect: UnsupportedConstruct, rest: &[u8]) -> UnsupportedConstruct
-    ensures { result ≡ cause_of_name dialect rest.now }
+fn construct_of_name(dialect: UnsupportedConstruct, rest: &[u8]) -> UnsupportedConstruct
+    ensures { result ≡ construct_of_name dialect rest.now }
 {
     if has_dot(word_at(rest)) {
         dialect
@@ -201,8 +201,8 @@ fn is_between_lines(byte: u8) -> bool
 }
 
 /// Returns the construct of a text that begins with a byte other than a letter, `#` or `!`.
-fn cause_of_byte(byte: u8) -> UnsupportedConstruct
-    ensures { result ≡ cause_of_byte byte }
+fn construct_of_byte(byte: u8) -> UnsupportedConstruct
+    ensures { result ≡ construct_of_byte byte }
 {
     if byte.is_ascii_digit() || byte == b'-' || byte == b'+' {
         return UnsupportedConstruct::Float;
@@ -217,22 +217,22 @@ fn cause_of_byte(byte: u8) -> UnsupportedConstruct
 }
 
 /// Returns the construct at the start of a text.
-fn cause_of(text: &[u8]) -> UnsupportedConstruct
-    ensures { result ≡ cause_of text.now }
+fn construct_of(text: &[u8]) -> UnsupportedConstruct
+    ensures { result ≡ construct_of text.now }
 {
     let [byte, rest @ ..] = text else {
         return UnsupportedConstruct::Other;
     };
     if *byte == b'#' {
-        return cause_of_name(UnsupportedConstruct::DialectAttribute, rest);
+        return construct_of_name(UnsupportedConstruct::DialectAttribute, rest);
     }
     if *byte == b'!' {
-        return cause_of_name(UnsupportedConstruct::DialectType, rest);
+        return construct_of_name(UnsupportedConstruct::DialectType, rest);
     }
     if is_letter(*byte) {
-        return cause_of_word(word_at(text));
+        return construct_of_word(word_at(text));
     }
-    cause_of_byte(*byte)
+    construct_of_byte(*byte)
 }
 
 /// Returns the unsupported construct at the byte at which a text was refused.
@@ -240,7 +240,7 @@ pub fn unsupported_at(text: &[u8], offset: usize) -> UnsupportedConstruct
     ensures { result ≡ unsupported_at text.now offset }
 {
     match text.get(offset..) {
-        Some(rest) => cause_of(rest),
+        Some(rest) => construct_of(rest),
         None => UnsupportedConstruct::Other,
     }
 }

@@ -4,7 +4,7 @@ ghost use Rattle.ir_event.specs.types.Terms.{type_term};
 ghost use Rattle.ir_event.specs.types.Things.{IsType};
 ghost use Rattle.ir_event.specs.Modules.{module_in};
 ghost use Rattle.mlir_work_script_base.specs.Values.{op_text, value_text};
-ghost use Rattle.mlir_work_notes.specs.Notes.{Held, Operation, Tells, Typed, listed_op, listed_root, missing_op, missing_value, typed, value_with_type};
+ghost use Rattle.mlir_work_notes.specs.Notes.{Held, Operation, AppendsNotes, Typed, listed_op, listed_root, missing_op, missing_value, typed, value_with_type};
 ghost use Rattle.ir_event.specs.tree_laws.Values.{type_of_value};
 
 use ir_event::store::store::Store;
@@ -31,7 +31,7 @@ fn write_value_name(out: &mut Vec<u8>, value: Value) -> Result<(), AllocError>
 
 /// Appends an operation.
 pub(crate) fn write_op(out: &mut Vec<u8>, op: OpId) -> Result<(), AllocError>
-    ensures { Tells result out.old.items out.new.items (Operation op ∷ []) }
+    ensures { AppendsNotes result out.old.items out.new.items (Operation op ∷ []) }
 {
     out.push(b' ')?;
     write_op_id(out, op)
@@ -39,7 +39,7 @@ pub(crate) fn write_op(out: &mut Vec<u8>, op: OpId) -> Result<(), AllocError>
 
 /// Appends operations.
 pub(crate) fn write_ops(out: &mut Vec<u8>, ops: &[OpId]) -> Result<(), AllocError>
-    ensures { Tells result out.old.items out.new.items (map Operation ops.now) }
+    ensures { AppendsNotes result out.old.items out.new.items (map Operation ops.now) }
 {
     let mut rest = ops;
     'ops: while let [op, more @ ..] = rest {
@@ -51,7 +51,7 @@ pub(crate) fn write_ops(out: &mut Vec<u8>, ops: &[OpId]) -> Result<(), AllocErro
 
 /// Appends a value.
 pub(crate) fn write_value(out: &mut Vec<u8>, value: Value) -> Result<(), AllocError>
-    ensures { Tells result out.old.items out.new.items (Held value ∷ []) }
+    ensures { AppendsNotes result out.old.items out.new.items (Held value ∷ []) }
 {
     out.push(b' ')?;
     write_value_name(out, value)
@@ -65,7 +65,7 @@ fn write_quoted_type(
     ty: TypeId,
 ) -> Result<(), AllocError>
     requires { IsType ctx.now ty }
-    ensures { Tells result out.old.items out.new.items (Typed (type_term ctx.now ty) ∷ []) }
+    ensures { AppendsNotes result out.old.items out.new.items (Typed (type_term ctx.now ty) ∷ []) }
 {
     let mut text = Vec::new(alloc);
     print_type(ctx, &mut text, ty)?;
@@ -75,7 +75,7 @@ fn write_quoted_type(
 
 /// Appends an operation, if there is one.
 pub(crate) fn write_listed_op(out: &mut Vec<u8>, op: Option<OpId>) -> Result<(), AllocError>
-    ensures { Tells result out.old.items out.new.items (listed_op op) }
+    ensures { AppendsNotes result out.old.items out.new.items (listed_op op) }
 {
     match op {
         None => Ok(()),
@@ -89,7 +89,7 @@ pub(crate) fn write_missing_op(
     store: &Store,
     op: Option<OpId>,
 ) -> Result<(), AllocError>
-    ensures { Tells result out.old.items out.new.items (missing_op store.now.module_of.tree op) }
+    ensures { AppendsNotes result out.old.items out.new.items (missing_op store.now.module_of.tree op) }
 {
     let Some(op) = op else {
         return Ok(());
@@ -106,7 +106,7 @@ pub(crate) fn write_root(
     store: &Store,
     op: Option<OpId>,
 ) -> Result<(), AllocError>
-    ensures { Tells result out.old.items out.new.items (listed_root store.now.module_of.tree op) }
+    ensures { AppendsNotes result out.old.items out.new.items (listed_root store.now.module_of.tree op) }
 {
     let Some(op) = op else {
         return Ok(());
@@ -119,7 +119,7 @@ pub(crate) fn write_root(
 
 /// Appends a value if it isn't in the module.
 fn write_if_missing(out: &mut Vec<u8>, store: &Store, value: &Value) -> Result<(), AllocError>
-    ensures { Tells result out.old.items out.new.items (missing_value store.now.module_of.tree (Some value.now)) }
+    ensures { AppendsNotes result out.old.items out.new.items (missing_value store.now.module_of.tree (Some value.now)) }
 {
     if store.value_type(*value).is_some() {
         return Ok(());
@@ -133,7 +133,7 @@ pub(crate) fn write_missing_value(
     store: &Store,
     value: &Option<Value>,
 ) -> Result<(), AllocError>
-    ensures { Tells result out.old.items out.new.items (missing_value store.now.module_of.tree value.now) }
+    ensures { AppendsNotes result out.old.items out.new.items (missing_value store.now.module_of.tree value.now) }
 {
     match value {
         None => Ok(()),
@@ -148,7 +148,7 @@ fn write_type_of(
     out: &mut Vec<u8>,
     value: &Value,
 ) -> Result<(), AllocError>
-    ensures { Tells result out.old.items out.new.items (typed (type_of_value value.now (module_in world.now).tree)) }
+    ensures { AppendsNotes result out.old.items out.new.items (typed (type_of_value value.now (module_in world.now).tree)) }
 {
     match world.store.value_type(*value) {
         None => Ok(()),
@@ -163,7 +163,7 @@ pub(crate) fn write_value_with_type(
     out: &mut Vec<u8>,
     value: &Option<Value>,
 ) -> Result<(), AllocError>
-    ensures { Tells result out.old.items out.new.items (value_with_type (module_in world.now).tree value.now) }
+    ensures { AppendsNotes result out.old.items out.new.items (value_with_type (module_in world.now).tree value.now) }
 {
     match value {
         None => Ok(()),

@@ -30,6 +30,6 @@ explained_line n (Plain response) about = explained_reply n response about
 explained_line n (Checked said) about = checked_line n said
 
 -- the lines of the response to command `n`, with the expected refusal; an empty note adds nothing
-abbrev pub told_text : ℕ → Option Refusal → Notice → List ℕ → List ℕ
-told_text n expected notice [] = reply_text n expected notice
-told_text n expected notice (b ∷ bs) = explained_line n notice (b ∷ bs) ++ surprise_line n expected notice
+abbrev pub response_lines : ℕ → Option Refusal → Notice → List ℕ → List ℕ
+response_lines n expected notice [] = reply_text n expected notice
+response_lines n expected notice (b ∷ bs) = explained_line n notice (b ∷ bs) ++ surprise_line n expected notice

@@ -1,6 +1,6 @@
 //! Checks each pattern of a registry.
 ghost use Rattle.std.specs.Prelude.{◌≡◌, ◌++◌, ◌⊎◌, ℕ, IfOk, OnOk};
-ghost use Rattle.ir_event.specs.types.declared.refusal.Refusal.TheVariants.{Memory as WantOfMemory};
+ghost use Rattle.ir_event.specs.types.declared.refusal.Refusal.TheVariants.{Memory as MemoryRefusal};
 ghost use Rattle.mlir_work_script.specs.RegistryCommands.{CheckAll};
 ghost use Rattle.user_patterns_registry.specs.Registry.{kept_views, registry_model};
 ghost use Rattle.mlir_work_registry.specs.Notices.{IsWithin, notice_of};
@@ -153,7 +153,7 @@ fn response_of(verdicts: &[Verdict]) -> Response
 /// Checks each pattern in order, and shows a line for each with the rows of its counterexample. If memory runs out,
 /// no check is recorded.
 fn check_each(alloc: Global, registry: &mut PatternRegistry) -> ShownResponse
-    ensures checks { IsRefused WantOfMemory (registry_model registry.old) (notice_of result.notice) result.shows.items (registry_model registry.new)
+    ensures checks { IsRefused MemoryRefusal (registry_model registry.old) (notice_of result.notice) result.shows.items (registry_model registry.new)
         ⊎ ChecksEach (registry_model registry.old) (registry_model registry.old) (notice_of result.notice) result.shows.items (registry_model registry.new) }
     ensures bounded { (bytes : ℕ) → IsWithin bytes (notice_of result.notice) }
 {

@@ -1,10 +1,10 @@
 //! Runs the commands on the pattern registry of a session.
 ghost use Rattle.std.specs.Prelude.{◌≡◌, ◌⊎◌, ◌-◌, ℕ, [], IfErr, IfOk, length};
-ghost use Rattle.ir_event.specs.types.declared.refusal.Refusal.TheVariants.{Memory as WantOfMemory};
+ghost use Rattle.ir_event.specs.types.declared.refusal.Refusal.TheVariants.{Memory as MemoryRefusal};
 ghost use Rattle.ir_text_tokens.specs.Refusals.{refusal_of};
 ghost use Rattle.rewriter_machine.specs.Commands.{Replied, TextRefusedAt};
 ghost use Rattle.rewriter_machine.specs.Machine.{Refused};
-ghost use Rattle.mlir_work_script.specs.RegistryCommands.{Check, Define, Forget, Patterns, Redefine, Sample, registry_order_of};
+ghost use Rattle.mlir_work_script.specs.RegistryCommands.{Check, Define, Forget, Patterns, Redefine, Sample, registry_command_of};
 ghost use Rattle.user_patterns_registry.specs.CheckResult.{IsRefused, requested_width};
 ghost use Rattle.user_patterns_registry.specs.Sampled.{IsNotSampled};
 ghost use Rattle.user_patterns_registry.specs.Registry.{registry_model, kept_view, noted};
@@ -34,7 +34,7 @@ use user_patterns_widths::passing::is_passing;
 /// Returns the reply for a refused pattern text; `bytes` is the length of the whole input. The bound check always
 /// succeeds: the text is a part of the input, so the offset is in range.
 fn refused_at(bytes: usize, text: &[u8], fault: &Fault) -> Reply
-    ensures told { (response_of result ≡ Replied (Refused WantOfMemory)) ⊎ (response_of result ≡ TextRefusedAt (refusal_of fault.now.refusal) (length text.now - fault.now.left)) }
+    ensures told { (response_of result ≡ Replied (Refused MemoryRefusal)) ⊎ (response_of result ≡ TextRefusedAt (refusal_of fault.now.refusal) (length text.now - fault.now.left)) }
     ensures bounded { IsBounded bytes (response_of result) }
 {
     let offset = fault.offset(text);
@@ -244,7 +244,7 @@ pub fn run_registry_command(
     registry: &mut PatternRegistry,
     registry_command: &RegistryCommand<'_>,
 ) -> ShownResponse
-    ensures registries { Registries (registry_order_of registry_command.now) (registry_model registry.old) (notice_of result.notice) result.shows.items (registry_model registry.new) }
+    ensures registries { Registries (registry_command_of registry_command.now) (registry_model registry.old) (notice_of result.notice) result.shows.items (registry_model registry.new) }
     ensures bounded { IsWithin bytes (notice_of result.notice) }
 {
     match registry_command {

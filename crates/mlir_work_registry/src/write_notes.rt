@@ -1,7 +1,7 @@
 //! Writes responses with notes on refusals.
 ghost use Rattle.mlir_work_script_base.specs.Writes.{Writes};
 ghost use Rattle.std.specs.Prelude.{◌++◌, codes};
-ghost use Rattle.mlir_work_registry.specs.Explained.{explained_line, explained_reply, refused_at_preceding, refused_preceding, told_text};
+ghost use Rattle.mlir_work_registry.specs.Explained.{explained_line, explained_reply, refused_at_preceding, refused_preceding, response_lines};
 ghost use Rattle.mlir_work_registry.specs.Notices.{notice_of};
 ghost use Rattle.mlir_work_registry.specs.Replies.{response_of};
 ghost use Rattle.rewriter_machine.specs.Commands.{Replied, TextRefusedAt};
@@ -149,7 +149,7 @@ pub fn write_response<W: Sink>(
     notice: &Response,
     about: &[u8],
 ) -> Result<(), WriteFault>
-    ensures { Writes (W.stream writer.old) (W.stream writer.new) (told_text n expected.now (notice_of notice.now) about.now) result }
+    ensures { Writes (W.stream writer.old) (W.stream writer.new) (response_lines n expected.now (notice_of notice.now) about.now) result }
 {
     if about.is_empty() {
         return write_reply_text(writer, n, expected, notice);

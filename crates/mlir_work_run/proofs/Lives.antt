@@ -26,7 +26,7 @@ use Rattle.mlir_work_session.proofs.Joins.{preceding_join, preceding_more, grows
 use Rattle.mlir_work_session.proofs.Runs.{line_answered, status_before, worse_after}
 use Rattle.mlir_work_run.specs.Ends.{HandedOut, IsFinal}
 use Rattle.mlir_work_run.specs.Live.{Anywhere, AreFirst, BeforeTooLong, HasFailedLive, IsLive, IsLiveOf, IsTooLong, IsUpTo, Live, LiveEnded, LiveEndedAt, LiveLeaves, Lives, MayStop, divider_bytes, exit_of, halt_of, halted_of, whole_lines}
-use Rattle.mlir_work_run.specs.Whole.{Setting, way_at}
+use Rattle.mlir_work_run.specs.Whole.{Setting, session_setting_at}
 use Rattle.mlir_work_run.specs.declared.live.Unanswered.{Unanswered}
 use Rattle.mlir_work_run.specs.declared.live.Unanswered.TheVariants.{Memory as LineMemory, TooLong as LineTooLong}
 use Rattle.mlir_work_run.specs.declared.live.Halt.{Halt}
@@ -106,11 +106,11 @@ module _ (setting : Setting) (before : ℕ) (begun : Sitting) where
   goes_so_far lines read n s accepted out h = rw (append-nil, append-nil) at (h.goes [] 0 [] (refl, refl))
 
   -- one more line is answered
-  goes_step : (lines : List (List ℕ)) (read n : ℕ) (s t : Sitting) (accepted : Bool) (out line told_out : List ℕ) (told : Option Bool) → Goes lines read n s accepted out → length line ≤ most_script_bytes → IsAnswered (way_at setting (read + length line)) n s (line_expects (line_of line)) (line_says (line_of line)) t told told_out →
+  goes_step : (lines : List (List ℕ)) (read n : ℕ) (s t : Sitting) (accepted : Bool) (out line told_out : List ℕ) (told : Option Bool) → Goes lines read n s accepted out → length line ≤ most_script_bytes → IsAnswered (session_setting_at setting (read + length line)) n s (line_expects (line_of line)) (line_says (line_of line)) t told told_out →
       Goes (lines ++ line ∷ []) (read + length line) (number_after n told) t (accepted_after accepted told) (out ++ told_out)
   goes_step lines read n s t accepted out line told_out told h short answered = record {
     goes = λ more later rest k.
-        let step = line_answered (λ m x st o. Lives setting (read + length line) m x more st o) (way_at setting (read + length line)) n s (line_expects (line_of line)) (line_says (line_of line)) t told told_out answered later rest k in
+        let step = line_answered (λ m x st o. Lives setting (read + length line) m x more st o) (session_setting_at setting (read + length line)) n s (line_expects (line_of line)) (line_says (line_of line)) t told told_out answered later rest k in
         let all = h.goes (line ∷ more) (status_before told later) (told_out ++ rest) (short, step) in
         rw (append_assoc, append_assoc, ← worse_after) all;
   }
@@ -128,7 +128,7 @@ module _ (setting : Setting) (before : ℕ) (begun : Sitting) where
   lived_none (Some all) a = ([], [], refl, grows_none a, goes_none, omega arith)
 
   pub lived_step : (o mid new : Option (List ℕ)) (read more n : ℕ) (s t : Sitting) (accepted : Bool) (a b c : Stream) (line told_out : List ℕ) (told : Option Bool) → Lived o mid read n s accepted a b → TakesLine mid new line → 0 < length line → length line ≤ most_script_bytes → more ≡ read + length line →
-      IsAnswered (way_at setting more) n s (line_expects (line_of line)) (line_says (line_of line)) t told told_out → Grows b c told_out → Lived o new more (number_after n told) t (accepted_after accepted told) a c
+      IsAnswered (session_setting_at setting more) n s (line_expects (line_of line)) (line_says (line_of line)) t told told_out → Grows b c told_out → Lived o new more (number_after n told) t (accepted_after accepted told) a c
   lived_step None mid new read more n s t accepted a b c line told_out told h takes some short is answered wrote = tt
   lived_step (Some all) None new read more n s t accepted a b c line told_out told h takes some short is answered wrote = absurd h
   lived_step (Some all) (Some left) None read more n s t accepted a b c line told_out told h takes some short is answered wrote = absurd takes
@@ -185,7 +185,7 @@ module _ (setting : Setting) (before : ℕ) (begun : Sitting) where
 
   -- a write of the line's answer failed
   pub lived_cut : (o mid new : Option (List ℕ)) (read more n : ℕ) (s t : Sitting) (accepted handed : Bool) (a b c : Stream) (line told_out : List ℕ) (told : Option Bool) → Lived o mid read n s accepted a b → TakesLine mid new line → 0 < length line → length line ≤ most_script_bytes → more ≡ read + length line →
-      IsAnswered (way_at setting more) n s (line_expects (line_of line)) (line_says (line_of line)) t told told_out → GrowsPreceding b c told_out → IfSome o (λ script. LiveEnded before (Lives setting before 1 begun) (whole_lines script) a c handed (Err WriteFailed))
+      IsAnswered (session_setting_at setting more) n s (line_expects (line_of line)) (line_says (line_of line)) t told told_out → GrowsPreceding b c told_out → IfSome o (λ script. LiveEnded before (Lives setting before 1 begun) (whole_lines script) a c handed (Err WriteFailed))
   lived_cut None mid new read more n s t accepted handed a b c line told_out told h takes some short is answered wrote = tt
   lived_cut (Some all) None new read more n s t accepted handed a b c line told_out told h takes some short is answered wrote = absurd h
   lived_cut (Some all) (Some left) None read more n s t accepted handed a b c line told_out told h takes some short is answered wrote = absurd takes

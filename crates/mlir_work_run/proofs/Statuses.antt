@@ -14,7 +14,7 @@ use Rattle.mlir_work_session.specs.Registry.{RegistryModel}
 use Rattle.mlir_work_session.specs.Notices.{is_right_under}
 use Rattle.mlir_work_session.specs.Output.{Line, Runs, IsSession, Sitting, SessionSetting, opening, worse}
 use Rattle.mlir_work_run.specs.Ends.{EndedSo, HasFailed, HasStatus, IsFinal, Leaves, LeavesAt, status_of}
-use Rattle.mlir_work_run.specs.Whole.{IsOutput, Setting, way_at}
+use Rattle.mlir_work_run.specs.Whole.{IsOutput, Setting, session_setting_at}
 use Rattle.mlir_work_run.specs.declared.run.Fault.{Fault}
 use Rattle.mlir_work_run.specs.declared.run.Fault.TheVariants.{Read as ReadFailed, Write as WriteFailed}
 
@@ -49,7 +49,7 @@ final_low status (inr e) = inr (inl e)
 pub final_output : (setting : Setting) (boxes : List Shown) (input : List ℕ) (status : ℕ) (out : List ℕ) → IsOutput setting boxes input status out → IsFinal status
 final_output setting boxes input status out (inl h) = inr (inr h.1.0)
 final_output setting boxes input status out (inr (short, inl (refusal, offset, why, h))) = inr (inr h.0)
-final_output setting boxes input status out (inr (short, inr (m, read, h))) = final_low status (low_session (way_at setting (length input)) setting.start boxes m (script_text input) status out h)
+final_output setting boxes input status out (inr (short, inr (m, read, h))) = final_low status (low_session (session_setting_at setting (length input)) setting.start boxes m (script_text input) status out h)
 
 ended_status : (setting : Setting) (boxes : List Shown) (input : List ℕ) (a b : Option (List ℕ)) (r : Result ℕ Fault) → EndedSo (IsOutput setting boxes input) a b r → HasStatus (IsOutput setting boxes input) a b (status_of r)
 ended_status setting boxes input a b (Ok status) (out, h, wrote) = inl (final_output setting boxes input status out h, (out, h, wrote))

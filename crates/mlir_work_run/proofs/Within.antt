@@ -14,7 +14,7 @@ use Rattle.mlir_work_session.specs.Writes.{joined}
 use Rattle.mlir_work_session.proofs.Dividing.{divided}
 use Rattle.mlir_work_session.proofs.Wider.{line_wider}
 use Rattle.mlir_work_run.specs.Live.{IsLive, Live, Lives, divider_bytes, whole_lines}
-use Rattle.mlir_work_run.specs.Whole.{IsOutput, Setting, way_at}
+use Rattle.mlir_work_run.specs.Whole.{IsOutput, Setting, session_setting_at}
 
 -- ---- lines, with and without their line feeds
 
@@ -46,17 +46,17 @@ joined_same (b ∷ bs) = joined_at b bs (is_newline b) refl (joined_same bs)
 -- ---- early answers are final answers
 
 module _ (setting : Setting) (total : ℕ) where
-  lives_run : (lines : List (List ℕ)) (read n : ℕ) (s : Sitting) (status : ℕ) (out : List ℕ) → read + length (joined lines) ≤ total → Lives setting read n s lines status out → Runs (way_at setting total) n s (map line_of lines) status out
+  lives_run : (lines : List (List ℕ)) (read n : ℕ) (s : Sitting) (status : ℕ) (out : List ℕ) → read + length (joined lines) ≤ total → Lives setting read n s lines status out → Runs (session_setting_at setting total) n s (map line_of lines) status out
   lives_run [] read n s status out most h = h
   lives_run (line ∷ lines) read n s status out most h =
       let long = length-append line (joined lines) in
       let here : read + length line ≤ total = omega (arith, most, long) in
       let rest : (read + length line) + length (joined lines) ≤ total = omega (arith, most, long) in
-      line_wider (way_at setting (read + length line)) total here (λ m t st o. Lives setting (read + length line) m t lines st o) (λ m t st o. Runs (way_at setting total) m t (map line_of lines) st o) (λ m t st o k. lives_run lines (read + length line) m t st o rest k) n s (line_expects (line_of line)) (line_says (line_of line)) status out h.1
+      line_wider (session_setting_at setting (read + length line)) total here (λ m t st o. Lives setting (read + length line) m t lines st o) (λ m t st o. Runs (session_setting_at setting total) m t (map line_of lines) st o) (λ m t st o k. lives_run lines (read + length line) m t st o rest k) n s (line_expects (line_of line)) (line_says (line_of line)) status out h.1
 
-  script_runs : (script : List ℕ) (read : ℕ) (s : Sitting) (status : ℕ) (out : List ℕ) → read + length script ≤ total → Lives setting read 1 s (whole_lines script) status out → Runs (way_at setting total) 1 s (lines_of script) status out
+  script_runs : (script : List ℕ) (read : ℕ) (s : Sitting) (status : ℕ) (out : List ℕ) → read + length script ≤ total → Lives setting read 1 s (whole_lines script) status out → Runs (session_setting_at setting total) 1 s (lines_of script) status out
   script_runs script read s status out most h =
-      subst (λ (ls : List (List ℕ)). Runs (way_at setting total) 1 s ls status out) (lines_same script) (lives_run (whole_lines script) read 1 s status out (rw (joined_same script) most) h)
+      subst (λ (ls : List (List ℕ)). Runs (session_setting_at setting total) 1 s ls status out) (lines_same script) (lives_run (whole_lines script) read 1 s status out (rw (joined_same script) most) h)
 
 -- the module, the divider and the script
 split_long : (input text : List ℕ) (b : ℕ) (bs : List ℕ) → IsSplit input text (b ∷ bs) → length text + divider_bytes + length (b ∷ bs) ≤ length input
@@ -64,11 +64,11 @@ split_long input text b bs (inl (end, is, inl ends)) = omega (arith, ap length i
 split_long input text b bs (inl (end, is, inr (ends, none))) = absurd (omega (arith, ap length none))
 split_long input text b bs (inr (is, none)) = absurd (omega (arith, ap length none))
 
-input_runs : (setting : Setting) (input script : List ℕ) (s : Sitting) (status : ℕ) (out : List ℕ) → IsSplit input (module_text input) script → Lives setting (length (module_text input) + divider_bytes) 1 s (whole_lines script) status out → Runs (way_at setting (length input)) 1 s (lines_of script) status out
+input_runs : (setting : Setting) (input script : List ℕ) (s : Sitting) (status : ℕ) (out : List ℕ) → IsSplit input (module_text input) script → Lives setting (length (module_text input) + divider_bytes) 1 s (whole_lines script) status out → Runs (session_setting_at setting (length input)) 1 s (lines_of script) status out
 input_runs setting input [] s status out split h = h
 input_runs setting input (b ∷ bs) s status out split h = script_runs setting (length input) (b ∷ bs) (length (module_text input) + divider_bytes) s status out (split_long input (module_text input) b bs split) h
 
-session_of : (setting : Setting) (boxes : List Shown) (m : Module) (input : List ℕ) (status : ℕ) (out : List ℕ) → Live setting boxes m (length (module_text input) + divider_bytes) (whole_lines (script_text input)) status out → Session (way_at setting (length input)) setting.start boxes m (script_text input) status out
+session_of : (setting : Setting) (boxes : List Shown) (m : Module) (input : List ℕ) (status : ℕ) (out : List ℕ) → Live setting boxes m (length (module_text input) + divider_bytes) (whole_lines (script_text input)) status out → Session (session_setting_at setting (length input)) setting.start boxes m (script_text input) status out
 session_of setting boxes m input status out h = record {
   panel = h.begins.panel;
   accepted = h.accepted;
@@ -76,7 +76,7 @@ session_of setting boxes m input status out h = record {
   later = h.later;
   rest = h.rest;
   attached = h.begins.attached;
-  runs = subst (λ (s : State). Runs (way_at setting (length input)) 1 (opening setting.start s) (lines_of (script_text input)) h.later h.rest) h.begins.state_is (input_runs setting input (script_text input) (opening setting.start h.begun) h.later h.rest (divided true input) h.lives);
+  runs = subst (λ (s : State). Runs (session_setting_at setting (length input)) 1 (opening setting.start s) (lines_of (script_text input)) h.later h.rest) h.begins.state_is (input_runs setting input (script_text input) (opening setting.start h.begun) h.later h.rest (divided true input) h.lives);
   status_is = h.status_is;
   out_is = h.out_is ∙ ap (λ (xs : List ℕ). xs ++ h.rest) h.begins.out_is;
 }

@@ -15,7 +15,7 @@ use Rattle.mlir_work_session.specs.Reads.{Intake}
 use Rattle.mlir_work_session.specs.WriteFault.{WriteFault}
 use Rattle.mlir_work_session.specs.Writes.{Grows, GrowsPreceding, Stays, Stream, joined}
 use Rattle.mlir_work_run.specs.Ends.{IsFinal}
-use Rattle.mlir_work_run.specs.Whole.{IsOutput, IsTooMany, IsUnparsed, IsWorldOf, Setting, way_at}
+use Rattle.mlir_work_run.specs.Whole.{IsOutput, IsTooMany, IsUnparsed, IsWorldOf, Setting, session_setting_at}
 use Rattle.mlir_work_run.specs.declared.live.Halt.{Halt}
 use Rattle.mlir_work_run.specs.declared.live.Halt.TheVariants.{Read as ReadFailed, Write as WriteFailed, Memory as NoMemory, TooLong}
 use Rattle.mlir_work_run.specs.declared.live.Unanswered.{Unanswered}
@@ -36,7 +36,7 @@ abbrev pub Lives : Setting → ℕ → ℕ → Sitting → List (List ℕ) → �
 Lives setting read n s [] status out = (status ≡ 0) × (out ≡ [])
 Lives setting read n s (line ∷ lines) status out =
     (length line ≤ most_script_bytes)
-    × Line (λ m t st o. Lives setting (read + length line) m t lines st o) (way_at setting (read + length line)) n s
+    × Line (λ m t st o. Lives setting (read + length line) m t lines st o) (session_setting_at setting (read + length line)) n s
     (line_expects (line_of line)) (line_says (line_of line)) status out
 
 -- listeners are attached to a module, and then lines are answered

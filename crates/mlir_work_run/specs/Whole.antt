@@ -8,7 +8,7 @@ use Rattle.ir_event.specs.trees.Ids.{op_count}
 use Rattle.ir_event.specs.trees.Meaning.{Operation}
 use Rattle.ir_event.specs.Modules.{Module}
 use Rattle.ir_text_modules.specs.Modules.{SpellsModule}
-use Rattle.mlir_work_notes.specs.Unsupported.{unsupported_at, cause_word}
+use Rattle.mlir_work_notes.specs.Unsupported.{unsupported_at, construct_word}
 use Rattle.mlir_work_notes.specs.declared.unsupported.UnsupportedConstruct.{UnsupportedConstruct}
 use Rattle.mlir_work_session.specs.Parts.{module_text, script_text}
 use Rattle.mlir_work_session.specs.Replies.{module_refused_line}
@@ -20,16 +20,16 @@ use Rattle.mlir_work_session.specs.declared.options.SessionOptions.{SessionOptio
 use Rattle.mlir_work_run.specs.declared.run.Options.{Options}
 
 -- the unsupported MLIR construct at the byte at which a module's text was refused, if that is the reason
-abbrev pub module_cause : List ℕ → Refusal → Option ℕ → Option UnsupportedConstruct
-module_cause text LeftOut None = None
-module_cause text LeftOut (Some offset) = Some (unsupported_at text offset)
-module_cause text _ offset = None
+abbrev pub module_construct : List ℕ → Refusal → Option ℕ → Option UnsupportedConstruct
+module_construct text LeftOut None = None
+module_construct text LeftOut (Some offset) = Some (unsupported_at text offset)
+module_construct text _ offset = None
 
 -- the construct, if `explain` is set
-abbrev pub cause_if : Bool → Option UnsupportedConstruct → Option UnsupportedConstruct
-cause_if explain None = None
-cause_if true (Some unsupported) = Some unsupported
-cause_if false (Some unsupported) = None
+abbrev pub construct_if : Bool → Option UnsupportedConstruct → Option UnsupportedConstruct
+construct_if explain None = None
+construct_if true (Some unsupported) = Some unsupported
+construct_if false (Some unsupported) = None
 
 -- the line for a refused module, with a note on the unsupported construct if there is one
 abbrev pub module_refused_text : Refusal → Option ℕ → Option UnsupportedConstruct → List ℕ
@@ -37,7 +37,7 @@ module_refused_text refusal offset None = module_refused_line refusal offset
 module_refused_text refusal None (Some unsupported) = module_refused_line refusal None
 module_refused_text refusal (Some offset) (Some unsupported) =
     codes "module refused " ++ (text_of refusal ++ (codes " at " ++ (decimal offset
-    ++ (codes " about " ++ (cause_word unsupported ++ codes "\n")))))
+    ++ (codes " about " ++ (construct_word unsupported ++ codes "\n")))))
 
 -- the module is refused
 abbrev pub IsRefusal : Refusal → Option ℕ → Option UnsupportedConstruct → ℕ → List ℕ → Type 0
@@ -55,7 +55,7 @@ WhyNot opaque text refusal (Some offset) = (number_of refusal ≤ 14) × ((y : O
 abbrev pub IsUnparsed : Bool → Bool → List ℕ → ℕ → List ℕ → Type 0
 IsUnparsed explain opaque text status out =
     (refusal : Refusal) × (offset : Option ℕ) × WhyNot opaque text refusal offset
-    × IsRefusal refusal offset (cause_if explain (module_cause text refusal offset)) status out
+    × IsRefusal refusal offset (construct_if explain (module_construct text refusal offset)) status out
 
 -- the module of the tree that a text spells
 abbrev pub IsWorldOf : Bool → List ℕ → Module → Type 0
@@ -90,14 +90,14 @@ setting_with supply options start = record { options = options; supply = supply;
 abbrev pub setting_of : (Bool → ℕ → Option Shown) → Options → Setting
 setting_of supply options = setting_with supply options []
 
-abbrev pub way_at : Setting → ℕ → SessionSetting
-way_at setting bytes = session_setting setting.supply (session_options_of setting.options bytes)
+abbrev pub session_setting_at : Setting → ℕ → SessionSetting
+session_setting_at setting bytes = session_setting setting.supply (session_options_of setting.options bytes)
 
 -- the text spells a tree; listeners are attached to its module, and the script runs on it
 abbrev pub IsRead : Setting → List Shown → List ℕ → ℕ → List ℕ → Type 0
 IsRead setting boxes input status out =
     (m : Module) × IsWorldOf setting.options.opaque (module_text input) m
-    × IsSession (way_at setting (length input)) setting.start boxes m (script_text input) status out
+    × IsSession (session_setting_at setting (length input)) setting.start boxes m (script_text input) status out
 
 -- this status and these bytes are an output of the input, with these listeners; an oversized input has only one
 -- output

@@ -16,7 +16,7 @@ ghost use Rattle.mlir_work_session.specs.Ran.{AttachedOut, RanOut};
 ghost use Rattle.mlir_work_session.specs.Sittings.{sitting_of};
 ghost use Rattle.mlir_work_run.specs.Live.{AreFirst, HasFailedLive, IsLive, IsLiveOf, IsWholeUpTo, Live, LiveEnded, LiveEndedAt, LiveLeaves, Lives, divider_bytes};
 ghost use Rattle.mlir_work_run.specs.Live.{exit_of, halt_of, halted_of, whole_lines};
-ghost use Rattle.mlir_work_run.specs.Whole.{IsOutput, IsWorldOf, Setting, WhyNot, module_cause, setting_with};
+ghost use Rattle.mlir_work_run.specs.Whole.{IsOutput, IsWorldOf, Setting, WhyNot, module_construct, setting_with};
 ghost use Rattle.rewriter_machine.specs.Journals.{TracksRemovedKeys, HasNoStaleIds};
 
 use crate::feed::{LineError, take_line};
@@ -203,7 +203,7 @@ fn worse(accepted: bool, status: u8) -> u8
 }
 
 /// Answers a module in a rewriter and the lines after it.
-fn answer_bench<L: AnalysisSource, R: Source, W: Sink>(
+fn answer_in_rewriter<L: AnalysisSource, R: Source, W: Sink>(
     alloc: Global,
     options: Options,
     before: usize,
@@ -269,7 +269,7 @@ fn answer_world<L: AnalysisSource, R: Source, W: Sink>(
         (W.stream writer.old) (W.stream writer.new) (W.handed writer.new) result }
 {
     let mut bench = Bench::from_world(alloc, world);
-    answer_bench(
+    answer_in_rewriter(
         alloc, options, before, &mut bench, kept, reader, writer, boxes, registry,
     )
 }
@@ -281,7 +281,7 @@ fn world_of(alloc: Global, key: u64, opaque: bool, text: &[u8]) -> Result<World,
     ensures slotted { IfOk result (λ w. TracksRemovedKeys w.store) }
     ensures tidy { IfOk result (λ w. HasNoStaleIds w.store) }
     ensures unparsed { IfErr result (λ e. WhyNot opaque text.now e.refusal e.offset) }
-    ensures unsupported { IfErr result (λ e. e.unsupported ≡ module_cause text.now e.refusal e.offset) }
+    ensures unsupported { IfErr result (λ e. e.unsupported ≡ module_construct text.now e.refusal e.offset) }
 {
     let (ctx, tree) = match tree_of(alloc, key, opaque, text) {
         Ok(found) => found,
@@ -302,7 +302,7 @@ fn taken(alloc: Global, key: u64, opaque: bool, text: Vec<u8>) -> Result<(World,
     ensures tidy { IfOk result (λ x. HasNoStaleIds x.0.store) }
     ensures bytes { IfOk result (λ x. x.1 ≡ length text.items + divider_bytes) }
     ensures unparsed { IfErr result (λ e. WhyNot opaque text.items e.refusal e.offset) }
-    ensures unsupported { IfErr result (λ e. e.unsupported ≡ module_cause text.items e.refusal e.offset) }
+    ensures unsupported { IfErr result (λ e. e.unsupported ≡ module_construct text.items e.refusal e.offset) }
 {
     let Some(before) = text.len().checked_add(DIVIDER_BYTES) else {
         return Err(no_memory());

@@ -19,9 +19,9 @@ ghost use Rattle.mlir_work_session.specs.Output.{IsSession, SessionSetting, sess
 ghost use Rattle.mlir_work_session.specs.PrintsAlone.{all_print, kinds_apart};
 ghost use Rattle.mlir_work_run.specs.Ends.{EndedSo, HandedOut, HasFailed, HasStatus, Leaves, LeavesAt, ended_of};
 ghost use Rattle.mlir_work_run.specs.Ends.{status_of};
-ghost use Rattle.mlir_work_run.specs.Whole.{IsOutput, IsRefusal, WhyNot, cause_if, session_options_of, module_cause, setting_of, setting_with};
+ghost use Rattle.mlir_work_run.specs.Whole.{IsOutput, IsRefusal, WhyNot, construct_if, session_options_of, module_construct, setting_of, setting_with};
 
-use crate::write_refusal::{cause_if, write_module_refusal};
+use crate::write_refusal::{construct_if, write_module_refusal};
 use dialects_int::tables::registry;
 use ir_event::analysis::Analysis;
 use ir_event::trees::count::op_count;
@@ -87,8 +87,8 @@ pub struct ParseError {
 }
 
 /// Returns the unsupported MLIR construct at the byte at which a text was refused, if that is the reason.
-fn cause_of(text: &[u8], refusal: Refusal, offset: usize) -> Option<UnsupportedConstruct>
-    ensures { result ≡ module_cause text.now refusal (Some offset) }
+fn construct_of(text: &[u8], refusal: Refusal, offset: usize) -> Option<UnsupportedConstruct>
+    ensures { result ≡ module_construct text.now refusal (Some offset) }
 {
     match refusal {
         Refusal::LeftOut => Some(unsupported_at(text, offset)),
@@ -109,7 +109,7 @@ pub fn tree_of(
     ensures sound { IfOk result (λ x. IsSoundIn x.0 x.1) }
     ensures mode { IfOk result (λ x. x.0.opaque ≡ opaque) }
     ensures unparsed { IfErr result (λ e. WhyNot opaque text.now e.refusal e.offset) }
-    ensures unsupported { IfErr result (λ e. e.unsupported ≡ module_cause text.now e.refusal e.offset) }
+    ensures unsupported { IfErr result (λ e. e.unsupported ≡ module_construct text.now e.refusal e.offset) }
 {
     match read_module(alloc, key, opaque, text) {
         Ok(found) => Ok(found),
@@ -126,7 +126,7 @@ pub fn tree_of(
         Err(ReadError::Refused { refusal, offset }) => Err(ParseError {
             refusal,
             offset: Some(offset),
-            unsupported: cause_of(text, refusal, offset),
+            unsupported: construct_of(text, refusal, offset),
         }),
     }
 }
@@ -194,14 +194,14 @@ pub(crate) fn refuse<W: Sink>(
     explain: bool,
     unparsed: ParseError,
 ) -> Result<u8, WriteFault>
-    ensures { HandedOut (IsRefusal unparsed.refusal unparsed.offset (cause_if explain unparsed.unsupported))
+    ensures { HandedOut (IsRefusal unparsed.refusal unparsed.offset (construct_if explain unparsed.unsupported))
         (W.stream writer.old) (W.stream writer.new) (W.handed writer.new) result }
 {
     match write_module_refusal(
         writer,
         unparsed.refusal,
         unparsed.offset,
-        cause_if(explain, unparsed.unsupported),
+        construct_if(explain, unparsed.unsupported),
     ) {
         Ok(()) => finish(writer, 3),
         Err(fault) => Err(fault),
@@ -221,7 +221,7 @@ fn taken_apart(
     ensures mode { IfOk result (λ x. x.0.0.opaque ≡ opaque) }
     ensures script { IfOk result (λ x. x.1.items ≡ script_text input.items) }
     ensures unparsed { IfErr result (λ e. WhyNot opaque (module_text input.items) e.refusal e.offset) }
-    ensures unsupported { IfErr result (λ e. e.unsupported ≡ module_cause (module_text input.items) e.refusal e.offset) }
+    ensures unsupported { IfErr result (λ e. e.unsupported ≡ module_construct (module_text input.items) e.refusal e.offset) }
 {
     let (module, script) = split(&input);
     let found = match tree_of(alloc, key, opaque, module) {

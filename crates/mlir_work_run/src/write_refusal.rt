@@ -1,7 +1,7 @@
 //! Writes the line for a refused module.
 ghost use Rattle.std.specs.Prelude.{◌≡◌, Some};
 ghost use Rattle.mlir_work_session.specs.Writes.{Writes};
-ghost use Rattle.mlir_work_run.specs.Whole.{cause_if as cause_where, module_refused_text};
+ghost use Rattle.mlir_work_run.specs.Whole.{construct_if as construct_where, module_refused_text};
 
 use ir_event::types::refusal::Refusal;
 use itoa::Buffer;
@@ -11,11 +11,11 @@ use mlir_work_session::sink::Sink;
 use mlir_work_session::writing::{WriteFault, write_all};
 
 /// Returns the unsupported construct if `explain` is set.
-pub(crate) fn cause_if(
+pub(crate) fn construct_if(
     explain: bool,
     unsupported: Option<UnsupportedConstruct>,
 ) -> Option<UnsupportedConstruct>
-    ensures { result ≡ cause_where explain unsupported }
+    ensures { result ≡ construct_where explain unsupported }
 {
     match unsupported {
         None => None,

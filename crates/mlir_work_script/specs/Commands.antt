@@ -8,7 +8,7 @@ use Rattle.ir_event.specs.trees.declared.value.Value.{Value}
 use Rattle.rewriter_machine.specs.Commands as said
 use Rattle.rewriter_machine.specs.Commands.{Command as Said, RuleName}
 use Rattle.rewriter_machine.specs.Points.{Point}
-use Rattle.mlir_work_script.specs.RegistryCommands.{RegistryCommand, registry_order_in, registry_order_of}
+use Rattle.mlir_work_script.specs.RegistryCommands.{RegistryCommand, registry_command_in, registry_command_of}
 use Rattle.mlir_work_script_base.specs.Clauses.{Clauses, clauses_of, mode_of, no_clauses, target_of, with_clauses}
 use Rattle.mlir_work_script.specs.declared.command.Command.{Command}
 use Rattle.mlir_work_script.specs.declared.command.Command.TheVariants as code
@@ -18,7 +18,7 @@ use Rattle.mlir_work_script.specs.Expecting.{command_after, expected_in}
 use Rattle.mlir_work_script_base.specs.Keys.{key_bytes, key_in}
 use Rattle.mlir_work_script_base.specs.Kinds.{kind_of}
 use Rattle.mlir_work_script_base.specs.Numbers.{number_of}
-use Rattle.mlir_work_script.specs.SessionCommands.{SessionCommand, order_in, order_of}
+use Rattle.mlir_work_script.specs.SessionCommands.{SessionCommand, session_command_in, session_command_of}
 use Rattle.mlir_work_script_base.specs.RuleNames.{name_of, rule_in}
 use Rattle.mlir_work_script_base.specs.InsertionPoints.{insertion_point_of, point_in}
 use Rattle.mlir_work_script_base.specs.Values.{op_of, value_of}
@@ -57,8 +57,8 @@ abbrev pub spoken_of : Line → Spoken
 spoken_of line.Empty = Nothing
 spoken_of line.BadCommand = Bad
 spoken_of (line.Command command) = Obey (said_of command)
-spoken_of (line.Session session_command) = Ordered (order_of session_command)
-spoken_of (line.Registry session_command) = Registered (registry_order_of session_command)
+spoken_of (line.Session session_command) = Ordered (session_command_of session_command)
+spoken_of (line.Registry session_command) = Registered (registry_command_of session_command)
 
 -- the command, if nothing is left
 abbrev pub alone : List ℕ → Option Said → Option Said
@@ -213,9 +213,9 @@ abbrev pub obey_from : Option Said → Spoken
 obey_from None = Bad
 obey_from (Some said) = Obey said
 
-abbrev pub order_or : Option SessionCommand → Option Said → Spoken
-order_or None said = obey_from said
-order_or (Some session_command) said = Ordered session_command
+abbrev pub session_command_or : Option SessionCommand → Option Said → Spoken
+session_command_or None said = obey_from said
+session_command_or (Some session_command) said = Ordered session_command
 
 abbrev pub registered_or : Option RegistryCommand → Spoken → Spoken
 registered_or None said = said
@@ -223,7 +223,7 @@ registered_or (Some session_command) said = Registered session_command
 
 -- the meaning of a text that isn't empty and isn't a comment, or of the command after an expected refusal
 abbrev pub text_says : List ℕ → Spoken
-text_says text = registered_or (registry_order_in text) (order_or (order_in text) (command_of text))
+text_says text = registered_or (registry_command_in text) (session_command_or (session_command_in text) (command_of text))
 
 -- the meaning of a trimmed UTF-8 line; an empty line or a comment has no command
 abbrev pub trimmed_says : List ℕ → Spoken

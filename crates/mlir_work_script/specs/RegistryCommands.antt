@@ -25,18 +25,18 @@ pub data RegistryCommand : Type 0 where
   Sample : List ℕ → ℕ → RegistryCommand
 
 -- the model of a registry command, read from memory
-abbrev pub registry_order_of : Coded → RegistryCommand
-registry_order_of (code.Define text) = Define text.now
-registry_order_of (code.Redefine text) = Redefine text.now
-registry_order_of (code.Forget name) = Forget name.now
-registry_order_of code.Patterns = Patterns
-registry_order_of (code.Check name width) = Check name.now width
-registry_order_of code.CheckAll = CheckAll
-registry_order_of (code.Sample name width) = Sample name.now width
+abbrev pub registry_command_of : Coded → RegistryCommand
+registry_command_of (code.Define text) = Define text.now
+registry_command_of (code.Redefine text) = Redefine text.now
+registry_command_of (code.Forget name) = Forget name.now
+registry_command_of code.Patterns = Patterns
+registry_command_of (code.Check name width) = Check name.now width
+registry_command_of code.CheckAll = CheckAll
+registry_command_of (code.Sample name width) = Sample name.now width
 
 -- the command, if nothing is left
-abbrev pub all_told : List ℕ → Option RegistryCommand → Option RegistryCommand
-all_told rest session_command = if length rest == 0 then session_command else None
+abbrev pub if_at_end : List ℕ → Option RegistryCommand → Option RegistryCommand
+if_at_end rest session_command = if length rest == 0 then session_command else None
 
 -- pattern TEXT; the text is the rest of the line
 abbrev pub define_in : List ℕ → Option RegistryCommand
@@ -48,7 +48,7 @@ redefine_in rest = if length rest == 0 then None else Some (Redefine rest)
 
 -- patterns
 abbrev pub patterns_in : List ℕ → Option RegistryCommand
-patterns_in rest = all_told rest (Some Patterns)
+patterns_in rest = if_at_end rest (Some Patterns)
 
 -- a name is a word that isn't empty and doesn't begin with a digit
 abbrev pub is_name : List ℕ → Bool
@@ -57,20 +57,20 @@ is_name (b ∷ bs) = not (is_ascii_digit b)
 
 -- forget NAME
 abbrev pub forget_in : List ℕ → Option RegistryCommand
-forget_in rest = if is_name (word_of rest) then all_told (after_word rest) (Some (Forget (word_of rest))) else None
+forget_in rest = if is_name (word_of rest) then if_at_end (after_word rest) (Some (Forget (word_of rest))) else None
 
 -- the text after a width: nothing, or `sampled`
-abbrev pub tried_in : List ℕ → List ℕ → ℕ → Option RegistryCommand
-tried_in name rest w =
+abbrev pub checked_or_sampled_in : List ℕ → List ℕ → ℕ → Option RegistryCommand
+checked_or_sampled_in name rest w =
     if length rest == 0 then Some (Check name (Some w))
-    else if bytes_eq (word_of rest) (codes "sampled") then all_told (after_word rest) (Some (Sample name w))
+    else if bytes_eq (word_of rest) (codes "sampled") then if_at_end (after_word rest) (Some (Sample name w))
     else None
 
 -- width W [sampled]
 abbrev pub width_in : List ℕ → List ℕ → Option RegistryCommand
 width_in name text =
     if bytes_eq (word_of text) (codes "width")
-    then option_and_then (tried_in name (after_word (after_word text))) (number_of (word_of (after_word text)))
+    then option_and_then (checked_or_sampled_in name (after_word (after_word text))) (number_of (word_of (after_word text)))
     else None
 
 -- check NAME; `check all` checks each pattern
@@ -86,8 +86,8 @@ abbrev pub check_in : List ℕ → Option RegistryCommand
 check_in rest = if is_name (word_of rest) then checked_in (word_of rest) (after_word rest) else None
 
 -- a registry command, from its name and the rest of the line
-abbrev pub registry_order_named : List ℕ → List ℕ → Option RegistryCommand
-registry_order_named name rest =
+abbrev pub registry_command_named : List ℕ → List ℕ → Option RegistryCommand
+registry_command_named name rest =
     if bytes_eq name (codes "pattern") then define_in rest
     else if bytes_eq name (codes "pattern!") then redefine_in rest
     else if bytes_eq name (codes "forget") then forget_in rest
@@ -96,5 +96,5 @@ registry_order_named name rest =
     else None
 
 -- a trimmed line as a registry command
-abbrev pub registry_order_in : List ℕ → Option RegistryCommand
-registry_order_in text = registry_order_named (word_of text) (after_word text)
+abbrev pub registry_command_in : List ℕ → Option RegistryCommand
+registry_command_in text = registry_command_named (word_of text) (after_word text)

@@ -38,16 +38,16 @@ pub data SessionCommand : Type 0 where
   Why : ℕ → Option RuleName → SessionCommand
 
 -- the model of a session command, read from memory
-abbrev pub order_of : Coded → SessionCommand
-order_of (code.Attach kind) = Attach kind
-order_of code.PrintIds = PrintIds
-order_of (code.ReportAbout kind subject) = ReportOf kind subject
-order_of (code.Rewrite rules proved limit) = Rewrite (names_of rules.now) proved limit
-order_of (code.Trace rules proved limit) = Trace (option_map names_of (option_copied rules)) proved limit
-order_of (code.Fired rules proved limit) = Fired (option_map names_of (option_copied rules)) proved limit
-order_of (code.TraceConvert full clauses) = TraceConvert (target_of full (clauses_of clauses))
-order_of (code.CanonAt op limit) = CanonAt op limit
-order_of (code.Why op rule) = Why op (option_map name_of rule)
+abbrev pub session_command_of : Coded → SessionCommand
+session_command_of (code.Attach kind) = Attach kind
+session_command_of code.PrintIds = PrintIds
+session_command_of (code.ReportAbout kind subject) = ReportOf kind subject
+session_command_of (code.Rewrite rules proved limit) = Rewrite (names_of rules.now) proved limit
+session_command_of (code.Trace rules proved limit) = Trace (option_map names_of (option_copied rules)) proved limit
+session_command_of (code.Fired rules proved limit) = Fired (option_map names_of (option_copied rules)) proved limit
+session_command_of (code.TraceConvert full clauses) = TraceConvert (target_of full (clauses_of clauses))
+session_command_of (code.CanonAt op limit) = CanonAt op limit
+session_command_of (code.Why op rule) = Why op (option_map name_of rule)
 
 -- the result, if nothing is left
 abbrev pub all_said : {A : Type 0} → List ℕ → Option A → Option A
@@ -130,8 +130,8 @@ why_in rest = option_and_then
     (λ op. option_map (λ rule. Why op rule) (rule_or_none (after_word rest))) (op_of (word_of rest))
 
 -- canon only, with the arguments of rewrite, canon trace [limit N], canon fired [limit N], and canon at #N [limit N]
-abbrev pub canon_order_in : List ℕ → Option SessionCommand
-canon_order_in rest =
+abbrev pub canon_command_in : List ℕ → Option SessionCommand
+canon_command_in rest =
     if bytes_eq (word_of rest) (codes "only") then rewrite_in (after_word rest)
     else if bytes_eq (word_of rest) (codes "trace") then trace_in None false (after_word rest)
     else if bytes_eq (word_of rest) (codes "fired") then fired_in None false (after_word rest)
@@ -149,21 +149,21 @@ abbrev pub convert_trace_in : List ℕ → Option SessionCommand
 convert_trace_in rest = target_in (mode_of (word_of rest)) (with_clauses (words_of (after_word rest)) (Some no_clauses))
 
 -- the arguments of convert trace MODE CLAUSES
-abbrev pub convert_order_in : List ℕ → Option SessionCommand
-convert_order_in rest = if bytes_eq (word_of rest) (codes "trace") then convert_trace_in (after_word rest) else None
+abbrev pub convert_command_in : List ℕ → Option SessionCommand
+convert_command_in rest = if bytes_eq (word_of rest) (codes "trace") then convert_trace_in (after_word rest) else None
 
 -- a session command, from its name and the rest of the line
-abbrev pub order_named : List ℕ → List ℕ → Option SessionCommand
-order_named name rest =
+abbrev pub session_command_named : List ℕ → List ℕ → Option SessionCommand
+session_command_named name rest =
     if bytes_eq name (codes "attach") then attach_in rest
     else if bytes_eq name (codes "print") then ids_in rest
     else if bytes_eq name (codes "report") then report_in rest
     else if bytes_eq name (codes "rewrite") then rewrite_in rest
-    else if bytes_eq name (codes "canon") then canon_order_in rest
-    else if bytes_eq name (codes "convert") then convert_order_in rest
+    else if bytes_eq name (codes "canon") then canon_command_in rest
+    else if bytes_eq name (codes "convert") then convert_command_in rest
     else if bytes_eq name (codes "why") then why_in rest
     else None
 
 -- a trimmed line as a session command
-abbrev pub order_in : List ℕ → Option SessionCommand
-order_in text = order_named (word_of text) (after_word text)
+abbrev pub session_command_in : List ℕ → Option SessionCommand
+session_command_in text = session_command_named (word_of text) (after_word text)

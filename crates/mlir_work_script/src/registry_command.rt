@@ -1,7 +1,7 @@
 //! Parses the commands on the pattern registry of a session.
 ghost use Rattle.std.specs.Prelude.{◌≡◌, option_map};
-ghost use Rattle.mlir_work_script.specs.RegistryCommands.{registry_order_in, registry_order_named, registry_order_of, check_in, checked_in};
-ghost use Rattle.mlir_work_script.specs.RegistryCommands.{define_in, forget_in, is_name, patterns_in, redefine_in, tried_in, unsized_check, width_in};
+ghost use Rattle.mlir_work_script.specs.RegistryCommands.{registry_command_in, registry_command_named, registry_command_of, check_in, checked_in};
+ghost use Rattle.mlir_work_script.specs.RegistryCommands.{define_in, forget_in, is_name, patterns_in, redefine_in, checked_or_sampled_in, unsized_check, width_in};
 
 use mlir_work_script_base::numbers::parse_number;
 use mlir_work_script_base::words::split_word;
@@ -37,7 +37,7 @@ pub enum RegistryCommand<'a> {
 
 /// Parses the argument of `pattern TEXT`.
 fn define(rest: &[u8]) -> Option<RegistryCommand<'_>>
-    ensures { option_map registry_order_of result ≡ define_in rest.now }
+    ensures { option_map registry_command_of result ≡ define_in rest.now }
 {
     if rest.is_empty() {
         return None;
@@ -47,7 +47,7 @@ fn define(rest: &[u8]) -> Option<RegistryCommand<'_>>
 
 /// Parses the argument of `pattern! TEXT`.
 fn redefine(rest: &[u8]) -> Option<RegistryCommand<'_>>
-    ensures { option_map registry_order_of result ≡ redefine_in rest.now }
+    ensures { option_map registry_command_of result ≡ redefine_in rest.now }
 {
     if rest.is_empty() {
         return None;
@@ -57,7 +57,7 @@ fn redefine(rest: &[u8]) -> Option<RegistryCommand<'_>>
 
 /// Parses `patterns`, which has no arguments.
 fn patterns<'a>(rest: &[u8]) -> Option<RegistryCommand<'a>>
-    ensures { option_map registry_order_of result ≡ patterns_in rest.now }
+    ensures { option_map registry_command_of result ≡ patterns_in rest.now }
 {
     if !rest.is_empty() {
         return None;
@@ -77,7 +77,7 @@ fn is_name(word: &[u8]) -> bool
 
 /// Parses the argument of `forget NAME`.
 fn forget(rest: &[u8]) -> Option<RegistryCommand<'_>>
-    ensures { option_map registry_order_of result ≡ forget_in rest.now }
+    ensures { option_map registry_command_of result ≡ forget_in rest.now }
 {
     let (name, left) = split_word(rest);
     if !is_name(name) || !left.is_empty() {
@@ -88,7 +88,7 @@ fn forget(rest: &[u8]) -> Option<RegistryCommand<'_>>
 
 /// Parses the text after a width: nothing, or `sampled`.
 fn parse_try<'a>(name: &'a [u8], rest: &[u8], width: u32) -> Option<RegistryCommand<'a>>
-    ensures { option_map registry_order_of result ≡ tried_in name.now rest.now width }
+    ensures { option_map registry_command_of result ≡ checked_or_sampled_in name.now rest.now width }
 {
     if rest.is_empty() {
         return Some(RegistryCommand::Check {
@@ -105,7 +105,7 @@ fn parse_try<'a>(name: &'a [u8], rest: &[u8], width: u32) -> Option<RegistryComm
 
 /// Parses `width W [sampled]`.
 fn width<'a>(name: &'a [u8], text: &[u8]) -> Option<RegistryCommand<'a>>
-    ensures { option_map registry_order_of result ≡ width_in name.now text.now }
+    ensures { option_map registry_command_of result ≡ width_in name.now text.now }
 {
     let (word, rest) = split_word(text);
     if word != b"width".as_slice() {
@@ -118,7 +118,7 @@ fn width<'a>(name: &'a [u8], text: &[u8]) -> Option<RegistryCommand<'a>>
 
 /// Returns the command of `check NAME`. `check all` checks each pattern.
 fn unsized_check(name: &[u8]) -> RegistryCommand<'_>
-    ensures { registry_order_of result ≡ unsized_check name.now }
+    ensures { registry_command_of result ≡ unsized_check name.now }
 {
     if name == b"all".as_slice() {
         return RegistryCommand::CheckAll;
@@ -128,7 +128,7 @@ fn unsized_check(name: &[u8]) -> RegistryCommand<'_>
 
 /// Parses the text after a name: nothing, or `width W [sampled]`.
 fn checked<'a>(name: &'a [u8], rest: &[u8]) -> Option<RegistryCommand<'a>>
-    ensures { option_map registry_order_of result ≡ checked_in name.now rest.now }
+    ensures { option_map registry_command_of result ≡ checked_in name.now rest.now }
 {
     if rest.is_empty() {
         return Some(unsized_check(name));
@@ -138,7 +138,7 @@ fn checked<'a>(name: &'a [u8], rest: &[u8]) -> Option<RegistryCommand<'a>>
 
 /// Parses the arguments of `check NAME [width W [sampled]]` and `check all`.
 fn check(rest: &[u8]) -> Option<RegistryCommand<'_>>
-    ensures { option_map registry_order_of result ≡ check_in rest.now }
+    ensures { option_map registry_command_of result ≡ check_in rest.now }
 {
     let (name, rest) = split_word(rest);
     if !is_name(name) {
@@ -148,8 +148,8 @@ fn check(rest: &[u8]) -> Option<RegistryCommand<'_>>
 }
 
 /// Parses a registry command from its name and the rest of the line.
-fn registry_order_named<'a>(name: &[u8], rest: &'a [u8]) -> Option<RegistryCommand<'a>>
-    ensures { option_map registry_order_of result ≡ registry_order_named name.now rest.now }
+fn registry_command_named<'a>(name: &[u8], rest: &'a [u8]) -> Option<RegistryCommand<'a>>
+    ensures { option_map registry_command_of result ≡ registry_command_named name.now rest.now }
 {
     if name == b"pattern".as_slice() {
         return define(rest);
@@ -171,8 +171,8 @@ fn registry_order_named<'a>(name: &[u8], rest: &'a [u8]) -> Option<RegistryComma
 
 /// Parses a trimmed line as a registry command.
 pub(crate) fn parse_registry_command(text: &[u8]) -> Option<RegistryCommand<'_>>
-    ensures { option_map registry_order_of result ≡ registry_order_in text.now }
+    ensures { option_map registry_command_of result ≡ registry_command_in text.now }
 {
     let (name, rest) = split_word(text);
-    registry_order_named(name, rest)
+    registry_command_named(name, rest)
 }

@@ -1,8 +1,8 @@
 //! Parses session commands: the commands that need more than the rewriter.
 ghost use Rattle.std.specs.Prelude.{◌≡◌, None, Some, false, option_map};
-ghost use Rattle.mlir_work_script.specs.SessionCommands.{attach_in, canon_order_in, ids_in, limit_in, maybe_traced_in, order_in, order_named};
-ghost use Rattle.mlir_work_script.specs.SessionCommands.{convert_order_in, convert_trace_in};
-ghost use Rattle.mlir_work_script.specs.SessionCommands.{at_in, fired_in, order_of, Rewrite, rewrite_in, rule_or_none, ruled_in, trace_in, why_in, report_in};
+ghost use Rattle.mlir_work_script.specs.SessionCommands.{attach_in, canon_command_in, ids_in, limit_in, maybe_traced_in, session_command_in, session_command_named};
+ghost use Rattle.mlir_work_script.specs.SessionCommands.{convert_command_in, convert_trace_in};
+ghost use Rattle.mlir_work_script.specs.SessionCommands.{at_in, fired_in, session_command_of, Rewrite, rewrite_in, rule_or_none, ruled_in, trace_in, why_in, report_in};
 ghost use Rattle.mlir_work_script.specs.RuleLists.{names_of};
 ghost use Rattle.mlir_work_script_base.specs.RuleNames.{name_of};
 
@@ -84,7 +84,7 @@ pub enum SessionCommand<'a> {
 
 /// Parses the argument of `attach KIND`.
 fn attach<'a>(rest: &[u8]) -> Option<SessionCommand<'a>>
-    ensures { option_map order_of result ≡ attach_in rest.now }
+    ensures { option_map session_command_of result ≡ attach_in rest.now }
 {
     let (kind, left) = split_word(rest);
     if !left.is_empty() {
@@ -96,7 +96,7 @@ fn attach<'a>(rest: &[u8]) -> Option<SessionCommand<'a>>
 
 /// Parses the argument of `print ids`.
 fn ids<'a>(rest: &[u8]) -> Option<SessionCommand<'a>>
-    ensures { option_map order_of result ≡ ids_in rest.now }
+    ensures { option_map session_command_of result ≡ ids_in rest.now }
 {
     if rest != b"ids".as_slice() {
         return None;
@@ -106,7 +106,7 @@ fn ids<'a>(rest: &[u8]) -> Option<SessionCommand<'a>>
 
 /// Parses the arguments of `report KIND of THING`.
 fn report<'a>(rest: &[u8]) -> Option<SessionCommand<'a>>
-    ensures { option_map order_of result ≡ report_in rest.now }
+    ensures { option_map session_command_of result ≡ report_in rest.now }
 {
     let (kind, rest) = split_word(rest);
     let (of, rest) = split_word(rest);
@@ -143,7 +143,7 @@ fn limit(text: &[u8]) -> Option<Option<u32>>
 
 /// Parses `[limit N]` after `trace`.
 fn trace<'a>(rest: &[u8]) -> Option<SessionCommand<'a>>
-    ensures { option_map order_of result ≡ trace_in None false rest.now }
+    ensures { option_map session_command_of result ≡ trace_in None false rest.now }
 {
     let limit = limit(rest)?;
     Some(SessionCommand::Trace {
@@ -155,7 +155,7 @@ fn trace<'a>(rest: &[u8]) -> Option<SessionCommand<'a>>
 
 /// Parses `[limit N]` after a rule list and `trace`.
 fn traced<'a>(rules: &'a [u8], proved: bool, rest: &[u8]) -> Option<SessionCommand<'a>>
-    ensures { option_map order_of result ≡ trace_in (Some (names_of rules.now)) proved rest.now }
+    ensures { option_map session_command_of result ≡ trace_in (Some (names_of rules.now)) proved rest.now }
 {
     let limit = limit(rest)?;
     Some(SessionCommand::Trace {
@@ -167,7 +167,7 @@ fn traced<'a>(rules: &'a [u8], proved: bool, rest: &[u8]) -> Option<SessionComma
 
 /// Parses `[limit N]` after `fired`.
 fn fired<'a>(rest: &[u8]) -> Option<SessionCommand<'a>>
-    ensures { option_map order_of result ≡ fired_in None false rest.now }
+    ensures { option_map session_command_of result ≡ fired_in None false rest.now }
 {
     let limit = limit(rest)?;
     Some(SessionCommand::Fired {
@@ -179,7 +179,7 @@ fn fired<'a>(rest: &[u8]) -> Option<SessionCommand<'a>>
 
 /// Parses `[limit N]` after a rule list and `fired`.
 fn counted<'a>(rules: &'a [u8], proved: bool, rest: &[u8]) -> Option<SessionCommand<'a>>
-    ensures { option_map order_of result ≡ fired_in (Some (names_of rules.now)) proved rest.now }
+    ensures { option_map session_command_of result ≡ fired_in (Some (names_of rules.now)) proved rest.now }
 {
     let limit = limit(rest)?;
     Some(SessionCommand::Fired {
@@ -191,7 +191,7 @@ fn counted<'a>(rules: &'a [u8], proved: bool, rest: &[u8]) -> Option<SessionComm
 
 /// Parses `[limit N]` after a rule list.
 fn untraced<'a>(rules: &'a [u8], proved: bool, rest: &[u8]) -> Option<SessionCommand<'a>>
-    ensures { option_map order_of result ≡ option_map (λ limit. Rewrite (names_of rules.now) proved limit) (limit_in rest.now) }
+    ensures { option_map session_command_of result ≡ option_map (λ limit. Rewrite (names_of rules.now) proved limit) (limit_in rest.now) }
 {
     let limit = limit(rest)?;
     Some(SessionCommand::Rewrite {
@@ -203,7 +203,7 @@ fn untraced<'a>(rules: &'a [u8], proved: bool, rest: &[u8]) -> Option<SessionCom
 
 /// Parses `[trace] [limit N]` or `fired [limit N]` after a rule list and `[proved]`.
 fn maybe_traced<'a>(rules: &'a [u8], proved: bool, rest: &[u8]) -> Option<SessionCommand<'a>>
-    ensures { option_map order_of result ≡ maybe_traced_in (names_of rules.now) proved rest.now }
+    ensures { option_map session_command_of result ≡ maybe_traced_in (names_of rules.now) proved rest.now }
 {
     let (name, trailing) = split_word(rest);
     if name == b"trace".as_slice() {
@@ -217,7 +217,7 @@ fn maybe_traced<'a>(rules: &'a [u8], proved: bool, rest: &[u8]) -> Option<Sessio
 
 /// Parses `[proved] [trace] [limit N]` or `[proved] fired [limit N]` after a rule list.
 fn ruled<'a>(rules: &'a [u8], rest: &[u8]) -> Option<SessionCommand<'a>>
-    ensures { option_map order_of result ≡ ruled_in (names_of rules.now) rest.now }
+    ensures { option_map session_command_of result ≡ ruled_in (names_of rules.now) rest.now }
 {
     let (name, trailing) = split_word(rest);
     if name == b"proved".as_slice() {
@@ -228,7 +228,7 @@ fn ruled<'a>(rules: &'a [u8], rest: &[u8]) -> Option<SessionCommand<'a>>
 
 /// Parses the arguments of `rewrite RULES [proved] [trace] [limit N]` and `rewrite RULES [proved] fired [limit N]`.
 fn rewrite(rest: &[u8]) -> Option<SessionCommand<'_>>
-    ensures { option_map order_of result ≡ rewrite_in rest.now }
+    ensures { option_map session_command_of result ≡ rewrite_in rest.now }
 {
     let (rules, rest) = split_word(rest);
     if !are_items(rules) {
@@ -239,7 +239,7 @@ fn rewrite(rest: &[u8]) -> Option<SessionCommand<'_>>
 
 /// Parses `#N [limit N]` after `canon at`.
 fn canon_at<'a>(rest: &[u8]) -> Option<SessionCommand<'a>>
-    ensures { option_map order_of result ≡ at_in rest.now }
+    ensures { option_map session_command_of result ≡ at_in rest.now }
 {
     let (op, rest) = split_word(rest);
     let op = op_named(op)?;
@@ -264,7 +264,7 @@ fn rule_or_none(text: &[u8]) -> Option<Option<RuleName<'_>>>
 
 /// Parses the arguments of `why #N [RULE]`.
 fn why(rest: &[u8]) -> Option<SessionCommand<'_>>
-    ensures { option_map order_of result ≡ why_in rest.now }
+    ensures { option_map session_command_of result ≡ why_in rest.now }
 {
     let (op, rest) = split_word(rest);
     let op = op_named(op)?;
@@ -275,7 +275,7 @@ fn why(rest: &[u8]) -> Option<SessionCommand<'_>>
 /// Parses the arguments of `canon only`, which are those of `rewrite`, and of `canon trace [limit N]`,
 /// `canon fired [limit N]` and `canon at #N [limit N]`.
 fn canon(rest: &[u8]) -> Option<SessionCommand<'_>>
-    ensures { option_map order_of result ≡ canon_order_in rest.now }
+    ensures { option_map session_command_of result ≡ canon_command_in rest.now }
 {
     let (name, rest) = split_word(rest);
     if name == b"only".as_slice() {
@@ -295,7 +295,7 @@ fn canon(rest: &[u8]) -> Option<SessionCommand<'_>>
 
 /// Parses a mode and clauses after `convert trace`.
 fn convert_traced(rest: &[u8]) -> Option<SessionCommand<'_>>
-    ensures { option_map order_of result ≡ convert_trace_in rest.now }
+    ensures { option_map session_command_of result ≡ convert_trace_in rest.now }
 {
     let (mode, rest) = split_word(rest);
     let full = mode_named(mode)?;
@@ -305,7 +305,7 @@ fn convert_traced(rest: &[u8]) -> Option<SessionCommand<'_>>
 
 /// Parses the arguments of `convert trace MODE CLAUSES`.
 fn convert(rest: &[u8]) -> Option<SessionCommand<'_>>
-    ensures { option_map order_of result ≡ convert_order_in rest.now }
+    ensures { option_map session_command_of result ≡ convert_command_in rest.now }
 {
     let (name, rest) = split_word(rest);
     if name != b"trace".as_slice() {
@@ -315,8 +315,8 @@ fn convert(rest: &[u8]) -> Option<SessionCommand<'_>>
 }
 
 /// Parses a session command from its name and the rest of the line.
-fn order_named<'a>(name: &[u8], rest: &'a [u8]) -> Option<SessionCommand<'a>>
-    ensures { option_map order_of result ≡ order_named name.now rest.now }
+fn session_command_named<'a>(name: &[u8], rest: &'a [u8]) -> Option<SessionCommand<'a>>
+    ensures { option_map session_command_of result ≡ session_command_named name.now rest.now }
 {
     if name == b"attach".as_slice() {
         return attach(rest);
@@ -344,8 +344,8 @@ fn order_named<'a>(name: &[u8], rest: &'a [u8]) -> Option<SessionCommand<'a>>
 
 /// Parses a trimmed line as a session command.
 pub(crate) fn parse_session_command(text: &[u8]) -> Option<SessionCommand<'_>>
-    ensures { option_map order_of result ≡ order_in text.now }
+    ensures { option_map session_command_of result ≡ session_command_in text.now }
 {
     let (name, rest) = split_word(text);
-    order_named(name, rest)
+    session_command_named(name, rest)
 }

@@ -3,7 +3,7 @@ use Rattle.std.proofs.Math.Seq.{drop-cons}
 use Rattle.std.proofs.lemmas.Grind.{common_steps}
 use Rattle.std.specs.Prelude.{IfSome}
 use Rattle.std.specs.Io.KnownBytes.{Appends, Consumes, Keeps}
-use Rattle.mlir_work_script_base.specs.Writes.{AppendsPreceding, Fails, Grows, GrowsPreceding, Writes, PutsSome, Stays, Stream, joined}
+use Rattle.mlir_work_script_base.specs.Writes.{AppendsPreceding, Fails, Grows, GrowsPreceding, Writes, WritesSome, Stays, Stream, joined}
 
 pub appends_none : (a b : Option (List ℕ)) → Keeps a b → Appends a b []
 appends_none None b k = tt
@@ -62,7 +62,7 @@ pub preceding_within : (a b c : Stream) (whole preceding chunk rest : List ℕ) 
 preceding_within a b c whole preceding chunk rest e h k = rw e (preceding_join a b c preceding (chunk ++ rest) h (preceding_more b c chunk rest k))
 
 -- bytes that satisfy `P`, followed by bytes that satisfy `Q`
-pub then_put : {T E : Type 0} (P Q S : List ℕ → Type 0) (a b c : Stream) (r : Result T E) → ((xs ys : List ℕ) → P xs → Q ys → S (xs ++ ys)) → (xs : List ℕ) × P xs × Grows a b xs → PutsSome Q b c r → PutsSome S a c r
+pub then_put : {T E : Type 0} (P Q S : List ℕ → Type 0) (a b c : Stream) (r : Result T E) → ((xs ys : List ℕ) → P xs → Q ys → S (xs ++ ys)) → (xs : List ℕ) × P xs × Grows a b xs → WritesSome Q b c r → WritesSome S a c r
 then_put P Q S a b c r join (xs, p, h) (ys, q, k) = (xs ++ ys, join xs ys p q, puts_join a b c xs ys r h k)
 
 -- a prefix of bytes that satisfy `P`, followed by bytes that satisfy `Q`

@@ -29,11 +29,11 @@ rewriting (Numbered n) = if nat_le n 24 then Some (Numbered n) else None
 rewriting (Worded word) = Some (Worded word)
 
 -- whether an item of a list may name a rewriting rule, and whether each item does
-abbrev pub is_tried : List ℕ → Bool
-is_tried item = is_some (option_and_then rewriting (rule_in item))
+abbrev pub is_rewriting_rule : List ℕ → Bool
+is_rewriting_rule item = is_some (option_and_then rewriting (rule_in item))
 
-abbrev pub are_tried : List ℕ → Bool
-are_tried text = list_all is_tried (items_of text)
+abbrev pub are_rewriting_rules : List ℕ → Bool
+are_rewriting_rules text = list_all is_rewriting_rule (items_of text)
 
 -- the rule name of an item; a malformed item becomes a word that no rule has
 abbrev pub name_or_none : Option Said → Said

@@ -1,6 +1,6 @@
 //! Parses rule names and lists of rules.
 ghost use Rattle.std.specs.Prelude.{◌≡◌, option_map};
-ghost use Rattle.mlir_work_script_base.specs.RuleNames.{are_tried, is_tried, name_of, name_or_none, numbered, rule_in};
+ghost use Rattle.mlir_work_script_base.specs.RuleNames.{are_rewriting_rules, is_rewriting_rule, name_of, name_or_none, numbered, rule_in};
 
 use crate::items::split_item;
 use crate::numbers::parse_number;
@@ -49,8 +49,8 @@ pub fn name_in(item: &[u8]) -> RuleName<'_>
 }
 
 /// Returns whether an item of a list may name a rewriting rule. The numbers 25 to 30 are conversion rules.
-fn is_tried(item: &[u8]) -> bool
-    ensures { result ≡ is_tried item.now }
+fn is_rewriting_rule(item: &[u8]) -> bool
+    ensures { result ≡ is_rewriting_rule item.now }
 {
     match rule_named(item) {
         Some(RuleName::Number(number)) => number <= 24,
@@ -60,13 +60,13 @@ fn is_tried(item: &[u8]) -> bool
 }
 
 /// Returns whether each item of a list may name a rewriting rule.
-pub fn are_tried(text: &[u8]) -> bool
-    ensures { result ≡ are_tried text.now }
+pub fn are_rewriting_rules(text: &[u8]) -> bool
+    ensures { result ≡ are_rewriting_rules text.now }
 {
     let mut rest = Some(text);
     'items: while let Some(items) = rest {
         let (item, trailing) = split_item(items);
-        if !is_tried(item) {
+        if !is_rewriting_rule(item) {
             return false;
         }
         rest = trailing;

@@ -4,7 +4,6 @@ use Rattle.std.specs.Option.{option_map}
 use Rattle.std.specs.List.{find}
 use Rattle.ir_event.specs.types.Things.{ContextModel}
 use Rattle.ir_event.specs.types.Terms.{name_term, type_term, attr_term}
-use Rattle.ir_event.specs.types.declared.refusal.Refusal.{Refusal}
 use Rattle.ir_event.specs.types.declared.refusal.Refusal.TheVariants.{Memory, NoSuchKind, Stale}
 use Rattle.ir_event.specs.trees.Tree.{Op}
 use Rattle.ir_event.specs.trees.Ids.{has_id}
@@ -19,9 +18,8 @@ use Rattle.ir_event.specs.Panels.{is_kind as has_this_kind}
 use Rattle.mlir_work_transforms.specs.rewriter.Held.{TransactionModel, module_held}
 use Rattle.mlir_work_transforms.specs.rewriter.RewriterCalls.{Benched, state_of}
 use Rattle.mlir_work_transforms.specs.rewriter.Commands.{Replied}
-use Rattle.mlir_work_transforms.specs.rewriter.Machine as call
-use Rattle.mlir_work_transforms.specs.rewriter.Machine.{State, Reply, Done, Refused, Shows, Nothing, Rows, Goes}
-use Rattle.mlir_work_transforms.specs.rewriter.Panels.{Shown, is_kind, shown}
+use Rattle.mlir_work_transforms.specs.rewriter.Machine.{Done, Refused, Nothing, Rows}
+use Rattle.mlir_work_transforms.specs.rewriter.Panels.{is_kind, shown}
 use Rattle.mlir_work_script.specs.SessionCommands.{ReportOf}
 use Rattle.mlir_work_script_base.specs.declared.subject.Subject.{Subject}
 use Rattle.mlir_work_script_base.specs.declared.subject.Subject.TheVariants as subject

@@ -10,7 +10,7 @@ use Rattle.mlir_work_transforms.specs.rewriter.Machine.{State, Call, Reply, Done
 use Rattle.mlir_work_transforms.specs.rewriter.Panels.{Shown}
 use Rattle.mlir_work_script.specs.SessionCommands.{Attach, CanonAt, Fired, SessionCommand, PrintIds, Rewrite, Trace, TraceConvert, Why, ReportOf}
 use Rattle.mlir_work_session_base.specs.IdsText.{ids_text}
-use Rattle.mlir_work_session.specs.Machine.{AsksWhy, AttachesKind, RunsSessionCommand, OrdersIn, SessionSetting, limit_or, order_bytes, told_if, AsksAbout, order_shows, shows_about}
+use Rattle.mlir_work_session.specs.Machine.{AsksWhy, AttachesKind, RunsSessionCommand, SessionCommandAsks, SessionSetting, limit_or, session_command_bytes, bytes_if, AsksAbout, session_command_shows, shows_about}
 use Rattle.mlir_work_script_base.specs.declared.subject.Subject.{Subject}
 use Rattle.mlir_work_session_base.specs.Subjects.{absent, is_there}
 use Rattle.mlir_work_transforms.specs.registry.Replies.{IsBounded, is_accepted}
@@ -37,7 +37,7 @@ refused_fired (Some rs) limit m refusal = refl
 
 module _ (setting : SessionSetting) where
   -- a session command that calls the machine
-  pub fulfils_call : (s t : State) (o : SessionCommand) (c : Call) (reply : Reply) (shows : Shows) → OrdersIn setting o s.held (Ask c) → Goes s c reply shows t → RunsSessionCommand setting s o (Replied reply) (order_bytes setting o s.held (Replied reply) shows) t
+  pub fulfils_call : (s t : State) (o : SessionCommand) (c : Call) (reply : Reply) (shows : Shows) → SessionCommandAsks setting o s.held (Ask c) → Goes s c reply shows t → RunsSessionCommand setting s o (Replied reply) (session_command_bytes setting o s.held (Replied reply) shows) t
   fulfils_call s t o c reply shows asks goes = record { requested = Ask c; shows = shows; asks = asks; follows = goes; text = refl }
 
   -- ---- attaching
@@ -47,7 +47,7 @@ module _ (setting : SessionSetting) where
   fulfils_unsupplied kind s e =
       record { requested = Misplaced NoSuchKind; shows = Nothing; asks = subst (λ (o : Option Shown). AttachesKind o (Misplaced NoSuchKind)) (sym e) refl; follows = (refl, refl, refl); text = refl }
 
-  asks_supplied : (kind : ℕ) (a : Shown) (m : Module) → setting.supply kind ≡ Some a → OrdersIn setting (Attach kind) m (Ask (call.Attach a))
+  asks_supplied : (kind : ℕ) (a : Shown) (m : Module) → setting.supply kind ≡ Some a → SessionCommandAsks setting (Attach kind) m (Ask (call.Attach a))
   asks_supplied kind a m e = subst (λ (o : Option Shown). AttachesKind o (Ask (call.Attach a))) (sym e) refl
 
   -- `attach` of a kind with an analysis calls the machine
@@ -69,12 +69,12 @@ module _ (setting : SessionSetting) where
   fulfils_no_subject kind subject s e =
       record { requested = Misplaced (absent subject); shows = Nothing; asks = subst (λ (there : Bool). AsksAbout there kind subject (Misplaced (absent subject))) (sym e) refl; follows = (refl, refl, refl); text = refl }
 
-  asks_about : (kind : ℕ) (subject : Subject) (m : Module) → is_there subject m.tree ≡ true → OrdersIn setting (ReportOf kind subject) m (Ask (call.Report kind))
+  asks_about : (kind : ℕ) (subject : Subject) (m : Module) → is_there subject m.tree ≡ true → SessionCommandAsks setting (ReportOf kind subject) m (Ask (call.Report kind))
   asks_about kind subject m e = subst (λ (there : Bool). AsksAbout there kind subject (Ask (call.Report kind))) (sym e) refl
 
   -- a report about an existing operation or value
   pub fulfils_about : (kind : ℕ) (subject : Subject) (s : State) (reply : Reply) (shows : Shows) → is_there subject s.held.tree ≡ true → Goes s (call.Report kind) reply shows s
-      → RunsSessionCommand setting s (ReportOf kind subject) (Replied reply) (order_shows (shows_about subject shows)) s
+      → RunsSessionCommand setting s (ReportOf kind subject) (Replied reply) (session_command_shows (shows_about subject shows)) s
   fulfils_about kind subject s reply shows there goes = fulfils_call s s (ReportOf kind subject) (call.Report kind) reply shows (asks_about kind subject s.held there) goes
 
   -- ---- rewriting
@@ -84,7 +84,7 @@ module _ (setting : SessionSetting) where
   fulfils_unruled names proved limit s e =
       record { requested = Misplaced NoSuchKey; shows = Nothing; asks = subst (λ (o : Option Transformation). AppliesRule o (Misplaced NoSuchKey)) (sym e) refl; follows = (refl, refl, refl); text = refl }
 
-  asks_ruled : (names : List RuleName) (proved : Bool) (limit : Option ℕ) (f : Transformation) (m : Module) → rewriting_named names (limit_or setting.session_options.limit limit) ≡ Some f → OrdersIn setting (Rewrite names proved limit) m (Ask (call.Change f))
+  asks_ruled : (names : List RuleName) (proved : Bool) (limit : Option ℕ) (f : Transformation) (m : Module) → rewriting_named names (limit_or setting.session_options.limit limit) ≡ Some f → SessionCommandAsks setting (Rewrite names proved limit) m (Ask (call.Change f))
   asks_ruled names proved limit f m e = subst (λ (o : Option Transformation). AppliesRule o (Ask (call.Change f))) (sym e) refl
 
   -- `rewrite` with names of rules
@@ -107,12 +107,12 @@ module _ (setting : SessionSetting) where
   fulfils_untold names proved limit s e =
       record { requested = Misplaced NoSuchKey; shows = Nothing; asks = subst (λ (o : Option Transformation). AppliesRule o (Misplaced NoSuchKey)) (sym e) refl; follows = (refl, refl, refl); text = refl }
 
-  asks_told : (names : Option (List RuleName)) (proved : Bool) (limit : Option ℕ) (f : Transformation) (m : Module) → tracing names (limit_or setting.session_options.limit limit) ≡ Some f → OrdersIn setting (Trace names proved limit) m (Ask (call.Change f))
+  asks_told : (names : Option (List RuleName)) (proved : Bool) (limit : Option ℕ) (f : Transformation) (m : Module) → tracing names (limit_or setting.session_options.limit limit) ≡ Some f → SessionCommandAsks setting (Trace names proved limit) m (Ask (call.Change f))
   asks_told names proved limit f m e = subst (λ (o : Option Transformation). AppliesRule o (Ask (call.Change f))) (sym e) refl
 
   -- a traced rewrite
   pub fulfils_told : (names : Option (List RuleName)) (proved : Bool) (limit : Option ℕ) (f : Transformation) (s t : State) (reply : Reply) (response : Response) (bytes : List ℕ) → tracing names (limit_or setting.session_options.limit limit) ≡ Some f → response ≡ Replied reply → Goes s (call.Change f) reply Nothing t
-      → bytes ≡ told_if (is_accepted (Replied reply)) (trace_by (traced_rules names) (limit_or setting.session_options.limit limit) s.held) → RunsSessionCommand setting s (Trace names proved limit) response bytes t
+      → bytes ≡ bytes_if (is_accepted (Replied reply)) (trace_by (traced_rules names) (limit_or setting.session_options.limit limit) s.held) → RunsSessionCommand setting s (Trace names proved limit) response bytes t
   fulfils_told names proved limit f s t reply response bytes e is goes told = rw is (rw told (fulfils_call s t (Trace names proved limit) (call.Change f) reply Nothing (asks_told names proved limit f s.held e) goes))
 
   -- a traced rewrite, refused since memory ran out
@@ -131,7 +131,7 @@ module _ (setting : SessionSetting) where
   fulfils_unfired names proved limit s e =
       record { requested = Misplaced NoSuchKey; shows = Nothing; asks = subst (λ (o : Option Transformation). AppliesRule o (Misplaced NoSuchKey)) (sym e) refl; follows = (refl, refl, refl); text = sym (refused_fired (traced_rules names) (limit_or setting.session_options.limit limit) s.held NoSuchKey) }
 
-  asks_fired : (names : Option (List RuleName)) (proved : Bool) (limit : Option ℕ) (f : Transformation) (m : Module) → tracing names (limit_or setting.session_options.limit limit) ≡ Some f → OrdersIn setting (Fired names proved limit) m (Ask (call.Change f))
+  asks_fired : (names : Option (List RuleName)) (proved : Bool) (limit : Option ℕ) (f : Transformation) (m : Module) → tracing names (limit_or setting.session_options.limit limit) ≡ Some f → SessionCommandAsks setting (Fired names proved limit) m (Ask (call.Change f))
   asks_fired names proved limit f m e = subst (λ (o : Option Transformation). AppliesRule o (Ask (call.Change f))) (sym e) refl
 
   -- a rewrite that counts
@@ -173,7 +173,7 @@ module _ (setting : SessionSetting) where
   fulfils_absent x name rs s e gone =
       record { requested = Misplaced NoSuchOp; shows = Nothing; asks = subst (λ (o : Option (List Rule)). AsksWhy o (has_id x s.held.tree) (Misplaced NoSuchOp)) (sym e) (subst (λ (b : Bool). AsksWhy (Some rs) b (Misplaced NoSuchOp)) (sym gone) refl); follows = (refl, refl, refl); text = refl }
 
-  asks_why : (x : ℕ) (name : Option RuleName) (rs : List Rule) (m : Module) → requested_rules name x m ≡ Some rs → has_id x m.tree ≡ true → OrdersIn setting (Why x name) m (Ask call.Print)
+  asks_why : (x : ℕ) (name : Option RuleName) (rs : List Rule) (m : Module) → requested_rules name x m ≡ Some rs → has_id x m.tree ≡ true → SessionCommandAsks setting (Why x name) m (Ask call.Print)
   asks_why x name rs m e there = subst (λ (o : Option (List Rule)). AsksWhy o (has_id x m.tree) (Ask call.Print)) (sym e) (subst (λ (b : Bool). AsksWhy (Some rs) b (Ask call.Print)) (sym there) refl)
 
   pub fulfils_why : (x : ℕ) (name : Option RuleName) (rs : List Rule) (s : State) (bytes : List ℕ) → requested_rules name x s.held ≡ Some rs → has_id x s.held.tree ≡ true → bytes ≡ why_lines rs x s.held → RunsSessionCommand setting s (Why x name) (Replied Done) bytes s
@@ -189,8 +189,8 @@ module _ (setting : SessionSetting) where
   abbrev pub SomeFulfilled : State → SessionCommand → Type 0
   SomeFulfilled s o = (response : Response) × (bytes : List ℕ) × (t : State) × RunsSessionCommand setting s o response bytes t
 
-  by_call : (s : State) (o : SessionCommand) (c : Call) → OrdersIn setting o s.held (Ask c) → SomeFulfilled s o
-  by_call s o c asks = let g = some_goes setting.session_options s c in (Replied g.0, order_bytes setting o s.held (Replied g.0) g.1, g.2, fulfils_call s g.2 o c g.0 g.1 asks g.3)
+  by_call : (s : State) (o : SessionCommand) (c : Call) → SessionCommandAsks setting o s.held (Ask c) → SomeFulfilled s o
+  by_call s o c asks = let g = some_goes setting.session_options s c in (Replied g.0, session_command_bytes setting o s.held (Replied g.0) g.1, g.2, fulfils_call s g.2 o c g.0 g.1 asks g.3)
 
   by_kind : (s : State) (kind : ℕ) (a : Option Shown) → setting.supply kind ≡ a → SomeFulfilled s (Attach kind)
   by_kind s kind None e = (Replied (Refused NoSuchKind), [], s, fulfils_unsupplied kind s e)
@@ -230,32 +230,32 @@ module _ (setting : SessionSetting) where
 
 -- the trace of a rewrite by rules, if the list of lines was empty at first
 pub told_trace : (rs : List Rule) (n limit : ℕ) (m : Module) (called : Result Ended Refusal) (before after bytes : List ℕ) (names : List (List ℕ)) → n ≡ limit → before ≡ [] → names ≡ [] → OnOk called (after ≡ before ++ trace_text names (trace_of (by_rules rs) n m))
-    → bytes ≡ told_if (is_accepted (Replied (canonical_reply called))) after → bytes ≡ told_if (is_accepted (Replied (canonical_reply called))) (trace_by (Some rs) limit m)
+    → bytes ≡ bytes_if (is_accepted (Replied (canonical_reply called))) after → bytes ≡ bytes_if (is_accepted (Replied (canonical_reply called))) (trace_by (Some rs) limit m)
 told_trace rs n limit m (Ok o) before after bytes names same none unnamed told is =
     is ∙ told ∙ ap (λ l. l ++ trace_text names (trace_of (by_rules rs) n m)) none ∙ ap (λ ns. trace_text ns (trace_of (by_rules rs) n m)) unnamed ∙ ap (λ k. trace_text [] (trace_of (by_rules rs) k m)) same
 told_trace rs n limit m (Err e) before after bytes names same none unnamed told is = is
 
 -- the same for rules given by name
 pub told_named : (names : List RuleName) (rs : List Rule) (n limit : ℕ) (m : Module) (called : Result Ended Refusal) (before after bytes : List ℕ) (labels : List (List ℕ)) → Some rs ≡ rules_named names → n ≡ limit → before ≡ [] → labels ≡ [] → OnOk called (after ≡ before ++ trace_text labels (trace_of (by_rules rs) n m))
-    → bytes ≡ told_if (is_accepted (Replied (canonical_reply called))) after → bytes ≡ told_if (is_accepted (Replied (canonical_reply called))) (trace_by (traced_rules (Some names)) limit m)
+    → bytes ≡ bytes_if (is_accepted (Replied (canonical_reply called))) after → bytes ≡ bytes_if (is_accepted (Replied (canonical_reply called))) (trace_by (traced_rules (Some names)) limit m)
 told_named names rs n limit m called before after bytes labels rules same none unnamed told is =
-    told_trace rs n limit m called before after bytes labels same none unnamed told is ∙ ap (λ o. told_if (is_accepted (Replied (canonical_reply called))) (trace_by o limit m)) rules
+    told_trace rs n limit m called before after bytes labels same none unnamed told is ∙ ap (λ o. bytes_if (is_accepted (Replied (canonical_reply called))) (trace_by o limit m)) rules
 
 -- the counts of a rewrite by rules, if the list of lines was empty at first
 pub told_fired : (rs : List Rule) (n limit : ℕ) (m : Module) (called : Result Ended Refusal) (before after bytes : List ℕ) (names : List (List ℕ)) → n ≡ limit → before ≡ [] → names ≡ [] → OnOk called (after ≡ before ++ fired_below (Replied (canonical_reply called)) names (trace_of (by_rules rs) n m))
-    → bytes ≡ told_if (is_accepted (Replied (canonical_reply called))) after → bytes ≡ fired_by (Some rs) limit m (Replied (canonical_reply called))
+    → bytes ≡ bytes_if (is_accepted (Replied (canonical_reply called))) after → bytes ≡ fired_by (Some rs) limit m (Replied (canonical_reply called))
 told_fired rs n limit m (Ok o) before after bytes names same none unnamed told is =
     is ∙ told ∙ ap (λ (l : List ℕ). l ++ fired_below (Replied (canonical_reply (Ok o))) names (trace_of (by_rules rs) n m)) none ∙ ap (λ (ns : List (List ℕ)). fired_below (Replied (canonical_reply (Ok o))) ns (trace_of (by_rules rs) n m)) unnamed ∙ ap (λ (k : ℕ). fired_below (Replied (canonical_reply (Ok o))) [] (trace_of (by_rules rs) k m)) same
 told_fired rs n limit m (Err e) before after bytes names same none unnamed told is = is
 
 -- the same for rules given by name
 pub fired_named : (names : List RuleName) (rs : List Rule) (n limit : ℕ) (m : Module) (called : Result Ended Refusal) (before after bytes : List ℕ) (labels : List (List ℕ)) → Some rs ≡ rules_named names → n ≡ limit → before ≡ [] → labels ≡ [] → OnOk called (after ≡ before ++ fired_below (Replied (canonical_reply called)) labels (trace_of (by_rules rs) n m))
-    → bytes ≡ told_if (is_accepted (Replied (canonical_reply called))) after → bytes ≡ fired_by (traced_rules (Some names)) limit m (Replied (canonical_reply called))
+    → bytes ≡ bytes_if (is_accepted (Replied (canonical_reply called))) after → bytes ≡ fired_by (traced_rules (Some names)) limit m (Replied (canonical_reply called))
 fired_named names rs n limit m called before after bytes labels rules same none unnamed told is =
     told_fired rs n limit m called before after bytes labels same none unnamed told is ∙ ap (λ (o : Option (List Rule)). fired_by o limit m (Replied (canonical_reply called))) rules
 
 -- a session command is never refused at a byte of a text
-never_unparsed : (setting : SessionSetting) (o : SessionCommand) (m : Module) (refusal : Refusal) (offset : Option ℕ) → OrdersIn setting o m (Unparsed refusal offset) → ⊥
+never_unparsed : (setting : SessionSetting) (o : SessionCommand) (m : Module) (refusal : Refusal) (offset : Option ℕ) → SessionCommandAsks setting o m (Unparsed refusal offset) → ⊥
 never_unparsed setting (Attach kind) m refusal offset asks = go (setting.supply kind) asks
   where
     go : (a : Option Shown) → AttachesKind a (Unparsed refusal offset) → ⊥
@@ -291,7 +291,7 @@ never_unparsed setting (ReportOf kind subject) m refusal offset asks = go (is_th
     go true e = absurd cc
 never_unparsed setting PrintIds m refusal offset asks = absurd (let e : Unparsed refusal offset ≡ Ask call.Print = asks in cc)
 
-not_at : (setting : SessionSetting) (s t : State) (o : SessionCommand) (requested : Requested) (shows : Shows) (refusal : Refusal) (offset : ℕ) → OrdersIn setting o s.held requested → Follows s requested (TextRefusedAt refusal offset) shows t → ⊥
+not_at : (setting : SessionSetting) (s t : State) (o : SessionCommand) (requested : Requested) (shows : Shows) (refusal : Refusal) (offset : ℕ) → SessionCommandAsks setting o s.held requested → Follows s requested (TextRefusedAt refusal offset) shows t → ⊥
 not_at setting s t o (Ask c) shows refusal offset asks follows = follows
 not_at setting s t o (Misplaced why) shows refusal offset asks follows = absurd (let e : TextRefusedAt refusal offset ≡ Replied (Refused why) = follows.0 in cc)
 not_at setting s t o (Unparsed why place) shows refusal offset asks follows = never_unparsed setting o s.held why place asks

@@ -15,7 +15,7 @@ use Rattle.mlir_work_transforms.specs.Applying.{application, applying, rule_name
 use Rattle.mlir_work_transforms.specs.Rewriting.{rewriting_named, rules_named}
 use Rattle.mlir_work_transforms.specs.Rule.{Rule}
 use Rattle.mlir_work_session.specs.declared.options.SessionOptions.{SessionOptions}
-use Rattle.mlir_work_session.specs.Machine.{AsksHeadroom, IsContextFull, RunsSessionCommand, RunsCommand, OrdersHeadroom, SessionSetting}
+use Rattle.mlir_work_session.specs.Machine.{AsksHeadroom, IsContextFull, RunsSessionCommand, RunsCommand, SessionCommandHeadroom, SessionSetting}
 
 -- the room condition carries over from a reply to the response that carries it
 pub replied : (full : Type 0) (s : State) (f : Transformation) (response : Response) (reply : Reply) → response ≡ Replied reply → IsFullSo full s f reply → IsContextFull full s f response
@@ -89,5 +89,5 @@ fulfils_plainly setting s t said spoken r q bytes a b c h = rw a (rw b (rw c h))
 pub fulfils_alike : (setting : SessionSetting) (s t : State) (said spoken : SessionCommand) (r : Response) (bytes : List ℕ) → said ≡ spoken → RunsSessionCommand setting s spoken r bytes t → RunsSessionCommand setting s said r bytes t
 fulfils_alike setting s t said spoken r bytes a h = rw a h
 
-pub orders_headroom_plainly : (full : Type 0) (setting : SessionSetting) (s : State) (said spoken : SessionCommand) (r q : Response) → said ≡ spoken → r ≡ q → OrdersHeadroom full setting s spoken q → OrdersHeadroom full setting s said r
-orders_headroom_plainly full setting s said spoken r q a b h = subst (λ (o : SessionCommand). OrdersHeadroom full setting s o r) (sym a) (subst (OrdersHeadroom full setting s spoken) (sym b) h)
+pub orders_headroom_plainly : (full : Type 0) (setting : SessionSetting) (s : State) (said spoken : SessionCommand) (r q : Response) → said ≡ spoken → r ≡ q → SessionCommandHeadroom full setting s spoken q → SessionCommandHeadroom full setting s said r
+orders_headroom_plainly full setting s said spoken r q a b h = subst (λ (o : SessionCommand). SessionCommandHeadroom full setting s o r) (sym a) (subst (SessionCommandHeadroom full setting s spoken) (sym b) h)

@@ -5,7 +5,7 @@ pub mod Obeying
 pub mod Fulfilling
 pub mod Owning
 pub mod About
-pub mod Mixes
+pub mod AnswersRuleList
 pub mod WhyPatterns
 pub mod Headroom
 pub mod Listings

@@ -1,16 +1,15 @@
 -- Proofs about listeners and their observable state.
-use Rattle.std.proofs.Common.{◌≡◌, ◌∙◌, ap, sym, ℕ, zero, suc, List, [], ◌∷◌, ◌++◌, take, drop, Bool, true, false, cond, Option, Some, None, refl, arith, subst, slice_get}
-use Rattle.std.specs.Prelude.{remove, slice_set, position, is_some}
+use Rattle.std.proofs.Common.{◌≡◌, ◌∙◌, ap, ℕ, suc, List, [], ◌∷◌, Bool, true, false, cond, Option, Some, None, refl, arith, subst}
+use Rattle.std.specs.Prelude.{is_some}
 use Rattle.std.specs.Option.{option_map}
-use Rattle.std.specs.List.{AllZip, find, All, position_or_len}
-use Rattle.std.proofs.lemmas.List.{length-map, map-append, take-map, drop-map}
+use Rattle.std.specs.List.{AllZip, find, All}
 use Rattle.ir_event.specs.types.Things.{ContextModel}
 use Rattle.ir_event.specs.declared.event.Event.{Event}
 use Rattle.ir_event.specs.Modules.{Module, Node}
 use Rattle.ir_event.specs.Listener.{Listener}
 use Rattle.ir_event.specs.Panels.{AllNotified, is_kind as has_this_kind, has_kind as panel_has, Detached, BegunAgain}
 use Rattle.mlir_work_transforms.specs.rewriter.Panels.{Shown, IsSame, Ages, shown, all_shown, is_kind, has_kind, Detached as DetachedShown, BegunAgain as BegunShown}
-use Rattle.mlir_work_transforms.proofs.of_rewriter.Panels.{found_shown, got_shown, has_placed, position_shown, removed_shown, set_shown}
+use Rattle.mlir_work_transforms.proofs.of_rewriter.Panels.{got_shown, position_shown, removed_shown, set_shown}
 
 same_self : (a : Shown) → IsSame a a
 same_self a = record { kind = refl; analysis = λ t. refl }

@@ -6,16 +6,16 @@ use Rattle.ir_event.specs.types.Things.{ContextModel}
 use Rattle.ir_event.specs.types.Terms.{name_term, type_term, attr_term}
 use Rattle.ir_event.specs.types.declared.refusal.Refusal.{Refusal}
 use Rattle.ir_event.specs.trees.declared.place.Place.{Place}
-use Rattle.ir_event.specs.trees.Tree.{OpOf, Op, op, Regions, RegionsOf, no_regions, region, RegionOf, empty, block, OpsOf, no_ops, next, regions}
+use Rattle.ir_event.specs.trees.Tree.{OpOf, Op, op, Regions, no_regions, region, empty, block, OpsOf, no_ops, next, regions}
 use Rattle.ir_event.specs.trees.Ids.{find, has_id}
-use Rattle.ir_event.specs.trees.Maps.{map_tree, map_region, map_regions, map_ops}
+use Rattle.ir_event.specs.trees.Maps.{map_tree, map_ops}
 use Rattle.ir_event.specs.trees.Meaning.{meaning}
 use Rattle.ir_event.specs.trees.Places.{place_of, first_id}
-use Rattle.ir_event.proofs.of_trees.Mapped.{map_find, map_place}
+use Rattle.ir_event.proofs.of_trees.Mapped.{map_place}
 use Rattle.ir_event.specs.tree_laws.Values.{region_at}
 use Rattle.ir_event.specs.tree_laws.Reads.{next_of, first_at, ops_in, ops_at}
 use Rattle.ir_event.proofs.of_tree_laws.Around.{absent_find}
-use Rattle.ir_event.proofs.of_tree_laws.Contents.{map_has_id, same_id, map_ops_at, map_region_at, some_map}
+use Rattle.ir_event.proofs.of_tree_laws.Contents.{map_has_id, same_id, map_ops_at}
 use Rattle.ir_event.specs.store.Nodes.{Node, node_of, regions_arguments}
 use Rattle.ir_event.specs.store.Stored.{Stored, known}
 use Rattle.ir_event.proofs.Shown.{known_there}

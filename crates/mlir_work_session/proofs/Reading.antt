@@ -1,5 +1,5 @@
 -- Proofs about parsing texts and interning keys: both extend the rewriter's context.
-use Rattle.std.proofs.Common.{◌≡◌, ◌∙◌, sym, ap, subst, refl, inl, inr, ◌⊎◌, ℕ, zero, suc, ◌≤◌, ◌<◌, List, [], ◌∷◌, ◌++◌, length, Option, Some, None, true, arith, slice_get}
+use Rattle.std.proofs.Common.{◌≡◌, ◌∙◌, sym, ap, subst, refl, inl, inr, ◌⊎◌, ℕ, ◌≤◌, List, [], ◌++◌, Option, Some, None, true, arith}
 use Rattle.std.specs.Prelude.{Result, IsTrue, nat_le, Bool}
 use Rattle.ir_event.specs.types.Interning.{with_name}
 use Rattle.ir_event.specs.types.Refusals.{number_of}

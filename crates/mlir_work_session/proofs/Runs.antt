@@ -12,8 +12,8 @@ use Rattle.mlir_work_script_base.specs.Writes.{Stream}
 use Rattle.mlir_work_transforms.specs.registry.Notices.{IsWithin, Notice, Plain, is_right_under}
 use Rattle.ir_event.specs.Modules.{Module}
 use Rattle.mlir_work_session.specs.Explained.{IsAbout, about_notice}
-use Rattle.mlir_work_session.specs.Output.{IsAnswered, IsEnded, IsLineAnswered, Line, SessionSetting, Replied, Replies, IsReplied, Runs, accepted_after, end_of, number_after, worse, says_nothing, asks, told_text}
-use Rattle.mlir_work_session.specs.Sittings.{Sitting, own_of}
+use Rattle.mlir_work_session.specs.Output.{IsAnswered, IsEnded, IsLineAnswered, Line, SessionSetting, Replied, Replies, IsReplied, Runs, accepted_after, end_of, number_after, worse, says_nothing, asks, response_lines}
+use Rattle.mlir_work_session.specs.Sittings.{Sitting, registered_pattern_of}
 use Rattle.mlir_work_session.specs.Ran.{RanOut}
 use Rattle.mlir_work_session.proofs.Listings.{some_listing_if}
 use Rattle.mlir_work_session.specs.WhyPatterns.{asked_pattern}
@@ -132,7 +132,7 @@ some_replied Rest setting n s expected spoken reply shows t r full some =
     let about = some_about setting.session_options.explain reply spoken t.state.held in
     let more = some_listing_if (not setting.session_options.brief && not (asks spoken)) t.state in
     let rest = some (n + 1) t in
-    let told = (told_text n expected reply about.0 ++ (shows ++ more.0)) ++ end_of setting.session_options.ends in (
+    let told = (response_lines n expected reply about.0 ++ (shows ++ more.0)) ++ end_of setting.session_options.ends in (
       worse (is_right_under setting.session_options.strict expected reply shows) rest.0,
       told ++ rest.1,
       record {
@@ -143,7 +143,7 @@ some_replied Rest setting n s expected spoken reply shows t r full some =
         later = rest.0;
         rest = rest.1;
         replies = r;
-        replied = (told_text n expected reply about.0 ++ (shows ++ more.0), (about.0, more.0, about.1, more.1, refl), refl);
+        replied = (response_lines n expected reply about.0 ++ (shows ++ more.0), (about.0, more.0, about.1, more.1, refl), refl);
         full = full;
         goes_on = rest.2;
         status_is = refl;
@@ -155,7 +155,7 @@ some_line : (Rest : ℕ → Sitting → ℕ → List ℕ → Type 0) (setting : 
 some_line Rest setting n s expected Nothing some = some n s
 some_line Rest setting n s expected Bad some = some_replied Rest setting n s expected Bad (Plain (Says (Refused BadCommand))) [] s (refl, refl, refl) (λ why offset e. absurd cc) some
 some_line Rest setting n s expected (Obey command) some =
-    let a = some_next_to setting.session_options (own_of command s.registry) s.state command in
+    let a = some_next_to setting.session_options (registered_pattern_of command s.registry) s.state command in
     some_replied Rest setting n s expected (Obey command) (Plain a.0) a.1 (record { state = a.2; registry = s.registry }) (a.0, refl, a.3, refl) (within_of setting.session_options.bytes a.0 (λ why offset e. absurd (a.4 why offset e))) some
 some_line Rest setting n s expected (Ordered session_command) some =
     let a = some_ordered setting s.registry (asked_pattern session_command s.registry) s.state session_command in

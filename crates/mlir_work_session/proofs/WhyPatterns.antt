@@ -12,23 +12,23 @@ use Rattle.mlir_work_transforms.specs.registry.Registry.{Kept, RegistryModel}
 use Rattle.mlir_work_transforms.specs.WhyPattern.{why_pattern}
 use Rattle.mlir_work_session.specs.Machine.{SessionSetting}
 use Rattle.mlir_work_session.specs.RuleLists.{RunsListCommand, list_command_of}
-use Rattle.mlir_work_session.specs.WhyPatterns.{AsksThere, RunsNamedCommand, TellsPattern}
-use Rattle.mlir_work_session.proofs.Mixes.{next_to_bounded, some_next_to}
+use Rattle.mlir_work_session.specs.WhyPatterns.{AsksThere, RunsNamedCommand, AnswersWhyPattern}
+use Rattle.mlir_work_session.proofs.AnswersRuleList.{next_to_bounded, some_next_to}
 
 module _ (k : Kept) (x : ℕ) (s : State) where
-  pub tells_absent : has_id x s.held.tree ≡ false → TellsPattern k x s (Replied (Refused NoSuchOp)) [] s
+  pub tells_absent : has_id x s.held.tree ≡ false → AnswersWhyPattern k x s (Replied (Refused NoSuchOp)) [] s
   tells_absent gone = record { requested = Misplaced NoSuchOp; shows = Nothing; asks = subst (λ (b : Bool). AsksThere b (Misplaced NoSuchOp)) (sym gone) refl; follows = (refl, refl, refl); text = refl }
 
-  pub tells_why : has_id x s.held.tree ≡ true → (bytes : List ℕ) → bytes ≡ why_pattern k s.held x → TellsPattern k x s (Replied Done) bytes s
+  pub tells_why : has_id x s.held.tree ≡ true → (bytes : List ℕ) → bytes ≡ why_pattern k s.held x → AnswersWhyPattern k x s (Replied Done) bytes s
   tells_why there bytes is = record { requested = Ask call.Print; shows = Tree s.held.tree; asks = subst (λ (b : Bool). AsksThere b (Ask call.Print)) (sym there) refl; follows = record { answer = inl refl; panel = refl }; text = is }
 
-  pub tells_nothing : has_id x s.held.tree ≡ true → TellsPattern k x s (Replied (Refused Memory)) [] s
+  pub tells_nothing : has_id x s.held.tree ≡ true → AnswersWhyPattern k x s (Replied (Refused Memory)) [] s
   tells_nothing there = record { requested = Ask call.Print; shows = Nothing; asks = subst (λ (b : Bool). AsksThere b (Ask call.Print)) (sym there) refl; follows = record { answer = inr (refl, refl); panel = refl }; text = refl }
 
-  pub some_told : (response : Response) × (bytes : List ℕ) × (t : State) × TellsPattern k x s response bytes t
+  pub some_told : (response : Response) × (bytes : List ℕ) × (t : State) × AnswersWhyPattern k x s response bytes t
   some_told = go (has_id x s.held.tree) refl
     where
-      go : (b : Bool) → has_id x s.held.tree ≡ b → (response : Response) × (bytes : List ℕ) × (t : State) × TellsPattern k x s response bytes t
+      go : (b : Bool) → has_id x s.held.tree ≡ b → (response : Response) × (bytes : List ℕ) × (t : State) × AnswersWhyPattern k x s response bytes t
       go false e = (Replied (Refused NoSuchOp), [], s, tells_absent e)
       go true e = (Replied Done, why_pattern k s.held x, s, tells_why e (why_pattern k s.held x) refl)
 
@@ -45,7 +45,7 @@ module _ (setting : SessionSetting) (registry : RegistryModel) where
   named_bounded bytes (Some p) s o response shown t h = λ refusal offset is.
       absurd (told_at s t (has_id p.1 s.held.tree) h.requested h.shows refusal offset h.asks (subst (λ (r : Response). Follows s h.requested r h.shows t) is h.follows))
 
-  pub named_pattern : (own : Option (Kept × ℕ)) (s t : State) (o : SessionCommand) (p : Kept × ℕ) (response : Response) (bytes : List ℕ) → own ≡ Some p → TellsPattern p.0 p.1 s response bytes t → RunsNamedCommand setting registry own s o response bytes t
+  pub named_pattern : (own : Option (Kept × ℕ)) (s t : State) (o : SessionCommand) (p : Kept × ℕ) (response : Response) (bytes : List ℕ) → own ≡ Some p → AnswersWhyPattern p.0 p.1 s response bytes t → RunsNamedCommand setting registry own s o response bytes t
   named_pattern own s t o p response bytes e h = subst (λ (q : Option (Kept × ℕ)). RunsNamedCommand setting registry q s o response bytes t) (sym e) h
 
   pub unnamed : (own : Option (Kept × ℕ)) (s t : State) (o : SessionCommand) (response : Response) (bytes : List ℕ) → own ≡ None → RunsListCommand setting registry (list_command_of o registry) s o response bytes t → RunsNamedCommand setting registry own s o response bytes t

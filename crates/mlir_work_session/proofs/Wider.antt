@@ -13,13 +13,13 @@ use Rattle.mlir_work_transforms.specs.registry.Notices.{Notice}
 use Rattle.mlir_work_transforms.specs.registry.Registry.{RegistryModel, Kept}
 use Rattle.mlir_work_transforms.specs.registry.Replies.{is_accepted}
 use Rattle.mlir_work_transforms.specs.Unproved.{unproved_of}
-use Rattle.mlir_work_session.specs.Machine.{AsksIn, RunsSessionCommand, OrdersIn, order_bytes, told_if}
-use Rattle.mlir_work_session.specs.RuleLists.{RunsListCommand, ListCommand, MixesUnless, is_unproved, list_command_bytes, list_command_of, list_command_trace}
+use Rattle.mlir_work_session.specs.Machine.{AsksIn, RunsSessionCommand, SessionCommandAsks, session_command_bytes, bytes_if}
+use Rattle.mlir_work_session.specs.RuleLists.{RunsListCommand, ListCommand, AnswersRuleListUnless, is_unproved, list_command_bytes, list_command_of, list_command_trace}
 use Rattle.mlir_work_session.specs.declared.trace_form.TraceForm.{TraceForm}
 use Rattle.mlir_work_session.specs.declared.trace_form.TraceForm.TheVariants.{Counts, EachRewrite, Off}
 use Rattle.mlir_work_session.specs.WhyPatterns.{RunsNamedCommand, asked_pattern}
-use Rattle.mlir_work_session.specs.Output.{Line, SessionSetting, session_setting, Replied, Replies}
-use Rattle.mlir_work_session.specs.Sittings.{RunsPatternCommand, Sitting, own_of}
+use Rattle.mlir_work_session.specs.Output.{Line, SessionSetting, Replied, Replies}
+use Rattle.mlir_work_session.specs.Sittings.{RunsPatternCommand, Sitting, registered_pattern_of}
 
 module _ (setting : SessionSetting) (bytes : ℕ) (longer : setting.session_options.bytes ≤ bytes) where
   abbrev pub wider : SessionSetting
@@ -57,7 +57,7 @@ module _ (setting : SessionSetting) (bytes : ℕ) (longer : setting.session_opti
   asks_wider (command.Report kind) m requested h = h
   asks_wider command.Print m requested h = h
 
-  orders_wider : (session_command : SessionCommand) (m : Module) (requested : Requested) → OrdersIn setting session_command m requested → OrdersIn wider session_command m requested
+  orders_wider : (session_command : SessionCommand) (m : Module) (requested : Requested) → SessionCommandAsks setting session_command m requested → SessionCommandAsks wider session_command m requested
   orders_wider (Attach kind) m requested h = h
   orders_wider PrintIds m requested h = h
   orders_wider (Rewrite names proved limit) m requested h = h
@@ -68,7 +68,7 @@ module _ (setting : SessionSetting) (bytes : ℕ) (longer : setting.session_opti
   orders_wider (Why x name) m requested h = h
   orders_wider (ReportOf kind subject) m requested h = h
 
-  bytes_wider : (session_command : SessionCommand) (m : Module) (response : Response) (shows : Shows) → order_bytes setting session_command m response shows ≡ order_bytes wider session_command m response shows
+  bytes_wider : (session_command : SessionCommand) (m : Module) (response : Response) (shows : Shows) → session_command_bytes setting session_command m response shows ≡ session_command_bytes wider session_command m response shows
   bytes_wider (Attach kind) m response shows = refl
   bytes_wider PrintIds m response shows = refl
   bytes_wider (ReportOf kind subject) m response shows = refl
@@ -92,13 +92,13 @@ module _ (setting : SessionSetting) (bytes : ℕ) (longer : setting.session_opti
   list_command_trace_wider Counts registry x m response = refl
 
   list_command_bytes_wider : (registry : RegistryModel) (x : ListCommand) (m : Module) (response : Response) → list_command_bytes setting.session_options registry x m response ≡ list_command_bytes wider.session_options registry x m response
-  list_command_bytes_wider registry x m response = ap (λ (trace : List ℕ). told_if (is_accepted response) (unproved_of registry x.names m.tree ++ trace)) (list_command_trace_wider x.trace registry x m response)
+  list_command_bytes_wider registry x m response = ap (λ (trace : List ℕ). bytes_if (is_accepted response) (unproved_of registry x.names m.tree ++ trace)) (list_command_trace_wider x.trace registry x m response)
 
   rule_list_wider : (registry : RegistryModel) (own : Option ListCommand) (s : State) (session_command : SessionCommand) (response : Response) (shows : List ℕ) (t : State) → RunsListCommand setting registry own s session_command response shows t → RunsListCommand wider registry own s session_command response shows t
   rule_list_wider registry None s session_command response shows t h = fulfils_wider s session_command response shows t h
   rule_list_wider registry (Some x) s session_command response shows t h = go (is_unproved registry x s.held) h
     where
-      go : (b : Bool) → MixesUnless b setting.session_options registry x s response shows t → MixesUnless b wider.session_options registry x s response shows t
+      go : (b : Bool) → AnswersRuleListUnless b setting.session_options registry x s response shows t → AnswersRuleListUnless b wider.session_options registry x s response shows t
       go true h = h
       go false h = record { requested = h.requested; asks = h.asks; follows = h.follows; text = h.text ∙ list_command_bytes_wider registry x s.held response }
 
@@ -110,7 +110,7 @@ module _ (setting : SessionSetting) (bytes : ℕ) (longer : setting.session_opti
   replies_wider s Nothing notice shows t h = absurd h
   replies_wider s Bad notice shows t h = h
   replies_wider s (Ordered session_command) notice shows t (response, is, h, stays) = (response, is, named_wider s.registry (asked_pattern session_command s.registry) s.state session_command response shows t.state h, stays)
-  replies_wider s (Obey said) notice shows t (response, is, h, stays) = (response, is, next_to_wider (own_of said s.registry) s.state said response shows t.state h, stays)
+  replies_wider s (Obey said) notice shows t (response, is, h, stays) = (response, is, next_to_wider (registered_pattern_of said s.registry) s.state said response shows t.state h, stays)
   replies_wider s (Registered session_command) notice shows t h = h
 
   module _ (Rest More : ℕ → Sitting → ℕ → List ℕ → Type 0) (goes_on : (m : ℕ) (t : Sitting) (st : ℕ) (o : List ℕ) → Rest m t st o → More m t st o) where

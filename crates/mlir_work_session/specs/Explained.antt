@@ -8,7 +8,7 @@ use Rattle.mlir_work_transforms.specs.rewriter.Machine.{Reply, Done, DoneAs, Don
 use Rattle.mlir_work_script.specs.Commands.{Spoken, Nothing, Bad, Obey, Ordered, Registered}
 use Rattle.mlir_work_script.specs.RegistryCommands.{RegistryCommand, Define, Redefine}
 use Rattle.mlir_work_notes.specs.PatternReasons.{pattern_note}
-use Rattle.mlir_work_notes.specs.Unsupported.{unsupported_at, cause_word}
+use Rattle.mlir_work_notes.specs.Unsupported.{unsupported_at, construct_word}
 use Rattle.mlir_work_notes.specs.Notes.{about_text, notes_of, no_memory_text}
 use Rattle.mlir_work_transforms.specs.registry.Notices.{Notice, Plain, Checked}
 use Rattle.mlir_work_session.specs.declared.notes.Note.{Note}
@@ -21,9 +21,9 @@ text_of_command (Insert point text) = text
 text_of_command _ = []
 
 -- the note that names the unsupported MLIR construct at the byte at which a text was refused
-abbrev pub about_cause : Refusal → List ℕ → ℕ → List ℕ
-about_cause LeftOut text offset = codes " about " ++ cause_word (unsupported_at text offset)
-about_cause _ text offset = []
+abbrev pub construct_note : Refusal → List ℕ → ℕ → List ℕ
+construct_note LeftOut text offset = codes " about " ++ construct_word (unsupported_at text offset)
+construct_note _ text offset = []
 
 -- the note that says why the text of a pattern was refused at a byte
 abbrev pub about_pattern : Refusal → ℕ → RegistryCommand → List ℕ
@@ -35,7 +35,7 @@ about_pattern refusal offset _ = []
 abbrev pub about_read : Refusal → ℕ → Spoken → List ℕ
 about_read refusal offset Nothing = []
 about_read refusal offset Bad = []
-about_read refusal offset (Obey command) = about_cause refusal (text_of_command command) offset
+about_read refusal offset (Obey command) = construct_note refusal (text_of_command command) offset
 about_read refusal offset (Ordered session_command) = []
 about_read refusal offset (Registered registry_command) = about_pattern refusal offset registry_command
 

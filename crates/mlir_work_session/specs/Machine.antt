@@ -86,23 +86,23 @@ AsksAbout true kind subject requested = requested ≡ Ask (call.Report kind)
 AsksAbout false kind subject requested = requested ≡ Misplaced (absent subject)
 
 -- the machine call that a session command makes in a module
-abbrev pub OrdersIn : SessionSetting → SessionCommand → Module → Requested → Type 0
-OrdersIn setting (Attach kind) m requested = AttachesKind (setting.supply kind) requested
-OrdersIn setting PrintIds m requested = requested ≡ Ask call.Print
-OrdersIn setting (Rewrite names proved limit) m requested = AppliesRule (rewriting_named names (limit_or setting.session_options.limit limit)) requested
-OrdersIn setting (Trace names proved limit) m requested = AppliesRule (tracing names (limit_or setting.session_options.limit limit)) requested
-OrdersIn setting (Fired names proved limit) m requested = AppliesRule (tracing names (limit_or setting.session_options.limit limit)) requested
-OrdersIn setting (TraceConvert target) m requested = requested ≡ Ask (call.Change (conversion target))
-OrdersIn setting (CanonAt x limit) m requested =
+abbrev pub SessionCommandAsks : SessionSetting → SessionCommand → Module → Requested → Type 0
+SessionCommandAsks setting (Attach kind) m requested = AttachesKind (setting.supply kind) requested
+SessionCommandAsks setting PrintIds m requested = requested ≡ Ask call.Print
+SessionCommandAsks setting (Rewrite names proved limit) m requested = AppliesRule (rewriting_named names (limit_or setting.session_options.limit limit)) requested
+SessionCommandAsks setting (Trace names proved limit) m requested = AppliesRule (tracing names (limit_or setting.session_options.limit limit)) requested
+SessionCommandAsks setting (Fired names proved limit) m requested = AppliesRule (tracing names (limit_or setting.session_options.limit limit)) requested
+SessionCommandAsks setting (TraceConvert target) m requested = requested ≡ Ask (call.Change (conversion target))
+SessionCommandAsks setting (CanonAt x limit) m requested =
     requested ≡ Ask (call.Change (canonicalizing_at (limit_or setting.session_options.limit limit) x))
-OrdersIn setting (Why x name) m requested = AsksWhy (requested_rules name x m) (has_id x m.tree) requested
-OrdersIn setting (ReportOf kind subject) m requested = AsksAbout (is_there subject m.tree) kind subject requested
+SessionCommandAsks setting (Why x name) m requested = AsksWhy (requested_rules name x m) (has_id x m.tree) requested
+SessionCommandAsks setting (ReportOf kind subject) m requested = AsksAbout (is_there subject m.tree) kind subject requested
 
 -- the bytes of what the machine shows; a module is shown with the ids of its operations
-abbrev pub order_shows : Shows → List ℕ
-order_shows Nothing = []
-order_shows (Rows rows) = rows_text rows
-order_shows (Tree t) = ids_text t
+abbrev pub session_command_shows : Shows → List ℕ
+session_command_shows Nothing = []
+session_command_shows (Rows rows) = rows_text rows
+session_command_shows (Tree t) = ids_text t
 
 -- the report rows about an operation or a value
 abbrev pub shows_about : Subject → Shows → Shows
@@ -111,9 +111,9 @@ shows_about subject (Rows rows) = Rows (rows_about subject rows)
 shows_about subject (Tree t) = Tree t
 
 -- the bytes if the condition holds, and none otherwise
-abbrev pub told_if : Bool → List ℕ → List ℕ
-told_if true bytes = bytes
-told_if false bytes = []
+abbrev pub bytes_if : Bool → List ℕ → List ℕ
+bytes_if true bytes = bytes
+bytes_if false bytes = []
 
 -- the trace of a conversion below its response
 abbrev pub converted_bytes : Target → Module → Response → List ℕ
@@ -122,26 +122,26 @@ converted_bytes target m _ = []
 
 -- the bytes below the reply to a session command: what the machine shows, the trace of an accepted rewrite, the counts
 -- of a rewrite that stopped by its limit, or the reasons why rules don't match
-abbrev pub order_bytes : SessionSetting → SessionCommand → Module → Response → Shows → List ℕ
-order_bytes setting (Attach kind) m response shows = order_shows shows
-order_bytes setting PrintIds m response shows = order_shows shows
-order_bytes setting (ReportOf kind subject) m response shows = order_shows (shows_about subject shows)
-order_bytes setting (Rewrite names proved limit) m response shows = order_shows shows
-order_bytes setting (Trace names proved limit) m response shows =
-    told_if (is_accepted response) (trace_by (traced_rules names) (limit_or setting.session_options.limit limit) m)
-order_bytes setting (Fired names proved limit) m response shows =
+abbrev pub session_command_bytes : SessionSetting → SessionCommand → Module → Response → Shows → List ℕ
+session_command_bytes setting (Attach kind) m response shows = session_command_shows shows
+session_command_bytes setting PrintIds m response shows = session_command_shows shows
+session_command_bytes setting (ReportOf kind subject) m response shows = session_command_shows (shows_about subject shows)
+session_command_bytes setting (Rewrite names proved limit) m response shows = session_command_shows shows
+session_command_bytes setting (Trace names proved limit) m response shows =
+    bytes_if (is_accepted response) (trace_by (traced_rules names) (limit_or setting.session_options.limit limit) m)
+session_command_bytes setting (Fired names proved limit) m response shows =
     fired_by (traced_rules names) (limit_or setting.session_options.limit limit) m response
-order_bytes setting (TraceConvert target) m response shows = converted_bytes target m response
-order_bytes setting (CanonAt x limit) m response shows = order_shows shows
-order_bytes setting (Why x name) m response shows = told_if (is_accepted response) (why_text (requested_rules name x m) x m)
+session_command_bytes setting (TraceConvert target) m response shows = converted_bytes target m response
+session_command_bytes setting (CanonAt x limit) m response shows = session_command_shows shows
+session_command_bytes setting (Why x name) m response shows = bytes_if (is_accepted response) (why_text (requested_rules name x m) x m)
 
 -- from state `s` a session command may get this response, with these bytes below the reply, and lead to state `t`
 pub record RunsSessionCommand (setting : SessionSetting) (s : State) (session_command : SessionCommand) (response : Response) (bytes : List ℕ) (t : State) : Type 0 where
   pub requested : Requested
   pub shows : Shows
-  pub asks : OrdersIn setting session_command s.held requested
+  pub asks : SessionCommandAsks setting session_command s.held requested
   pub follows : Follows s requested response shows t
-  pub text : bytes ≡ order_bytes setting session_command s.held response shows
+  pub text : bytes ≡ session_command_bytes setting session_command s.held response shows
 
 -- ---- refusals because the context is full
 
@@ -158,14 +158,14 @@ AsksHeadroom full options s (Apply name x) response =
 AsksHeadroom full options s _ response = ⊤
 
 -- the same for session commands
-abbrev pub OrdersHeadroom : Type 0 → SessionSetting → State → SessionCommand → Response → Type 0
-OrdersHeadroom full setting s (Rewrite names proved limit) response =
+abbrev pub SessionCommandHeadroom : Type 0 → SessionSetting → State → SessionCommand → Response → Type 0
+SessionCommandHeadroom full setting s (Rewrite names proved limit) response =
     (f : Transformation) → rewriting_named names (limit_or setting.session_options.limit limit) ≡ Some f → IsContextFull full s f response
-OrdersHeadroom full setting s (Trace names proved limit) response =
+SessionCommandHeadroom full setting s (Trace names proved limit) response =
     (f : Transformation) → tracing names (limit_or setting.session_options.limit limit) ≡ Some f → IsContextFull full s f response
-OrdersHeadroom full setting s (Fired names proved limit) response =
+SessionCommandHeadroom full setting s (Fired names proved limit) response =
     (f : Transformation) → tracing names (limit_or setting.session_options.limit limit) ≡ Some f → IsContextFull full s f response
-OrdersHeadroom full setting s (TraceConvert target) response = IsContextFull full s (conversion target) response
-OrdersHeadroom full setting s (CanonAt x limit) response =
+SessionCommandHeadroom full setting s (TraceConvert target) response = IsContextFull full s (conversion target) response
+SessionCommandHeadroom full setting s (CanonAt x limit) response =
     IsContextFull full s (canonicalizing_at (limit_or setting.session_options.limit limit) x) response
-OrdersHeadroom full setting s _ response = ⊤
+SessionCommandHeadroom full setting s _ response = ⊤

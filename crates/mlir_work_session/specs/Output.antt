@@ -23,9 +23,9 @@ use Rattle.mlir_work_transforms.specs.registry.Registries.{Registries}
 use Rattle.mlir_work_session_base.specs.RowText.{rows_text}
 use Rattle.mlir_work_session.specs.Explained.{IsAbout}
 use Rattle.mlir_work_session.specs.WhyPatterns.{RunsNamedCommand, asked_pattern}
-use Rattle.mlir_work_session.specs.Sittings.{ByBench, RunsPatternCommand, own_of}
+use Rattle.mlir_work_session.specs.Sittings.{ByRewriter, RunsPatternCommand, registered_pattern_of}
 pub use Rattle.mlir_work_transforms.specs.registry.Notices.{is_right}
-pub use Rattle.mlir_work_transforms.specs.registry.Explained.{told_text}
+pub use Rattle.mlir_work_transforms.specs.registry.Explained.{response_lines}
 pub use Rattle.mlir_work_transforms.specs.registry.Told.{reply_text}
 pub use Rattle.mlir_work_session.specs.Machine.{SessionSetting, session_setting}
 pub use Rattle.mlir_work_session.specs.Sittings.{Sitting, opening}
@@ -79,17 +79,17 @@ shows_alone Print = true
 shows_alone _ = false
 
 -- the same for session commands; registry commands don't change the module and get no listing either
-abbrev pub order_asks : SessionCommand → Bool
-order_asks PrintIds = true
-order_asks (Why x name) = true
-order_asks (ReportOf kind subject) = true
-order_asks _ = false
+abbrev pub only_shows : SessionCommand → Bool
+only_shows PrintIds = true
+only_shows (Why x name) = true
+only_shows (ReportOf kind subject) = true
+only_shows _ = false
 
 abbrev pub asks : Spoken → Bool
 asks Nothing = false
 asks Bad = false
 asks (Obey command) = shows_alone command
-asks (Ordered session_command) = order_asks session_command
+asks (Ordered session_command) = only_shows session_command
 asks (Registered session_command) = true
 
 -- the response to a line that isn't empty
@@ -97,16 +97,16 @@ abbrev pub Replies : SessionSetting → Sitting → Spoken → Notice → List �
 Replies setting s Nothing notice shows t = ⊥
 Replies setting s Bad notice shows t = (notice ≡ Plain (Says (Refused BadCommand))) × (shows ≡ []) × (t ≡ s)
 Replies setting s (Obey command) notice shows t =
-    ByBench (λ response u. RunsPatternCommand setting.session_options (own_of command s.registry) s.state command response shows u) s notice t
+    ByRewriter (λ response u. RunsPatternCommand setting.session_options (registered_pattern_of command s.registry) s.state command response shows u) s notice t
 Replies setting s (Ordered session_command) notice shows t =
-    ByBench (λ response u. RunsNamedCommand setting s.registry (asked_pattern session_command s.registry) s.state session_command response shows u) s notice t
+    ByRewriter (λ response u. RunsNamedCommand setting s.registry (asked_pattern session_command s.registry) s.state session_command response shows u) s notice t
 Replies setting s (Registered session_command) notice shows t = Registries session_command s.registry notice shows t.registry × (t.state ≡ s.state)
 
 -- the written answer: the numbered reply with its note, the bytes that it shows, and a listing if the line gets one
 abbrev pub IsReplied : Bool → Spoken → Bool → State → ℕ → Option Refusal → Notice → List ℕ → List ℕ → Type 0
 IsReplied explain spoken listed t n expected notice shows out =
     (about : List ℕ) × (more : List ℕ) × IsAbout explain notice spoken t.held about × IsListingIf listed t more
-    × (out ≡ told_text n expected notice about ++ (shows ++ more))
+    × (out ≡ response_lines n expected notice about ++ (shows ++ more))
 
 -- the empty line after an answer, if `ends` is set
 abbrev pub end_of : Bool → List ℕ
@@ -175,11 +175,11 @@ accepted_after accepted (Some more) = accepted && more
 -- ---- attaching listeners
 
 -- a new listener is attached as the last one, or refused because its kind is attached already or memory ran out
-abbrev pub BoxTried : Shown → List Shown → List Shown → Option Refusal → Type 0
-BoxTried b old new None = (has_kind b.kind old ≡ false) × Attached b old new
-BoxTried b old new (Some KindTaken) = (has_kind b.kind old ≡ true) × (new ≡ old)
-BoxTried b old new (Some Memory) = (has_kind b.kind old ≡ false) × (new ≡ old)
-BoxTried b old new (Some _) = ⊥
+abbrev pub AttachedOrRefused : Shown → List Shown → List Shown → Option Refusal → Type 0
+AttachedOrRefused b old new None = (has_kind b.kind old ≡ false) × Attached b old new
+AttachedOrRefused b old new (Some KindTaken) = (has_kind b.kind old ≡ true) × (new ≡ old)
+AttachedOrRefused b old new (Some Memory) = (has_kind b.kind old ≡ false) × (new ≡ old)
+AttachedOrRefused b old new (Some _) = ⊥
 
 -- the error line of a refused listener; an attached listener has none
 abbrev pub box_line : ℕ → Option Refusal → List ℕ
@@ -191,7 +191,7 @@ abbrev pub Attaches : List Shown → List Shown → List Shown → Bool → List
 Attaches [] old new accepted out = (new ≡ old) × (accepted ≡ true) × (out ≡ [])
 Attaches (b ∷ bs) old new accepted out =
     (mid : List Shown) × (candidates : Option Refusal) × (there : Bool) × (rest : List ℕ)
-    × BoxTried b old mid candidates × Attaches bs mid new there rest × (accepted ≡ (is_none candidates && there)) × (out ≡ box_line b.kind candidates ++ rest)
+    × AttachedOrRefused b old mid candidates × Attaches bs mid new there rest × (accepted ≡ (is_none candidates && there)) × (out ≡ box_line b.kind candidates ++ rest)
 
 -- ---- sessions on a parsed module
 

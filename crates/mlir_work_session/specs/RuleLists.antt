@@ -10,12 +10,12 @@ use Rattle.mlir_work_script.specs.SessionCommands.{Fired, SessionCommand, Rewrit
 use Rattle.mlir_work_transforms.specs.registry.Replies.{is_accepted}
 use Rattle.mlir_work_transforms.specs.registry.Registry.{RegistryModel}
 use Rattle.mlir_work_transforms.specs.FiredText.{rule_list_fired}
-use Rattle.mlir_work_transforms.specs.RuleLists.{all_listed, rule_list_trace, mixing, names_own}
+use Rattle.mlir_work_transforms.specs.RuleLists.{all_listed, rule_list_trace, rule_list_transformation, names_user_pattern}
 use Rattle.mlir_work_transforms.specs.Unproved.{unproved_of}
 use Rattle.mlir_work_session.specs.declared.options.SessionOptions.{SessionOptions}
 use Rattle.mlir_work_session.specs.declared.trace_form.TraceForm.{TraceForm}
 use Rattle.mlir_work_session.specs.declared.trace_form.TraceForm.TheVariants.{Counts, EachRewrite, Off}
-use Rattle.mlir_work_session.specs.Machine.{IsContextFull, RunsSessionCommand, SessionSetting, limit_or, told_if}
+use Rattle.mlir_work_session.specs.Machine.{IsContextFull, RunsSessionCommand, SessionSetting, limit_or, bytes_if}
 
 -- a rule list that names a registered pattern, whether the command is refused if no check proves one of the patterns,
 -- its limit, and the form of its trace
@@ -31,16 +31,16 @@ list_command_if own x = if own then Some x else None
 -- the rule list of a session command, if the list names a registered pattern
 abbrev pub list_command_of : SessionCommand → RegistryModel → Option ListCommand
 list_command_of (Rewrite names proved limit) registry =
-    list_command_if (names_own registry names) (record { names = names; proved = proved; limit = limit; trace = Off })
+    list_command_if (names_user_pattern registry names) (record { names = names; proved = proved; limit = limit; trace = Off })
 list_command_of (Trace (Some names) proved limit) registry =
-    list_command_if (names_own registry names) (record { names = names; proved = proved; limit = limit; trace = EachRewrite })
+    list_command_if (names_user_pattern registry names) (record { names = names; proved = proved; limit = limit; trace = EachRewrite })
 list_command_of (Fired (Some names) proved limit) registry =
-    list_command_if (names_own registry names) (record { names = names; proved = proved; limit = limit; trace = Counts })
+    list_command_if (names_user_pattern registry names) (record { names = names; proved = proved; limit = limit; trace = Counts })
 list_command_of _ registry = None
 
 -- the transformation of a rule list
 abbrev pub list_command_change : SessionOptions → RegistryModel → ListCommand → Option Transformation
-list_command_change session_options registry x = mixing registry x.names (limit_or session_options.limit x.limit)
+list_command_change session_options registry x = rule_list_transformation registry x.names (limit_or session_options.limit x.limit)
 
 -- the trace of the rewrites: none, a line for each, or the counts of a run that stopped by its limit
 abbrev pub list_command_trace : TraceForm → SessionOptions → RegistryModel → ListCommand → Module → Response → List ℕ
@@ -52,10 +52,10 @@ list_command_trace Counts session_options registry x m response = rule_list_fire
 -- the rewrite, and then the trace
 abbrev pub list_command_bytes : SessionOptions → RegistryModel → ListCommand → Module → Response → List ℕ
 list_command_bytes session_options registry x m response =
-    told_if (is_accepted response) (unproved_of registry x.names m.tree ++ list_command_trace x.trace session_options registry x m response)
+    bytes_if (is_accepted response) (unproved_of registry x.names m.tree ++ list_command_trace x.trace session_options registry x m response)
 
 -- from state `s` a rule list may get this response, with these bytes below the reply, and lead to state `t`
-pub record Mixes (session_options : SessionOptions) (registry : RegistryModel) (x : ListCommand) (s : State) (response : Response) (bytes : List ℕ) (t : State) : Type 0 where
+pub record AnswersRuleList (session_options : SessionOptions) (registry : RegistryModel) (x : ListCommand) (s : State) (response : Response) (bytes : List ℕ) (t : State) : Type 0 where
   pub requested : Requested
   pub asks : AppliesRule (list_command_change session_options registry x) requested
   pub follows : Follows s requested response Nothing t
@@ -75,14 +75,14 @@ abbrev pub RefusesUnproved : RegistryModel → ListCommand → State → Respons
 RefusesUnproved registry x s response bytes t =
     IsRefusedWith Memory [] s response bytes t ⊎ IsRefusedWith NotProved (unproved_of registry x.names s.held.tree) s response bytes t
 
-abbrev pub MixesUnless : Bool → SessionOptions → RegistryModel → ListCommand → State → Response → List ℕ → State → Type 0
-MixesUnless true session_options registry x s response bytes t = RefusesUnproved registry x s response bytes t
-MixesUnless false session_options registry x s response bytes t = Mixes session_options registry x s response bytes t
+abbrev pub AnswersRuleListUnless : Bool → SessionOptions → RegistryModel → ListCommand → State → Response → List ℕ → State → Type 0
+AnswersRuleListUnless true session_options registry x s response bytes t = RefusesUnproved registry x s response bytes t
+AnswersRuleListUnless false session_options registry x s response bytes t = AnswersRuleList session_options registry x s response bytes t
 
 abbrev pub RunsListCommand : SessionSetting → RegistryModel → Option ListCommand → State → SessionCommand → Response → List ℕ → State → Type 0
 RunsListCommand setting registry None s session_command response bytes t = RunsSessionCommand setting s session_command response bytes t
 RunsListCommand setting registry (Some x) s session_command response bytes t =
-    MixesUnless (is_unproved registry x s.held) setting.session_options registry x s response bytes t
+    AnswersRuleListUnless (is_unproved registry x s.held) setting.session_options registry x s response bytes t
 
 -- when a rule list may be refused with 31
 abbrev pub ListCommandHeadroom : Type 0 → SessionOptions → RegistryModel → ListCommand → State → Response → Type 0

@@ -11,7 +11,7 @@ use Rattle.mlir_work_transforms.specs.registry.Replies.{is_accepted}
 use Rattle.mlir_work_transforms.specs.registry.Registry.{Kept, RegistryModel}
 use Rattle.mlir_work_transforms.specs.RuleLists.{pattern_named}
 use Rattle.mlir_work_transforms.specs.WhyPattern.{why_pattern}
-use Rattle.mlir_work_session.specs.Machine.{SessionSetting, told_if}
+use Rattle.mlir_work_session.specs.Machine.{SessionSetting, bytes_if}
 use Rattle.mlir_work_session.specs.RuleLists.{RunsListCommand, list_command_of}
 
 -- the registered pattern that a `why` names, and its operation
@@ -25,14 +25,14 @@ AsksThere true requested = requested ≡ Ask call.Print
 AsksThere false requested = requested ≡ Misplaced NoSuchOp
 
 -- from state `s` a `why` of a pattern may get this response, with these bytes below the reply, and lead to state `t`
-pub record TellsPattern (k : Kept) (x : ℕ) (s : State) (response : Response) (bytes : List ℕ) (t : State) : Type 0 where
+pub record AnswersWhyPattern (k : Kept) (x : ℕ) (s : State) (response : Response) (bytes : List ℕ) (t : State) : Type 0 where
   pub requested : Requested
   pub shows : Shows
   pub asks : AsksThere (has_id x s.held.tree) requested
   pub follows : Follows s requested response shows t
-  pub text : bytes ≡ told_if (is_accepted response) (why_pattern k s.held x)
+  pub text : bytes ≡ bytes_if (is_accepted response) (why_pattern k s.held x)
 
 abbrev pub RunsNamedCommand : SessionSetting → RegistryModel → Option (Kept × ℕ) → State → SessionCommand → Response → List ℕ → State → Type 0
 RunsNamedCommand setting registry None s session_command response bytes t =
     RunsListCommand setting registry (list_command_of session_command registry) s session_command response bytes t
-RunsNamedCommand setting registry (Some p) s session_command response bytes t = TellsPattern p.0 p.1 s response bytes t
+RunsNamedCommand setting registry (Some p) s session_command response bytes t = AnswersWhyPattern p.0 p.1 s response bytes t

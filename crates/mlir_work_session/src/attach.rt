@@ -3,7 +3,7 @@ ghost use Rattle.std.specs.Prelude.{◌≡◌, ◌&&◌, is_none};
 ghost use Rattle.mlir_work_script_base.specs.Writes.{Writes};
 ghost use Rattle.mlir_work_transforms.specs.rewriter.Panels.{shown, all_shown};
 ghost use Rattle.mlir_work_transforms.specs.rewriter.RewriterCalls.{AgreesOrStale};
-ghost use Rattle.mlir_work_session.specs.Output.{Attaches, BoxTried, box_line};
+ghost use Rattle.mlir_work_session.specs.Output.{Attaches, AttachedOrRefused, box_line};
 ghost use Rattle.mlir_work_session.specs.Ran.{AttachedOut};
 
 use crate::listing::kind_of;
@@ -18,7 +18,7 @@ use mlir_work_transforms::rewriter::Bench;
 /// Attaches a listener. Returns the refusal if it can't be attached.
 fn attach<L: Analysis>(bench: &mut Bench<L>, listener: L) -> Option<Refusal>
     requires { AgreesOrStale L.meaning bench.old }
-    ensures candidates { BoxTried (shown (L.meaning listener)) (all_shown L.meaning bench.old.listeners) (all_shown L.meaning bench.new.listeners) result }
+    ensures candidates { AttachedOrRefused (shown (L.meaning listener)) (all_shown L.meaning bench.old.listeners) (all_shown L.meaning bench.new.listeners) result }
     ensures transaction { bench.new.transaction ≡ bench.old.transaction }
     ensures kept { AgreesOrStale L.meaning bench.new }
 {

@@ -9,12 +9,12 @@ ghost use Rattle.mlir_work_transforms.specs.FiredText.{fired_below};
 ghost use Rattle.mlir_work_transforms.specs.TraceText.{tracing};
 ghost use Rattle.mlir_work_transforms.specs.greedy.Changes.{canonical_reply, rewriting};
 ghost use Rattle.mlir_work_transforms.specs.greedy.Tracing.{trace_of};
-ghost use Rattle.mlir_work_transforms.specs.greedy.PatternSet.{AreAttempts, patterns_of, by_attempts};
+ghost use Rattle.mlir_work_transforms.specs.greedy.PatternSet.{MayUseAll, patterns_of, pattern_set_from};
 ghost use Rattle.mlir_work_transforms.specs.rewriter.RewriterCalls.{AgreesOrStale, state_of};
 ghost use Rattle.mlir_work_transforms.specs.rewriter.Commands.{Ask, Follows, Replied};
 ghost use Rattle.mlir_work_transforms.specs.rewriter.Machine.{Change, Nothing, Transformation};
 ghost use Rattle.mlir_work_transforms.specs.rewriter.Panels.{Shown};
-ghost use Rattle.mlir_work_session.specs.Machine.{RunsSessionCommand, IsContextFull, limit_or, response_of, session_setting, told_if};
+ghost use Rattle.mlir_work_session.specs.Machine.{RunsSessionCommand, IsContextFull, limit_or, response_of, session_setting, bytes_if};
 
 use crate::options::SessionOptions;
 use crate::reply::Reply;
@@ -36,7 +36,7 @@ use std::alloc::Global;
 /// Returns the reply to a rewrite, with the lines of the tracer below an accepted reply.
 fn fired_reply(alloc: Global, lines: FiredLines, called: Result<Ended, Refusal>) -> ShownReply
     ensures reply { response_of result.reply ≡ Replied (canonical_reply called) }
-    ensures shows { result.shows.items ≡ told_if (is_accepted (Replied (canonical_reply called))) lines.text.items }
+    ensures shows { result.shows.items ≡ bytes_if (is_accepted (Replied (canonical_reply called))) lines.text.items }
 {
     match called {
         Ok(ended) => ShownReply {
@@ -123,10 +123,10 @@ pub(crate) fn rewrite_counting<L: Analysis>(
     limit: u32,
 ) -> ShownReply
     requires kept { AgreesOrStale L.meaning bench.old }
-    requires may { AreAttempts (patterns_of candidates.now) }
-    ensures follows { Follows (state_of L.meaning bench.old) (Ask (Change (rewriting (by_attempts (patterns_of candidates.now)) limit))) (response_of result.reply) Nothing (state_of L.meaning bench.new) }
-    ensures shows { result.shows.items ≡ told_if (is_accepted (response_of result.reply)) (lines.text.items ++ fired_below (response_of result.reply) (map (λ n. n.items) lines.names.items) (trace_of (by_attempts (patterns_of candidates.now)) limit (state_of L.meaning bench.old).held)) }
-    ensures headroom { IsContextFull (IsFull bench.new.transaction.ctx) (state_of L.meaning bench.old) (rewriting (by_attempts (patterns_of candidates.now)) limit) (response_of result.reply) }
+    requires may { MayUseAll (patterns_of candidates.now) }
+    ensures follows { Follows (state_of L.meaning bench.old) (Ask (Change (rewriting (pattern_set_from (patterns_of candidates.now)) limit))) (response_of result.reply) Nothing (state_of L.meaning bench.new) }
+    ensures shows { result.shows.items ≡ bytes_if (is_accepted (response_of result.reply)) (lines.text.items ++ fired_below (response_of result.reply) (map (λ n. n.items) lines.names.items) (trace_of (pattern_set_from (patterns_of candidates.now)) limit (state_of L.meaning bench.old).held)) }
+    ensures headroom { IsContextFull (IsFull bench.new.transaction.ctx) (state_of L.meaning bench.old) (rewriting (pattern_set_from (patterns_of candidates.now)) limit) (response_of result.reply) }
     ensures kept { AgreesOrStale L.meaning bench.new }
     ensures mode { bench.new.transaction.ctx.opaque ≡ bench.old.transaction.ctx.opaque }
 {

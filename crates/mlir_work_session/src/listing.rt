@@ -3,7 +3,7 @@ ghost use Rattle.std.specs.Prelude.{◌≡◌, ◌⊎◌, ◌++◌, true};
 ghost use Rattle.ir_event.specs.Modules.{context_model, module_in};
 ghost use Rattle.ir_event.specs.Panels.{AllKept};
 ghost use Rattle.mlir_work_script.specs.Replies.{kind_line};
-ghost use Rattle.mlir_work_script_base.specs.Writes.{Writes, PutsSome};
+ghost use Rattle.mlir_work_script_base.specs.Writes.{Writes, WritesSome};
 ghost use Rattle.mlir_work_transforms.specs.rewriter.Panels.{shown, all_shown};
 ghost use Rattle.mlir_work_transforms.specs.rewriter.RewriterCalls.{AgreesOrStale, state_of};
 ghost use Rattle.mlir_work_session.specs.Output.{IsModule, IsKind, AreKinds, IsListing};
@@ -23,7 +23,7 @@ use std::alloc::Global;
 
 /// Writes the module's text, or an error line if memory runs out.
 fn write_module<W: Sink>(alloc: Global, world: &World, writer: &mut W) -> Result<(), WriteFault>
-    ensures { PutsSome (IsModule (module_in world.now).tree) (W.stream writer.old) (W.stream writer.new) result }
+    ensures { WritesSome (IsModule (module_in world.now).tree) (W.stream writer.old) (W.stream writer.new) result }
 {
     match text_of_module(alloc, world) {
         Ok(text) => write(writer, &text),
@@ -56,7 +56,7 @@ fn write_listener<L: Analysis, W: Sink>(
     writer: &mut W,
 ) -> Result<(), WriteFault>
     requires { (L.meaning listener.now).agrees (context_model world.now) (module_in world.now) ⊎ ((L.meaning listener.now).stale ≡ true) }
-    ensures { PutsSome (IsKind (module_in world.now).tree (shown (L.meaning listener.now))) (W.stream writer.old) (W.stream writer.new) result }
+    ensures { WritesSome (IsKind (module_in world.now).tree (shown (L.meaning listener.now))) (W.stream writer.old) (W.stream writer.new) result }
 {
     let kind = kind_of(listener);
     match text_of_report(alloc, listener, world) {
@@ -73,7 +73,7 @@ fn write_listeners<L: Analysis, W: Sink>(
     writer: &mut W,
 ) -> Result<(), WriteFault>
     requires { AllKept L.meaning (context_model world.now) (module_in world.now) listeners.now }
-    ensures { PutsSome (AreKinds (module_in world.now).tree (all_shown L.meaning listeners.now)) (W.stream writer.old) (W.stream writer.new) result }
+    ensures { WritesSome (AreKinds (module_in world.now).tree (all_shown L.meaning listeners.now)) (W.stream writer.old) (W.stream writer.new) result }
 {
     for listener in listeners {
         match write_listener(alloc, world, listener, writer) {
@@ -91,7 +91,7 @@ pub fn write_listing<L: Analysis, W: Sink>(
     writer: &mut W,
 ) -> Result<(), WriteFault>
     requires { AgreesOrStale L.meaning bench.now }
-    ensures { PutsSome (IsListing (state_of L.meaning bench.now)) (W.stream writer.old) (W.stream writer.new) result }
+    ensures { WritesSome (IsListing (state_of L.meaning bench.now)) (W.stream writer.old) (W.stream writer.new) result }
 {
     let world = bench.world();
     match write_module(alloc, world, writer) {

@@ -2,9 +2,9 @@
 ghost use Rattle.std.specs.Prelude.{◌≡◌, IfOk};
 ghost use Rattle.ir_event.specs.Modules.{module_in};
 ghost use Rattle.mlir_work_script.specs.Commands.{said_of, spoken_of};
-ghost use Rattle.mlir_work_script.specs.RegistryCommands.{registry_order_of};
+ghost use Rattle.mlir_work_script.specs.RegistryCommands.{registry_command_of};
 ghost use Rattle.mlir_work_transforms.specs.registry.Notices.{notice_of};
-ghost use Rattle.mlir_work_session.specs.Explained.{IsAbout, about_bytes, about_cause, about_notice, about_pattern, about_read, about_refused};
+ghost use Rattle.mlir_work_session.specs.Explained.{IsAbout, about_bytes, construct_note, about_notice, about_pattern, about_read, about_refused};
 ghost use Rattle.mlir_work_session.specs.Explained.{text_of_command};
 
 use crate::reply::Reply;
@@ -51,13 +51,13 @@ fn text_of_command<'a>(command: &Command<'a>) -> &'a [u8]
 }
 
 /// Returns the note that names the unsupported MLIR construct at the byte at which a text was refused.
-fn about_cause(
+fn construct_note(
     alloc: Global,
     refusal: Refusal,
     text: &[u8],
     offset: usize,
 ) -> Result<Vec<u8>, AllocError>
-    ensures { IfOk result (λ v. v.items ≡ about_cause refusal text.now offset) }
+    ensures { IfOk result (λ v. v.items ≡ construct_note refusal text.now offset) }
 {
     let mut out = Vec::new(alloc);
     match refusal {
@@ -78,7 +78,7 @@ fn about_pattern(
     offset: usize,
     command: &RegistryCommand<'_>,
 ) -> Result<Vec<u8>, AllocError>
-    ensures { IfOk result (λ v. v.items ≡ about_pattern refusal offset (registry_order_of command.now)) }
+    ensures { IfOk result (λ v. v.items ≡ about_pattern refusal offset (registry_command_of command.now)) }
 {
     match command {
         RegistryCommand::Define(text) => pattern_note(alloc, refusal, text, offset),
@@ -98,7 +98,7 @@ fn about_read(
     ensures { IfOk result (λ v. v.items ≡ about_read refusal offset (spoken_of line.now)) }
 {
     match line {
-        Line::Command(command) => about_cause(alloc, refusal, text_of_command(command), offset),
+        Line::Command(command) => construct_note(alloc, refusal, text_of_command(command), offset),
         Line::Registry(command) => about_pattern(alloc, refusal, offset, command),
         Line::Empty | Line::BadCommand | Line::Session(_) => Ok(Vec::new(alloc)),
     }

@@ -3,7 +3,7 @@ ghost use Rattle.std.specs.Prelude.{◌≡◌, ℕ, Err, IfOk, IfErr};
 ghost use Rattle.ir_event.specs.trees.Ids.{IsNumberedFrom};
 ghost use Rattle.ir_event.specs.trees.Meaning.{IsSoundIn, meaning};
 ghost use Rattle.ir_event.specs.types.declared.refusal.Refusal.{Refusal as Reason};
-ghost use Rattle.ir_text.specs.Public.{IsOpRefusal as IsOpTold};
+ghost use Rattle.ir_text.specs.Public.{IsOpRefusal as IsOpReported};
 ghost use Rattle.ir_text.specs.Public.{IsNone};
 ghost use Rattle.mlir_work_transforms.specs.rewriter.Held.{module_held};
 ghost use Rattle.mlir_work_transforms.specs.rewriter.Texts.{SpellsNextTo};
@@ -25,7 +25,7 @@ fn read<L: Analysis>(bench: &mut Bench<L>, text: &[u8]) -> Result<TreeOp, ReadEr
     ensures sound { IfOk result (λ t. IsSoundIn bench.new.transaction.ctx t) }
     ensures numbered { IfOk result (λ t. IsNumberedFrom bench.new.transaction.store.module_of.next t) }
     ensures refused { (r : Reason) (o : ℕ) → result ≡ Err (ReadError.Refused r o) → IsNone (SpellsNextTo bench.old.transaction.ctx.opaque (module_held bench.old.transaction) text.now) }
-    ensures told { IfErr result (λ e. IsOpTold text.now e) }
+    ensures told { IfErr result (λ e. IsOpReported text.now e) }
     ensures grown { Grown L.meaning bench.old bench.new }
 {
     led_benches_are_kept::<L>();

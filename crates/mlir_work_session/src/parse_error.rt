@@ -2,10 +2,10 @@
 ghost use Rattle.std.specs.Prelude.{◌≡◌, ◌≤◌, ◌⊎◌, ℕ, Bool, List, IsTrue};
 ghost use Rattle.ir_event.specs.types.Refusals.{number_of};
 ghost use Rattle.ir_event.specs.types.declared.refusal.Refusal.{Refusal as Reason};
-ghost use Rattle.ir_event.specs.types.declared.refusal.Refusal.TheVariants.{IdsExhausted as WantOfIds};
-ghost use Rattle.ir_event.specs.types.declared.refusal.Refusal.TheVariants.{Memory as WantOfMemory};
+ghost use Rattle.ir_event.specs.types.declared.refusal.Refusal.TheVariants.{IdsExhausted as IdsRefusal};
+ghost use Rattle.ir_event.specs.types.declared.refusal.Refusal.TheVariants.{Memory as MemoryRefusal};
 ghost use Rattle.ir_event.specs.Modules.{Module as Contents};
-ghost use Rattle.ir_text.specs.Public.{IsOpRefusal as IsOpTold, IsTextRefusal};
+ghost use Rattle.ir_text.specs.Public.{IsOpRefusal as IsOpReported, IsTextRefusal};
 ghost use Rattle.ir_text.specs.declared.error.ReadError.{ReadError as Unparsed};
 ghost use Rattle.ir_text.specs.Public.{IsNoAttr};
 ghost use Rattle.ir_text.specs.Public.{SpellsAttr};
@@ -29,7 +29,7 @@ const WORDS: usize = 54;
 /// Returns the reply for a text that was refused at a byte. A refusal because ids ran out gives no byte.
 fn refused_at(refusal: Refusal, offset: usize) -> Reply
     ensures attr { (bytes : ℕ) (opaque : Bool) (text : List ℕ) → number_of refusal ≤ 14 → IsNoAttr (SpellsAttr opaque text) → NotRead bytes IsAttrRefusal (SpellsAttr opaque text) (response_of result) }
-    ensures op { (bytes : ℕ) (opaque : Bool) (m : Contents) (text : List ℕ) → (number_of refusal ≤ 14) ⊎ (refusal ≡ WantOfIds) → IsNone (SpellsNextTo opaque m text) → NotRead bytes IsOpRefusal (SpellsNextTo opaque m text) (response_of result) }
+    ensures op { (bytes : ℕ) (opaque : Bool) (m : Contents) (text : List ℕ) → (number_of refusal ≤ 14) ⊎ (refusal ≡ IdsRefusal) → IsNone (SpellsNextTo opaque m text) → NotRead bytes IsOpRefusal (SpellsNextTo opaque m text) (response_of result) }
 {
     if refusal == Refusal::IdsExhausted {
         return Reply::Refused(refusal);
@@ -61,7 +61,7 @@ fn full_at(bytes: usize, offset: usize) -> Reply
 /// Returns the reply for a text that can't be parsed; `bytes` is the length of the whole input.
 pub(crate) fn reply_unparsed(bytes: usize, error: &ReadError) -> Reply
     ensures attr { (opaque : Bool) (text : List ℕ) → IsTextRefusal text error.now → ((r : Reason) (o : ℕ) → error.now ≡ Unparsed.Refused r o → IsNoAttr (SpellsAttr opaque text)) → NotRead bytes IsAttrRefusal (SpellsAttr opaque text) (response_of result) }
-    ensures op { (opaque : Bool) (m : Contents) (text : List ℕ) → IsOpTold text error.now → ((r : Reason) (o : ℕ) → error.now ≡ Unparsed.Refused r o → IsNone (SpellsNextTo opaque m text)) → NotRead bytes IsOpRefusal (SpellsNextTo opaque m text) (response_of result) }
+    ensures op { (opaque : Bool) (m : Contents) (text : List ℕ) → IsOpReported text error.now → ((r : Reason) (o : ℕ) → error.now ≡ Unparsed.Refused r o → IsNone (SpellsNextTo opaque m text)) → NotRead bytes IsOpRefusal (SpellsNextTo opaque m text) (response_of result) }
 {
     match *error {
         ReadError::Memory => Reply::Refused(Refusal::Memory),
@@ -74,7 +74,7 @@ pub(crate) fn reply_unparsed(bytes: usize, error: &ReadError) -> Reply
 /// refused text is a part of the input, so its offset is in range.
 pub(crate) fn reply_within(bytes: usize, reply: Reply) -> Reply
     ensures bounded { IsBounded bytes (response_of result) }
-    ensures same { (response_of result ≡ response_of reply) ⊎ ((refusal : Reason) × (offset : ℕ) × (response_of reply ≡ TextRefusedAt refusal offset) × (response_of result ≡ Replied (Refused WantOfMemory))) }
+    ensures same { (response_of result ≡ response_of reply) ⊎ ((refusal : Reason) × (offset : ℕ) × (response_of reply ≡ TextRefusedAt refusal offset) × (response_of result ≡ Replied (Refused MemoryRefusal))) }
 {
     match reply {
         Reply::RefusedAt(_, offset) => {

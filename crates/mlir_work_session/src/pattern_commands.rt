@@ -3,14 +3,14 @@
 ghost use Rattle.std.specs.Prelude.{◌≡◌, option_map};
 ghost use Rattle.ir_text.specs.Public.{IsFull};
 ghost use Rattle.mlir_work_script.specs.Commands.{said_of};
-ghost use Rattle.mlir_work_transforms.specs.Applying.{applied_reply, applying_own};
+ghost use Rattle.mlir_work_transforms.specs.Applying.{applied_reply, applying_user_pattern};
 ghost use Rattle.mlir_work_transforms.specs.rewriter.RewriterCalls.{AgreesOrStale, state_of};
 ghost use Rattle.mlir_work_transforms.specs.rewriter.Commands.{Replied};
 ghost use Rattle.mlir_work_transforms.specs.registry.Notices.{IsWithin, notice_of};
 ghost use Rattle.mlir_work_transforms.specs.registry.Replies.{is_accepted};
 ghost use Rattle.mlir_work_transforms.specs.registry.Registry.{registry_model, kept_view};
-ghost use Rattle.mlir_work_session.specs.Machine.{IsContextFull, response_of, told_if};
-ghost use Rattle.mlir_work_session.specs.Sittings.{AppliesUserPattern, NextToHeadroom, ByBench, RunsPatternCommand, own_of, sitting_of};
+ghost use Rattle.mlir_work_session.specs.Machine.{IsContextFull, response_of, bytes_if};
+ghost use Rattle.mlir_work_session.specs.Sittings.{AppliesUserPattern, NextToHeadroom, ByRewriter, RunsPatternCommand, registered_pattern_of, sitting_of};
 
 use crate::commands::run_command;
 use crate::options::SessionOptions;
@@ -32,11 +32,11 @@ use mlir_work_transforms::unproved::unproved_one;
 use std::alloc::Global;
 
 /// Returns the registered pattern that a command names, with the operation to which the command applies it.
-fn own_of<'a>(
+fn registered_pattern_of<'a>(
     registry: &'a PatternRegistry,
     command: &Command<'_>,
 ) -> Option<(&'a RegisteredPattern, OpId)>
-    ensures { option_map (λ p. (kept_view p.0.now, p.1)) result ≡ own_of (said_of command.now) (registry_model registry.now) }
+    ensures { option_map (λ p. (kept_view p.0.now, p.1)) result ≡ registered_pattern_of (said_of command.now) (registry_model registry.now) }
 {
     match command {
         Command::Apply { rule, op } => match find_pattern(registry, rule) {
@@ -49,9 +49,9 @@ fn own_of<'a>(
 
 /// Returns the reply to applying a user pattern. Unless it was refused, the line for an unproved pattern is shown
 /// below.
-fn told_applied(alloc: Global, unproved: Vec<u8>, called: Result<bool, Refusal>) -> ShownReply
+fn apply_reply(alloc: Global, unproved: Vec<u8>, called: Result<bool, Refusal>) -> ShownReply
     ensures reply { response_of result.reply ≡ Replied (applied_reply called) }
-    ensures shows { result.shows.items ≡ told_if (is_accepted (Replied (applied_reply called))) unproved.items }
+    ensures shows { result.shows.items ≡ bytes_if (is_accepted (Replied (applied_reply called))) unproved.items }
 {
     match called {
         Ok(applied) => ShownReply {
@@ -63,14 +63,14 @@ fn told_applied(alloc: Global, unproved: Vec<u8>, called: Result<bool, Refusal>)
 }
 
 /// Applies a registered pattern at an operation, and shows a line if no check proves the pattern for the module.
-fn apply_own<L: Analysis>(
+fn apply_user_pattern<L: Analysis>(
     alloc: Global,
     bench: &mut Bench<L>,
     found: (&RegisteredPattern, OpId),
 ) -> ShownReply
     requires { AgreesOrStale L.meaning bench.old }
     ensures applies { AppliesUserPattern (kept_view found.entry.0.now) found.entry.1 (state_of L.meaning bench.old) (response_of result.reply) result.shows.items (state_of L.meaning bench.new) }
-    ensures headroom { IsContextFull (IsFull bench.new.transaction.ctx) (state_of L.meaning bench.old) (applying_own (kept_view found.entry.0.now).shape found.entry.1) (response_of result.reply) }
+    ensures headroom { IsContextFull (IsFull bench.new.transaction.ctx) (state_of L.meaning bench.old) (applying_user_pattern (kept_view found.entry.0.now).shape found.entry.1) (response_of result.reply) }
     ensures kept { AgreesOrStale L.meaning bench.new }
     ensures mode { bench.new.transaction.ctx.opaque ≡ bench.old.transaction.ctx.opaque }
 {
@@ -79,7 +79,7 @@ fn apply_own<L: Analysis>(
         return reply_only(alloc, Reply::Refused(Refusal::Memory));
     };
     let called = apply_pattern::apply_pattern(alloc, bench, &found.0.pattern, found.1);
-    told_applied(alloc, unproved, called)
+    apply_reply(alloc, unproved, called)
 }
 
 /// Runs a command; `registry` has the user patterns. A refused command doesn't change the module.
@@ -92,13 +92,13 @@ pub fn run_pattern_command<L: Analysis>(
 ) -> ShownReply
     requires kept { AgreesOrStale L.meaning bench.old }
     requires mode { bench.old.transaction.ctx.opaque ≡ session_options.now.opaque }
-    ensures obeys { RunsPatternCommand session_options.now (own_of (said_of command.now) (registry_model registry.now)) (state_of L.meaning bench.old) (said_of command.now) (response_of result.reply) result.shows.items (state_of L.meaning bench.new) }
-    ensures headroom { NextToHeadroom (IsFull bench.new.transaction.ctx) session_options.now (own_of (said_of command.now) (registry_model registry.now)) (state_of L.meaning bench.old) (said_of command.now) (response_of result.reply) }
+    ensures obeys { RunsPatternCommand session_options.now (registered_pattern_of (said_of command.now) (registry_model registry.now)) (state_of L.meaning bench.old) (said_of command.now) (response_of result.reply) result.shows.items (state_of L.meaning bench.new) }
+    ensures headroom { NextToHeadroom (IsFull bench.new.transaction.ctx) session_options.now (registered_pattern_of (said_of command.now) (registry_model registry.now)) (state_of L.meaning bench.old) (said_of command.now) (response_of result.reply) }
     ensures kept { AgreesOrStale L.meaning bench.new }
     ensures mode { bench.new.transaction.ctx.opaque ≡ bench.old.transaction.ctx.opaque }
 {
-    match own_of(registry, command) {
-        Some(found) => apply_own(alloc, bench, found),
+    match registered_pattern_of(registry, command) {
+        Some(found) => apply_user_pattern(alloc, bench, found),
         None => run_command(alloc, session_options, bench, command),
     }
 }
@@ -113,7 +113,7 @@ pub(crate) fn answer_command<L: Analysis>(
 ) -> ShownResponse
     requires kept { AgreesOrStale L.meaning bench.old }
     requires mode { bench.old.transaction.ctx.opaque ≡ session_options.now.opaque }
-    ensures obeys { ByBench (λ response u. RunsPatternCommand session_options.now (own_of (said_of command.now) (registry_model registry.now)) (state_of L.meaning bench.old) (said_of command.now) response result.shows.items u) (sitting_of L.meaning bench.old registry.now) (notice_of result.notice) (sitting_of L.meaning bench.new registry.now) }
+    ensures obeys { ByRewriter (λ response u. RunsPatternCommand session_options.now (registered_pattern_of (said_of command.now) (registry_model registry.now)) (state_of L.meaning bench.old) (said_of command.now) response result.shows.items u) (sitting_of L.meaning bench.old registry.now) (notice_of result.notice) (sitting_of L.meaning bench.new registry.now) }
     ensures bounded { IsWithin session_options.now.bytes (notice_of result.notice) }
     ensures kept { AgreesOrStale L.meaning bench.new }
     ensures mode { bench.new.transaction.ctx.opaque ≡ bench.old.transaction.ctx.opaque }

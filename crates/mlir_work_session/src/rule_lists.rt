@@ -2,18 +2,18 @@
 //! rule list names a registered pattern rewrites by rules and patterns.
 ghost use Rattle.std.specs.Prelude.{◌≡◌, ◌==◌, ◌&&◌, ◌++◌, length, map, not, option_map};
 ghost use Rattle.ir_text.specs.Public.{IsFull};
-ghost use Rattle.mlir_work_script.specs.SessionCommands.{order_of};
+ghost use Rattle.mlir_work_script.specs.SessionCommands.{session_command_of};
 ghost use Rattle.mlir_work_transforms.specs.TraceText.{trace_text};
 ghost use Rattle.mlir_work_transforms.specs.greedy.Changes.{rewriting};
 ghost use Rattle.mlir_work_transforms.specs.greedy.Tracing.{trace_of};
-ghost use Rattle.mlir_work_transforms.specs.greedy.PatternSet.{AreAttempts, patterns_of, by_attempts};
+ghost use Rattle.mlir_work_transforms.specs.greedy.PatternSet.{MayUseAll, patterns_of, pattern_set_from};
 ghost use Rattle.mlir_work_transforms.specs.rewriter.RewriterCalls.{AgreesOrStale, state_of};
 ghost use Rattle.mlir_work_transforms.specs.rewriter.Commands.{Ask, Follows};
 ghost use Rattle.mlir_work_transforms.specs.rewriter.Machine.{Change, Nothing};
 ghost use Rattle.mlir_work_transforms.specs.registry.Replies.{is_accepted};
 ghost use Rattle.mlir_work_transforms.specs.registry.Registry.{registry_model};
-ghost use Rattle.mlir_work_session.specs.Machine.{IsContextFull, response_of, told_if, session_setting};
-ghost use Rattle.mlir_work_session.specs.RuleLists.{RunsListCommand, ListCommandHeadroom, MixesUnless, is_unproved, list_command_of};
+ghost use Rattle.mlir_work_session.specs.Machine.{IsContextFull, response_of, bytes_if, session_setting};
+ghost use Rattle.mlir_work_session.specs.RuleLists.{RunsListCommand, ListCommandHeadroom, AnswersRuleListUnless, is_unproved, list_command_of};
 ghost use Rattle.mlir_work_session.specs.ListCommandViews.{list_command_view};
 
 use crate::fired::rewrite_counting;
@@ -55,7 +55,7 @@ fn list_rewrite<'a>(
     registry: &PatternRegistry,
     session_command: &SessionCommand<'a>,
 ) -> Option<ListRewrite<'a>>
-    ensures { option_map list_command_view result ≡ list_command_of (order_of session_command.now) (registry_model registry.now) }
+    ensures { option_map list_command_view result ≡ list_command_of (session_command_of session_command.now) (registry_model registry.now) }
 {
     let list_command = match session_command {
         SessionCommand::Rewrite {
@@ -106,10 +106,10 @@ fn rewrite_plainly<L: Analysis>(
     limit: u32,
 ) -> ShownReply
     requires kept { AgreesOrStale L.meaning bench.old }
-    requires may { AreAttempts (patterns_of candidates.now) }
-    ensures follows { Follows (state_of L.meaning bench.old) (Ask (Change (rewriting (by_attempts (patterns_of candidates.now)) limit))) (response_of result.reply) Nothing (state_of L.meaning bench.new) }
-    ensures shows { result.shows.items ≡ told_if (is_accepted (response_of result.reply)) lines.text.items }
-    ensures headroom { IsContextFull (IsFull bench.new.transaction.ctx) (state_of L.meaning bench.old) (rewriting (by_attempts (patterns_of candidates.now)) limit) (response_of result.reply) }
+    requires may { MayUseAll (patterns_of candidates.now) }
+    ensures follows { Follows (state_of L.meaning bench.old) (Ask (Change (rewriting (pattern_set_from (patterns_of candidates.now)) limit))) (response_of result.reply) Nothing (state_of L.meaning bench.new) }
+    ensures shows { result.shows.items ≡ bytes_if (is_accepted (response_of result.reply)) lines.text.items }
+    ensures headroom { IsContextFull (IsFull bench.new.transaction.ctx) (state_of L.meaning bench.old) (rewriting (pattern_set_from (patterns_of candidates.now)) limit) (response_of result.reply) }
     ensures kept { AgreesOrStale L.meaning bench.new }
     ensures mode { bench.new.transaction.ctx.opaque ≡ bench.old.transaction.ctx.opaque }
 {
@@ -120,7 +120,7 @@ fn rewrite_plainly<L: Analysis>(
 
 /// Rewrites by rules and patterns until none applies or the limit is reached. Traces each rewrite after the given
 /// lines.
-fn rewrite_telling<L: Analysis>(
+fn rewrite_and_trace<L: Analysis>(
     alloc: Global,
     bench: &mut Bench<L>,
     candidates: &[RuleOrPattern<'_>],
@@ -128,10 +128,10 @@ fn rewrite_telling<L: Analysis>(
     limit: u32,
 ) -> ShownReply
     requires kept { AgreesOrStale L.meaning bench.old }
-    requires may { AreAttempts (patterns_of candidates.now) }
-    ensures follows { Follows (state_of L.meaning bench.old) (Ask (Change (rewriting (by_attempts (patterns_of candidates.now)) limit))) (response_of result.reply) Nothing (state_of L.meaning bench.new) }
-    ensures shows { result.shows.items ≡ told_if (is_accepted (response_of result.reply)) (lines.text.items ++ trace_text (map (λ n. n.items) lines.names.items) (trace_of (by_attempts (patterns_of candidates.now)) limit (state_of L.meaning bench.old).held)) }
-    ensures headroom { IsContextFull (IsFull bench.new.transaction.ctx) (state_of L.meaning bench.old) (rewriting (by_attempts (patterns_of candidates.now)) limit) (response_of result.reply) }
+    requires may { MayUseAll (patterns_of candidates.now) }
+    ensures follows { Follows (state_of L.meaning bench.old) (Ask (Change (rewriting (pattern_set_from (patterns_of candidates.now)) limit))) (response_of result.reply) Nothing (state_of L.meaning bench.new) }
+    ensures shows { result.shows.items ≡ bytes_if (is_accepted (response_of result.reply)) (lines.text.items ++ trace_text (map (λ n. n.items) lines.names.items) (trace_of (pattern_set_from (patterns_of candidates.now)) limit (state_of L.meaning bench.old).held)) }
+    ensures headroom { IsContextFull (IsFull bench.new.transaction.ctx) (state_of L.meaning bench.old) (rewriting (pattern_set_from (patterns_of candidates.now)) limit) (response_of result.reply) }
     ensures kept { AgreesOrStale L.meaning bench.new }
     ensures mode { bench.new.transaction.ctx.opaque ≡ bench.old.transaction.ctx.opaque }
 {
@@ -159,7 +159,7 @@ fn rewrite_list_command<L: Analysis>(
     list_command: &ListRewrite<'_>,
 ) -> ShownReply
     requires { AgreesOrStale L.meaning bench.old }
-    ensures mixes { MixesUnless (is_unproved (registry_model registry.now) (list_command_view list_command.now) (state_of L.meaning bench.old).held) session_options.now (registry_model registry.now) (list_command_view list_command.now) (state_of L.meaning bench.old) (response_of result.reply) result.shows.items (state_of L.meaning bench.new) }
+    ensures mixes { AnswersRuleListUnless (is_unproved (registry_model registry.now) (list_command_view list_command.now) (state_of L.meaning bench.old).held) session_options.now (registry_model registry.now) (list_command_view list_command.now) (state_of L.meaning bench.old) (response_of result.reply) result.shows.items (state_of L.meaning bench.new) }
     ensures headroom { ListCommandHeadroom (IsFull bench.new.transaction.ctx) session_options.now (registry_model registry.now) (list_command_view list_command.now) (state_of L.meaning bench.old) (response_of result.reply) }
     ensures kept { AgreesOrStale L.meaning bench.new }
     ensures mode { bench.new.transaction.ctx.opaque ≡ bench.old.transaction.ctx.opaque }
@@ -183,7 +183,7 @@ fn rewrite_list_command<L: Analysis>(
     let limit = limit_of(session_options, list_command.limit);
     match list_command.trace {
         TraceForm::Off => rewrite_plainly(alloc, bench, &candidates, lines, limit),
-        TraceForm::EachRewrite => rewrite_telling(alloc, bench, &candidates, lines, limit),
+        TraceForm::EachRewrite => rewrite_and_trace(alloc, bench, &candidates, lines, limit),
         TraceForm::Counts => rewrite_counting(alloc, bench, &candidates, lines, limit),
     }
 }
@@ -197,7 +197,7 @@ pub fn run_list_command<L: AnalysisSource>(
     session_command: &SessionCommand<'_>,
 ) -> ShownReply
     requires { AgreesOrStale L.meaning bench.old }
-    ensures fulfils { RunsListCommand (session_setting L.supply session_options.now) (registry_model registry.now) (list_command_of (order_of session_command.now) (registry_model registry.now)) (state_of L.meaning bench.old) (order_of session_command.now) (response_of result.reply) result.shows.items (state_of L.meaning bench.new) }
+    ensures fulfils { RunsListCommand (session_setting L.supply session_options.now) (registry_model registry.now) (list_command_of (session_command_of session_command.now) (registry_model registry.now)) (state_of L.meaning bench.old) (session_command_of session_command.now) (response_of result.reply) result.shows.items (state_of L.meaning bench.new) }
     ensures kept { AgreesOrStale L.meaning bench.new }
     ensures mode { bench.new.transaction.ctx.opaque ≡ bench.old.transaction.ctx.opaque }
 {

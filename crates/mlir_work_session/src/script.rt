@@ -3,8 +3,8 @@ ghost use Rattle.std.specs.Prelude.{◌≡◌, ◌+◌, ◌<◌, ◌^◌, false,
 ghost use Rattle.mlir_work_script.specs.Commands.{line_says, said_of, spoken_of};
 ghost use Rattle.mlir_work_script.specs.Expecting.{line_expects};
 ghost use Rattle.mlir_work_script_base.specs.Lines.{lines_of};
-ghost use Rattle.mlir_work_script.specs.SessionCommands.{order_of};
-ghost use Rattle.mlir_work_script_base.specs.Writes.{Writes, PutsSome};
+ghost use Rattle.mlir_work_script.specs.SessionCommands.{session_command_of};
+ghost use Rattle.mlir_work_script_base.specs.Writes.{Writes, WritesSome};
 ghost use Rattle.mlir_work_transforms.specs.rewriter.RewriterCalls.{AgreesOrStale, state_of};
 ghost use Rattle.mlir_work_transforms.specs.registry.Notices.{IsWithin, notice_of};
 ghost use Rattle.mlir_work_session.specs.Explained.{IsAbout, about_bytes};
@@ -12,9 +12,9 @@ ghost use Rattle.mlir_work_transforms.specs.registry.Registry.{registry_model};
 ghost use Rattle.mlir_work_session.specs.Machine.{session_setting};
 ghost use Rattle.mlir_work_session.specs.WhyPatterns.{RunsNamedCommand, asked_pattern};
 ghost use Rattle.mlir_work_session.specs.Output.{IsAnswered, IsReplied, Replies, Runs, accepted_after as still_accepted, asks as asks_to};
-ghost use Rattle.mlir_work_session.specs.Output.{end_of, number_after as next_number, order_asks, says_nothing, shows_alone};
+ghost use Rattle.mlir_work_session.specs.Output.{end_of, number_after as next_number, only_shows, says_nothing, shows_alone};
 ghost use Rattle.mlir_work_session.specs.Ran.{RanOut};
-ghost use Rattle.mlir_work_session.specs.Sittings.{ByBench, sitting_of};
+ghost use Rattle.mlir_work_session.specs.Sittings.{ByRewriter, sitting_of};
 
 use crate::listing::write_listing;
 use crate::notes::{Note, explained};
@@ -50,8 +50,8 @@ fn shows_alone(command: &Command<'_>) -> bool
 }
 
 /// Returns whether a session command only shows something.
-fn order_asks(session_command: &SessionCommand<'_>) -> bool
-    ensures { result ≡ order_asks (order_of session_command.now) }
+fn only_shows(session_command: &SessionCommand<'_>) -> bool
+    ensures { result ≡ only_shows (session_command_of session_command.now) }
 {
     match session_command {
         SessionCommand::PrintIds => true,
@@ -69,7 +69,7 @@ fn asks(line: &Line<'_>) -> bool
         Line::Empty => false,
         Line::BadCommand => false,
         Line::Command(command) => shows_alone(command),
-        Line::Session(session_command) => order_asks(session_command),
+        Line::Session(session_command) => only_shows(session_command),
         Line::Registry(_) => true,
     }
 }
@@ -108,7 +108,7 @@ fn answer_session_command<L: AnalysisSource>(
     session_command: &SessionCommand<'_>,
 ) -> ShownResponse
     requires { AgreesOrStale L.meaning bench.old }
-    ensures fulfils { ByBench (λ response u. RunsNamedCommand (session_setting L.supply session_options.now) (registry_model registry.now) (asked_pattern (order_of session_command.now) (registry_model registry.now)) (state_of L.meaning bench.old) (order_of session_command.now) response result.shows.items u) (sitting_of L.meaning bench.old registry.now) (notice_of result.notice) (sitting_of L.meaning bench.new registry.now) }
+    ensures fulfils { ByRewriter (λ response u. RunsNamedCommand (session_setting L.supply session_options.now) (registry_model registry.now) (asked_pattern (session_command_of session_command.now) (registry_model registry.now)) (state_of L.meaning bench.old) (session_command_of session_command.now) response result.shows.items u) (sitting_of L.meaning bench.old registry.now) (notice_of result.notice) (sitting_of L.meaning bench.new registry.now) }
     ensures bounded { IsWithin session_options.now.bytes (notice_of result.notice) }
     ensures kept { AgreesOrStale L.meaning bench.new }
     ensures mode { bench.new.transaction.ctx.opaque ≡ bench.old.transaction.ctx.opaque }
@@ -180,7 +180,7 @@ fn write_answer<L: Analysis, W: Sink>(
     writer: &mut W,
 ) -> Result<(), WriteFault>
     requires { AgreesOrStale L.meaning bench.now }
-    ensures { PutsSome (IsReplied session_options.now.explain (spoken_of line.now) (not session_options.now.brief && not (asks_to (spoken_of line.now))) (state_of L.meaning bench.now) n expected.now (notice_of answered.now.notice) answered.now.shows.items) (W.stream writer.old) (W.stream writer.new) result }
+    ensures { WritesSome (IsReplied session_options.now.explain (spoken_of line.now) (not session_options.now.brief && not (asks_to (spoken_of line.now))) (state_of L.meaning bench.now) n expected.now (notice_of answered.now.notice) answered.now.shows.items) (W.stream writer.old) (W.stream writer.new) result }
 {
     let about = about_line(
         alloc,

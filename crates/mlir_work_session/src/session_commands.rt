@@ -3,9 +3,9 @@ ghost use Rattle.std.specs.Prelude.{◌≡◌, [], IfOk};
 ghost use Rattle.ir_event.specs.Modules.{module_in};
 ghost use Rattle.mlir_work_transforms.specs.rewriter.RewriterCalls.{AgreesOrStale, attach_reply_of, state_of};
 ghost use Rattle.mlir_work_transforms.specs.rewriter.Commands.{Replied};
-ghost use Rattle.mlir_work_script.specs.SessionCommands.{Attach, PrintIds, order_of};
+ghost use Rattle.mlir_work_script.specs.SessionCommands.{Attach, PrintIds, session_command_of};
 ghost use Rattle.ir_text.specs.Public.{IsFull};
-ghost use Rattle.mlir_work_session.specs.Machine.{RunsSessionCommand, OrdersHeadroom, SessionSetting, response_of, session_setting};
+ghost use Rattle.mlir_work_session.specs.Machine.{RunsSessionCommand, SessionCommandHeadroom, SessionSetting, response_of, session_setting};
 ghost use Rattle.mlir_work_session_base.specs.IdsText.{ids_text};
 
 use crate::options::SessionOptions;
@@ -80,8 +80,8 @@ pub fn run_session_command<L: AnalysisSource>(
     session_command: &SessionCommand<'_>,
 ) -> ShownReply
     requires { AgreesOrStale L.meaning bench.old }
-    ensures fulfils { RunsSessionCommand (session_setting L.supply session_options.now) (state_of L.meaning bench.old) (order_of session_command.now) (response_of result.reply) result.shows.items (state_of L.meaning bench.new) }
-    ensures headroom { OrdersHeadroom (IsFull bench.new.transaction.ctx) (session_setting L.supply session_options.now) (state_of L.meaning bench.old) (order_of session_command.now) (response_of result.reply) }
+    ensures fulfils { RunsSessionCommand (session_setting L.supply session_options.now) (state_of L.meaning bench.old) (session_command_of session_command.now) (response_of result.reply) result.shows.items (state_of L.meaning bench.new) }
+    ensures headroom { SessionCommandHeadroom (IsFull bench.new.transaction.ctx) (session_setting L.supply session_options.now) (state_of L.meaning bench.old) (session_command_of session_command.now) (response_of result.reply) }
     ensures kept { AgreesOrStale L.meaning bench.new }
     ensures mode { bench.new.transaction.ctx.opaque ≡ bench.old.transaction.ctx.opaque }
 {

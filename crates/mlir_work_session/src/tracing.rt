@@ -13,7 +13,7 @@ ghost use Rattle.mlir_work_transforms.specs.rewriter.RewriterCalls.{AgreesOrStal
 ghost use Rattle.mlir_work_transforms.specs.rewriter.Commands.{Replied};
 ghost use Rattle.mlir_work_transforms.specs.rewriter.Machine.{Transformation};
 ghost use Rattle.mlir_work_transforms.specs.rewriter.Panels.{Shown};
-ghost use Rattle.mlir_work_session.specs.Machine.{RunsSessionCommand, IsContextFull, SessionSetting, limit_or, response_of, told_if, session_setting};
+ghost use Rattle.mlir_work_session.specs.Machine.{RunsSessionCommand, IsContextFull, SessionSetting, limit_or, response_of, bytes_if, session_setting};
 
 use crate::options::SessionOptions;
 use crate::reply::Reply;
@@ -39,7 +39,7 @@ pub(crate) fn trace_reply(
     called: Result<Ended, Refusal>,
 ) -> ShownReply
     ensures reply { response_of result.reply ≡ Replied (canonical_reply called) }
-    ensures shows { result.shows.items ≡ told_if (is_accepted (Replied (canonical_reply called))) lines.text.items }
+    ensures shows { result.shows.items ≡ bytes_if (is_accepted (Replied (canonical_reply called))) lines.text.items }
 {
     match called {
         Ok(ended) => ShownReply {

@@ -7,7 +7,7 @@ ghost use Rattle.ir_text.specs.Public.{IsFull};
 ghost use Rattle.mlir_work_script.specs.SessionCommands.{CanonAt, Why};
 ghost use Rattle.mlir_work_script_base.specs.RuleNames.{name_of};
 ghost use Rattle.mlir_work_transforms.specs.At.{canonicalizing_at};
-ghost use Rattle.mlir_work_transforms.specs.WhyText.{requested_rules, told_rules};
+ghost use Rattle.mlir_work_transforms.specs.WhyText.{requested_rules, rules_to_explain};
 ghost use Rattle.mlir_work_transforms.specs.rewriter.Commands.{RuleName as Name};
 ghost use Rattle.mlir_work_transforms.specs.rewriter.Held.{module_held};
 ghost use Rattle.mlir_work_transforms.specs.rewriter.RewriterCalls.{AgreesOrStale, state_of};
@@ -47,7 +47,7 @@ fn reasons_reply<L: Analysis>(
     op: OpId,
     rule: Option<Rule>,
 ) -> ShownReply
-    ensures { (setting : SessionSetting) (name : Option Name) → requested_rules name op (module_held bench.now.transaction) ≡ Some (told_rules rule op (module_held bench.now.transaction)) → RunsSessionCommand setting (state_of L.meaning bench.now) (Why op name) (response_of result.reply) result.shows.items (state_of L.meaning bench.now) }
+    ensures { (setting : SessionSetting) (name : Option Name) → requested_rules name op (module_held bench.now.transaction) ≡ Some (rules_to_explain rule op (module_held bench.now.transaction)) → RunsSessionCommand setting (state_of L.meaning bench.now) (Why op name) (response_of result.reply) result.shows.items (state_of L.meaning bench.now) }
 {
     let world = bench.world();
     if !is_in(world, op) {
@@ -64,7 +64,7 @@ fn reasons_reply<L: Analysis>(
 
 /// Returns the rule that the command names: `Some(None)` if it names none, and `None` if no rule has that name.
 fn rule_argument(name: Option<RuleName<'_>>) -> Option<Option<Rule>>
-    ensures { (x : ℕ) (m : Module) → option_map (λ rule. told_rules rule x m) result ≡ requested_rules (option_map name_of name.entry) x m }
+    ensures { (x : ℕ) (m : Module) → option_map (λ rule. rules_to_explain rule x m) result ≡ requested_rules (option_map name_of name.entry) x m }
 {
     let Some(name) = name else {
         return Some(None);

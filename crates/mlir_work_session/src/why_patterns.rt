@@ -1,11 +1,11 @@
 //! Runs session commands on a rewriter with a pattern registry. A `why` that names a registered pattern says why the
 //! pattern doesn't match.
 ghost use Rattle.std.specs.Prelude.{◌≡◌, option_map};
-ghost use Rattle.mlir_work_script.specs.SessionCommands.{order_of};
+ghost use Rattle.mlir_work_script.specs.SessionCommands.{session_command_of};
 ghost use Rattle.mlir_work_transforms.specs.rewriter.RewriterCalls.{AgreesOrStale, state_of};
 ghost use Rattle.mlir_work_transforms.specs.registry.Registry.{kept_view, registry_model};
 ghost use Rattle.mlir_work_session.specs.Machine.{response_of, session_setting};
-ghost use Rattle.mlir_work_session.specs.WhyPatterns.{RunsNamedCommand, TellsPattern, asked_pattern};
+ghost use Rattle.mlir_work_session.specs.WhyPatterns.{RunsNamedCommand, AnswersWhyPattern, asked_pattern};
 
 use crate::options::SessionOptions;
 use crate::reply::Reply;
@@ -28,7 +28,7 @@ fn asked_pattern<'a>(
     registry: &'a PatternRegistry,
     session_command: &SessionCommand<'_>,
 ) -> Option<(&'a RegisteredPattern, OpId)>
-    ensures { option_map (λ p. (kept_view p.0.now, p.1)) result ≡ asked_pattern (order_of session_command.now) (registry_model registry.now) }
+    ensures { option_map (λ p. (kept_view p.0.now, p.1)) result ≡ asked_pattern (session_command_of session_command.now) (registry_model registry.now) }
 {
     match session_command {
         SessionCommand::Why {
@@ -49,7 +49,7 @@ fn why_pattern<L: Analysis>(
     bench: &Bench<L>,
     found: (&RegisteredPattern, OpId),
 ) -> ShownReply
-    ensures { TellsPattern (kept_view found.entry.0.now) found.entry.1 (state_of L.meaning bench.now) (response_of result.reply) result.shows.items (state_of L.meaning bench.now) }
+    ensures { AnswersWhyPattern (kept_view found.entry.0.now) found.entry.1 (state_of L.meaning bench.now) (response_of result.reply) result.shows.items (state_of L.meaning bench.now) }
 {
     let world = bench.world();
     if !is_in(world, found.1) {
@@ -73,7 +73,7 @@ pub fn run_named_command<L: AnalysisSource>(
     session_command: &SessionCommand<'_>,
 ) -> ShownReply
     requires { AgreesOrStale L.meaning bench.old }
-    ensures fulfils { RunsNamedCommand (session_setting L.supply session_options.now) (registry_model registry.now) (asked_pattern (order_of session_command.now) (registry_model registry.now)) (state_of L.meaning bench.old) (order_of session_command.now) (response_of result.reply) result.shows.items (state_of L.meaning bench.new) }
+    ensures fulfils { RunsNamedCommand (session_setting L.supply session_options.now) (registry_model registry.now) (asked_pattern (session_command_of session_command.now) (registry_model registry.now)) (state_of L.meaning bench.old) (session_command_of session_command.now) (response_of result.reply) result.shows.items (state_of L.meaning bench.new) }
     ensures kept { AgreesOrStale L.meaning bench.new }
     ensures mode { bench.new.transaction.ctx.opaque ≡ bench.old.transaction.ctx.opaque }
 {

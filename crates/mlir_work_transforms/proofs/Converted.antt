@@ -17,17 +17,17 @@ use Rattle.conversion.specs.rewriter.Machine.{Change, Goes, IsFullSo, Nothing, R
 use Rattle.conversion.proofs.Replied.{converts_goes}
 use Rattle.conversion.specs.Benches.{seen}
 use Rattle.conversion.specs.Conversion.{Ended, converted, given_up, conversion_of}
-use Rattle.conversion.specs.Converting.{conversion_reply, conversion_to, converting, ended_as, ending, stay_to, applied_rules}
+use Rattle.conversion.specs.Converting.{conversion_reply, conversion_to, converting, ended_as, ending, match_failure_to, applied_rules}
 use Rattle.conversion.specs.MatchFailures.{unlegalised_op, reported_failure}
 use Rattle.conversion.specs.declared.match_failure.MatchFailure.{MatchFailure}
 use Rattle.conversion_base.specs.declared.applied_rule.AppliedRule.{AppliedRule}
-use Rattle.conversion.specs.States.{State, Converts, Faults, IsFull, IsWant, Wants}
+use Rattle.conversion.specs.States.{State, Converts, Faults, IsFull, IsOutOfCapacity, FaultIsOutOfCapacity}
 use Rattle.conversion.specs.Targets.{Aim}
 use Rattle.conversion.specs.declared.fault.Fault.{Fault}
 use Rattle.mlir_work_transforms.specs.Interned.{Interned}
 
 -- a lack of room is an allowed fault of every conversion
-pub wants : (e : Ended) (refusal : Refusal) (s : State) → IsWant s.things refusal → Faults e (record { refusal = refusal; id = None }) s.things
+pub wants : (e : Ended) (refusal : Refusal) (s : State) → IsOutOfCapacity s.things refusal → Faults e (record { refusal = refusal; id = None }) s.things
 wants (converted m ks) refusal s w = (refl, w)
 wants (given_up f x) refusal s w = inr (refl, w)
 
@@ -43,7 +43,7 @@ convert_full o s a b (Err f) c is = go (conversion_to o s.held) refl c.0
     no_want : Refused Memory ≡ Refused Full → ⊥
     no_want e = absurd cc
 
-    wanted : Wants b.things f → (conversion_reply (Err f) ≡ (due s (Change (ending (conversion_to o)))).reply) ⊎ IsFull b.things
+    wanted : FaultIsOutOfCapacity b.things f → (conversion_reply (Err f) ≡ (due s (Change (ending (conversion_to o)))).reply) ⊎ IsFull b.things
     wanted (none, inl m) = absurd (no_want (sym (λ i. fault_reply (m i) (none i)) ∙ is))
     wanted (none, inr (m, full)) = inr full
 
@@ -57,10 +57,10 @@ module _ {B : Type 0} (meaning : B → Listener) (o : Option Aim) (a m : Benched
   held_same = ap (λ (s : Machine). s.held) interned.same
 
   -- there was no room for the names
-  pub refused_converts : (refusal : Refusal) → IsWant m.transaction.ctx refusal → Converts (conversion_to o (module_held a.transaction)) (Err (record { refusal = refusal; id = None })) (seen a) (seen m)
+  pub refused_converts : (refusal : Refusal) → IsOutOfCapacity m.transaction.ctx refusal → Converts (conversion_to o (module_held a.transaction)) (Err (record { refusal = refusal; id = None })) (seen a) (seen m)
   refused_converts refusal w = (wants (conversion_to o (module_held a.transaction)) refusal (seen m) w, held_same)
 
-  pub refused_does : (refusal : Refusal) → Ages meaning → IsWant m.transaction.ctx refusal → Led meaning a m → Does meaning (Change (ending (conversion_to o))) (conversion_reply (Err (record { refusal = refusal; id = None }))) a m
+  pub refused_does : (refusal : Refusal) → Ages meaning → IsOutOfCapacity m.transaction.ctx refusal → Led meaning a m → Does meaning (Change (ending (conversion_to o))) (conversion_reply (Err (record { refusal = refusal; id = None }))) a m
   refused_does refusal ages w led = converts_goes meaning (conversion_to o) a m (ap (λ (s : Machine). s.marks) interned.same) ages (Err (record { refusal = refusal; id = None })) (refused_converts refusal w) led
 
   -- a number isn't a rule's
@@ -93,9 +93,9 @@ module _ {B : Type 0} (meaning : B → Listener) (o : Option Aim) (a m : Benched
     then_told P h =
         subst (λ (n : Module). OnOk r (P (applied_rules (conversion_to o n)))) held_same (subst (λ (q : Option Aim). OnOk r (P (applied_rules (conversion_to q (module_held m.transaction))))) same h)
 
-    pub then_stays : (P : Option MatchFailure → Type 0) → IfErr r (λ f. P (reported_failure f.id (unlegalised_op aim (module_held m.transaction)))) → IfErr r (λ f. P (reported_failure f.id (stay_to o (module_held a.transaction))))
+    pub then_stays : (P : Option MatchFailure → Type 0) → IfErr r (λ f. P (reported_failure f.id (unlegalised_op aim (module_held m.transaction)))) → IfErr r (λ f. P (reported_failure f.id (match_failure_to o (module_held a.transaction))))
     then_stays P h =
-        subst (λ (n : Module). IfErr r (λ f. P (reported_failure f.id (stay_to o n)))) held_same (subst (λ (q : Option Aim). IfErr r (λ f. P (reported_failure f.id (stay_to q (module_held m.transaction))))) same h)
+        subst (λ (n : Module). IfErr r (λ f. P (reported_failure f.id (match_failure_to o n)))) held_same (subst (λ (q : Option Aim). IfErr r (λ f. P (reported_failure f.id (match_failure_to q (module_held m.transaction))))) same h)
 
   -- the journal after the conversion
   pub then_journal : {A : Type 0} (r : Result A Fault) (b : Benched B) → MatchResult r (λ _. Noted m.transaction b.transaction) (λ _. Recorded [] m.transaction b.transaction) → MatchResult r (λ _. Noted a.transaction b.transaction) (λ _. Recorded [] a.transaction b.transaction)

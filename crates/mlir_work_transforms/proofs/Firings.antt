@@ -9,13 +9,13 @@ use Rattle.greedy.specs.declared.applied_rewrite.AppliedPattern.{AppliedPattern}
 use Rattle.greedy.specs.declared.applied_rewrite.AppliedRewrite.{AppliedRewrite}
 use Rattle.greedy.specs.declared.outcome.Outcome.{Outcome}
 use Rattle.greedy.specs.declared.outcome.Outcome.TheVariants.{Converged, Limit}
-use Rattle.mlir_work_transforms.specs.FiredText.{Firing, applied_by, fired_after, fired_below, fired_line, fired_of, fired_text, first_of}
+use Rattle.mlir_work_transforms.specs.FiredText.{FirstMatching, applied_by, fired_after, fired_below, fired_line, fired_of, fired_text, first_of}
 use Rattle.mlir_work_transforms.specs.FiredLaws.{FiredTaken, IsCurrent, IsFresh, ended_text, names_of}
 use Rattle.mlir_work_transforms.specs.declared.fired_lines.FiredLines.{FiredLines}
 
 -- ---- the loop over a list
 
-fired_text_joined : (names : List (List ℕ)) (fs gs : List Firing) → fired_text names (fs ++ gs) ≡ fired_text names fs ++ fired_text names gs
+fired_text_joined : (names : List (List ℕ)) (fs gs : List FirstMatching) → fired_text names (fs ++ gs) ≡ fired_text names fs ++ fired_text names gs
 fired_text_joined names [] gs = refl
 fired_text_joined names (f ∷ fs) gs =
     ap (λ (l : List ℕ). fired_line names f ++ l) (fired_text_joined names fs gs) ∙ sym (append_assoc (fired_line names f) (fired_text names fs) (fired_text names gs))
@@ -45,7 +45,7 @@ firings_step names bs i text next whole l is so_far =
     ∙ ap (λ (l : List ℕ). l ++ fired_text names rest) is
     ∙ append_assoc text (fired_text names first) (fired_text names rest)
     ∙ ap (λ (l : List ℕ). text ++ l) (sym (fired_text_joined names first rest))
-    ∙ ap (λ (fs : List Firing). text ++ fired_text names fs) (sym (fired_split [] bs i l))
+    ∙ ap (λ (fs : List FirstMatching). text ++ fired_text names fs) (sym (fired_split [] bs i l))
     ∙ so_far
 
 -- the end of the loop

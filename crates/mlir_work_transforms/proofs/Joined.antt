@@ -3,13 +3,13 @@ use Rattle.std.proofs.Common.{◌≡◌, refl, ap, sym, ◌∙◌, subst, Bool, 
 use Rattle.std.specs.Prelude.{is_some, option_and_then}
 use Rattle.std.proofs.lemmas.List.Elements.{All-nil, All-cons, All-head}
 use Rattle.std.proofs.lemmas.Option.{none-some, same_Some}
-use Rattle.mlir_work_transforms.specs.greedy.PatternSet.{AreAttempts, MayAttempt, OfRule}
+use Rattle.mlir_work_transforms.specs.greedy.PatternSet.{MayUseAll, MayUse, OfRule}
 use Rattle.mlir_work_transforms.proofs.Chosen.{named_are_tried}
 use Rattle.mlir_work_transforms.specs.Rule.{Rule}
 use Rattle.mlir_work_transforms.specs.Rewriting.{canonical_named}
 use Rattle.mlir_work_transforms.specs.rewriter.Commands.{RuleName}
 use Rattle.mlir_work_registry.specs.Registry.{RegistryModel, Kept}
-use Rattle.mlir_work_transforms.specs.RuleLists.{Listed, each_listed, attempts_in, listed_named, names_own, or_rule, pattern_named}
+use Rattle.mlir_work_transforms.specs.RuleLists.{Listed, each_listed, rules_and_patterns_in, listed_named, names_user_pattern, or_rule, pattern_named}
 
 module _ (registry : RegistryModel) where
   abbrev onto : List RuleName → Listed → Option (List Listed)
@@ -61,35 +61,35 @@ module _ (registry : RegistryModel) where
   is_none_of (Some ls) b e f = absurd (let z : true ≡ false = sym e ∙ f in cc)
 
   -- ---- lists with a pattern
-  pub owns_on : (name : RuleName) (left names : List RuleName) (all : Bool) → names ≡ name ∷ left → is_some (pattern_named name registry) ≡ false → all ≡ names_own registry names → all ≡ names_own registry left
-  owns_on name left names all e other h = h ∙ ap (λ (xs : List RuleName). names_own registry xs) e ∙ ap (λ b. b || names_own registry left) other
+  pub owns_on : (name : RuleName) (left names : List RuleName) (all : Bool) → names ≡ name ∷ left → is_some (pattern_named name registry) ≡ false → all ≡ names_user_pattern registry names → all ≡ names_user_pattern registry left
+  owns_on name left names all e other h = h ∙ ap (λ (xs : List RuleName). names_user_pattern registry xs) e ∙ ap (λ b. b || names_user_pattern registry left) other
 
-  pub owns_here : (name : RuleName) (left names : List RuleName) → names ≡ name ∷ left → is_some (pattern_named name registry) ≡ true → names_own registry names ≡ true
-  owns_here name left names e own = ap (λ (xs : List RuleName). names_own registry xs) e ∙ ap (λ b. b || names_own registry left) own
+  pub owns_here : (name : RuleName) (left names : List RuleName) → names ≡ name ∷ left → is_some (pattern_named name registry) ≡ true → names_user_pattern registry names ≡ true
+  owns_here name left names e own = ap (λ (xs : List RuleName). names_user_pattern registry xs) e ∙ ap (λ b. b || names_user_pattern registry left) own
 
   -- ---- resolved items may be applied
   -- a rule by its name is a list of that rule alone
-  rule_may : (name : RuleName) (r : Rule) → canonical_named name ≡ Some r → MayAttempt (OfRule r)
+  rule_may : (name : RuleName) (r : Rule) → canonical_named name ≡ Some r → MayUse (OfRule r)
   rule_may name r e =
-      All-head (λ q. MayAttempt (OfRule q)) r []
+      All-head (λ q. MayUse (OfRule q)) r []
       (named_are_tried (name ∷ []) (r ∷ []) (sym (ap (option_and_then (λ q. option_map (λ qs. q ∷ qs) (Some []))) e)))
 
-  one_may : (name : RuleName) (l : Listed) → listed_named registry name ≡ Some l → MayAttempt l.attempt
+  one_may : (name : RuleName) (l : Listed) → listed_named registry name ≡ Some l → MayUse l.rule_or_pattern
   one_may name l e = by_own (pattern_named name registry) e
     where
-      by_rule : (o : Option Rule) → canonical_named name ≡ o → option_map (λ r. record { attempt = OfRule r; name = [] }) o ≡ Some l → MayAttempt l.attempt
+      by_rule : (o : Option Rule) → canonical_named name ≡ o → option_map (λ r. record { rule_or_pattern = OfRule r; name = [] }) o ≡ Some l → MayUse l.rule_or_pattern
       by_rule None i e = absurd (none-some l e)
-      by_rule (Some r) i e = subst (λ (x : Listed). MayAttempt x.attempt) (same_Some _ _ e) (rule_may name r i)
+      by_rule (Some r) i e = subst (λ (x : Listed). MayUse x.rule_or_pattern) (same_Some _ _ e) (rule_may name r i)
 
-      by_own : (o : Option Kept) → or_rule o name ≡ Some l → MayAttempt l.attempt
+      by_own : (o : Option Kept) → or_rule o name ≡ Some l → MayUse l.rule_or_pattern
       by_own None e = by_rule (canonical_named name) refl e
-      by_own (Some k) e = subst (λ (x : Listed). MayAttempt x.attempt) (same_Some _ _ e) tt
+      by_own (Some k) e = subst (λ (x : Listed). MayUse x.rule_or_pattern) (same_Some _ _ e) tt
 
-  pub all_may : (names : List RuleName) (ls : List Listed) → each_listed registry names ≡ Some ls → AreAttempts (attempts_in ls)
-  all_may [] ls e = subst (λ (xs : List Listed). AreAttempts (attempts_in xs)) (same_Some _ _ e) (All-nil MayAttempt)
+  pub all_may : (names : List RuleName) (ls : List Listed) → each_listed registry names ≡ Some ls → MayUseAll (rules_and_patterns_in ls)
+  all_may [] ls e = subst (λ (xs : List Listed). MayUseAll (rules_and_patterns_in xs)) (same_Some _ _ e) (All-nil MayUse)
   all_may (name ∷ names) ls e = go (listed_named registry name) refl (each_listed registry names) refl (λ xs h. all_may names xs h) e
     where
-      go : (a : Option Listed) → listed_named registry name ≡ a → (o : Option (List Listed)) → each_listed registry names ≡ o → ((xs : List Listed) → each_listed registry names ≡ Some xs → AreAttempts (attempts_in xs)) → option_and_then (λ l. option_map (λ xs. l ∷ xs) o) a ≡ Some ls → AreAttempts (attempts_in ls)
+      go : (a : Option Listed) → listed_named registry name ≡ a → (o : Option (List Listed)) → each_listed registry names ≡ o → ((xs : List Listed) → each_listed registry names ≡ Some xs → MayUseAll (rules_and_patterns_in xs)) → option_and_then (λ l. option_map (λ xs. l ∷ xs) o) a ≡ Some ls → MayUseAll (rules_and_patterns_in ls)
       go None i o j rest e = absurd (none-some ls e)
       go (Some l) i None j rest e = absurd (none-some ls e)
-      go (Some l) i (Some xs) j rest e = subst (λ (ys : List Listed). AreAttempts (attempts_in ys)) (same_Some _ _ e) (All-cons MayAttempt l.attempt (attempts_in xs) (one_may name l i) (rest xs j))
+      go (Some l) i (Some xs) j rest e = subst (λ (ys : List Listed). MayUseAll (rules_and_patterns_in ys)) (same_Some _ _ e) (All-cons MayUse l.rule_or_pattern (rules_and_patterns_in xs) (one_may name l i) (rest xs j))

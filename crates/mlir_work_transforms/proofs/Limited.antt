@@ -1,5 +1,5 @@
 -- A run that stopped by its limit made as many rewrites as the limit allows, and its trace has an entry for each.
-use Rattle.std.proofs.Common.{◌≡◌, ◌∙◌, refl, ap, sym, subst, inl, inr, ℕ, zero, suc, ◌+◌, Bool, true, false, arith, Result, Ok}
+use Rattle.std.proofs.Common.{◌≡◌, ◌∙◌, ap, sym, subst, inl, inr, ℕ, zero, suc, ◌+◌, Bool, true, false, arith, Result, Ok}
 use Rattle.std.specs.Prelude.{◌&&◌, nat_le, length, if◌then◌else◌}
 use Rattle.ir_event.specs.types.declared.refusal.Refusal.{Refusal}
 use Rattle.ir_event.specs.types.declared.refusal.Refusal.TheVariants.{BadLimit, Full, Memory}
@@ -12,7 +12,7 @@ use Rattle.greedy.specs.Changes.{canonical_reply, canonicalizing, made_of, rewri
 use Rattle.greedy.specs.Rewriting.{IsOfItsRules, next_by, rewriting_of, rewritten_from}
 use Rattle.greedy.specs.PatternSet.{PatternSetModel, by_rules}
 use Rattle.greedy.specs.Tracing.{TraceIsCounted, trace_of}
-use Rattle.greedy.specs.Trials.{IsApplied}
+use Rattle.greedy.specs.Applications.{IsApplied}
 use Rattle.greedy.specs.declared.outcome.Outcome.{Outcome}
 use Rattle.greedy.specs.declared.outcome.Outcome.TheVariants.{Limit}
 

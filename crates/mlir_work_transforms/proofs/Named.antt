@@ -24,7 +24,7 @@ use Rattle.conversion.specs.rewriter.Held.{TransactionModel}
 use Rattle.conversion.specs.rewriter.Moves.{Grown, Recorded}
 use Rattle.conversion.specs.rewriter.Panels.{all_shown}
 use Rattle.conversion.specs.Benches.{led_more, led_none}
-use Rattle.conversion.specs.States.{IsWant}
+use Rattle.conversion.specs.States.{IsOutOfCapacity}
 use Rattle.mlir_work_transforms.specs.Interned.{AreNumbers, Interned}
 use Rattle.std.proofs.lemmas.Option.{slice_get_within}
 
@@ -69,10 +69,10 @@ named_so bytes c d n e = subst (λ (p : ℕ × ContextModel). AreNumbers p.1 (p.
 })
 
 -- there is no room or no memory for a name
-pub wants_full : (bytes : List ℕ) (c : ContextModel) (refusal : Refusal) (named : Result ℕ Refusal) → named ≡ Err refusal → refusal ≡ TooMany → IsRefusedFor (name_reason bytes c) named → IsWant c Full
+pub wants_full : (bytes : List ℕ) (c : ContextModel) (refusal : Refusal) (named : Result ℕ Refusal) → named ≡ Err refusal → refusal ≡ TooMany → IsRefusedFor (name_reason bytes c) named → IsOutOfCapacity c Full
 wants_full bytes c refusal named is many = go (not (list_any (bytes_eq bytes) c.names) && nat_le most_things (length c.names)) refl
   where
-    go : (b : Bool) → (not (list_any (bytes_eq bytes) c.names) && nat_le most_things (length c.names)) ≡ b → IsRefusedFor (if b then Some TooMany else None) named → IsWant c Full
+    go : (b : Bool) → (not (list_any (bytes_eq bytes) c.names) && nat_le most_things (length c.names)) ≡ b → IsRefusedFor (if b then Some TooMany else None) named → IsOutOfCapacity c Full
     go true e h = inr (refl, inl (leb-true most_things (length c.names) (both (not (list_any (bytes_eq bytes) c.names)) (nat_le most_things (length c.names)) e).1))
     go false e h = absurd (let memory : refusal ≡ Memory = subst (λ (r : Result ℕ Refusal). IfErr r (λ e. e ≡ Memory)) is h in let wrong : TooMany ≡ Memory = sym many ∙ memory in cc)
 

@@ -5,7 +5,7 @@ use Rattle.std.proofs.lemmas.List.{map-append}
 use Rattle.ir_event.specs.trees.Meaning.{Operation}
 use Rattle.mlir_work_registry.specs.Registry.{RegistryModel}
 use Rattle.mlir_work_transforms.specs.RuleLists.{pattern_named}
-use Rattle.mlir_work_transforms.specs.Unproved.{Noted, and_once, and_own, is_noted, noted_after, proves, unproved_line, unproved_text}
+use Rattle.mlir_work_transforms.specs.Unproved.{Noted, and_once, and_user_pattern, is_noted, noted_after, proves, unproved_line, unproved_text}
 use Rattle.mlir_work_transforms.specs.Views.{noted_view, noted_views}
 use Rattle.mlir_work_transforms.specs.declared.unproved.Noted.{Noted as Coded}
 use Rattle.mlir_work_transforms.specs.rewriter.Commands.{RuleName}
@@ -28,7 +28,7 @@ added_once ns more n one there is e same added =
 -- ---- the items of a list
 
 module _ (registry : RegistryModel) where
-  pub item_noted : (all : List Noted) (name : RuleName) (left names : List RuleName) (before trailing : List Noted) → names ≡ name ∷ left → trailing ≡ and_own before (pattern_named name registry)
+  pub item_noted : (all : List Noted) (name : RuleName) (left names : List RuleName) (before trailing : List Noted) → names ≡ name ∷ left → trailing ≡ and_user_pattern before (pattern_named name registry)
       → noted_after registry before names ≡ all → noted_after registry trailing left ≡ all
   item_noted all name left names before trailing e added h =
       ap (λ ns. noted_after registry ns left) added ∙ sym (ap (λ (xs : List RuleName). noted_after registry before xs) e) ∙ h

@@ -1,9 +1,8 @@
 -- One level of a path.
-use Rattle.std.proofs.Common.{◌≡◌, ◌≢◌, ◌∙◌, ℕ, zero, suc, ◌-◌, ◌<◌, ap, sym, [], ◌++◌, List, Option, Some, None, true, false, arith}
+use Rattle.std.proofs.Common.{◌≡◌, ◌≢◌, ◌∙◌, ℕ, zero, suc, ◌-◌, ◌<◌, ap, sym, [], ◌++◌, List, Option, Some, None, arith}
 use Rattle.std.proofs.lemmas.Bool.{eq-eqb, ne_eqb}
 use Rattle.std.proofs.lemmas.List.{append-nil}
 use Rattle.std.specs.Prelude.{◌==◌, if◌then◌else◌, slice_get}
-use Rattle.ir_event.specs.trees.declared.value.Value.{Value}
 use Rattle.ir_event.specs.trees.declared.value.Value.TheVariants.{Result}
 use Rattle.ir_event.specs.trees.Meaning.{Operation}
 use Rattle.user_patterns_data.specs.Planning.{old_place}

@@ -15,14 +15,14 @@ use Rattle.conversion.proofs.Replied.{converts_goes}
 use Rattle.conversion.proofs.Stops.{fault_is_for}
 use Rattle.conversion.specs.Benches.{seen}
 use Rattle.conversion.specs.Conversion.{Ended, converted, given_up}
-use Rattle.conversion.specs.Converting.{conversion_reply, conversion_to, ended_as, ending, stay_to, applied_rules}
+use Rattle.conversion.specs.Converting.{conversion_reply, conversion_to, ended_as, ending, match_failure_to, applied_rules}
 use Rattle.conversion.specs.States.{State, Converts}
 use Rattle.conversion.specs.MatchFailures.{reported_failure}
 use Rattle.conversion.specs.Targets.{Aim}
 use Rattle.conversion.specs.declared.fault.Fault.{Fault}
 use Rattle.conversion.specs.declared.match_failure.MatchFailure.{MatchFailure}
 use Rattle.conversion_base.specs.declared.applied_rule.AppliedRule.{AppliedRule}
-use Rattle.mlir_work_transforms.specs.ConvertText.{ToldFault, conversion_text, applied_as, stay_below, stay_line, stay_or, located_text, told_below}
+use Rattle.mlir_work_transforms.specs.ConvertText.{FaultWithLine, conversion_text, applied_as, match_failure_below, match_failure_line, latest_match_failure, located_text, lines_below}
 use Rattle.mlir_work_transforms.specs.TraceText.{applied_line}
 use Rattle.mlir_work_transforms.proofs.Converted.{wants}
 use Rattle.ir_event.proofs.of_types.Truths.{rest_at}
@@ -34,12 +34,12 @@ pub record Notified (o : Option Aim) (held : Module) (r : Result ℕ Fault) (beg
   pub nothing : begun ≡ []
   pub unset : before ≡ None
   pub told : OnOk r (text ≡ begun ++ located_text (applied_rules (conversion_to o held)))
-  pub stays : IfErr r (λ f. failure ≡ stay_or (reported_failure f.id (stay_to o held)) before)
+  pub stays : IfErr r (λ f. failure ≡ latest_match_failure (reported_failure f.id (match_failure_to o held)) before)
 
 -- the lines that show the conversion
 pub record Shown (r q : Result ℕ Fault) (text lines : List ℕ) (failure : Option MatchFailure) : Type 0 where
   pub ok : OnOk r ((q ≡ r) × (lines ≡ text))
-  pub fault : IfErr r (λ f. ToldFault f failure q lines)
+  pub fault : IfErr r (λ f. FaultWithLine f failure q lines)
 
 abbrev no_headroom : Fault
 no_headroom = record { refusal = Memory; id = None }
@@ -51,7 +51,7 @@ same_or : (r q : Result ℕ Fault) (text lines : List ℕ) (failure : Option Mat
 same_or (Ok n) q text lines failure s = inl s.ok.0
 same_or (Err f) q text lines failure s = go s.fault
   where
-    go : ToldFault f failure q lines → Same (Err f) q
+    go : FaultWithLine f failure q lines → Same (Err f) q
     go (inl (e, l)) = inl e
     go (inr (e, l)) = inr (f, refl, e)
 
@@ -103,10 +103,10 @@ module _ {B : Type 0} (meaning : B → Listener) (o : Option Aim) (a b : Benched
 -- ---- the lines
 
 below : (e : Refusal) (ks : List AppliedRule) (i : Option ℕ) (z : Option (ℕ × MatchFailure)) → ((x : ℕ) (s : ℕ × MatchFailure) → i ≡ Some x → z ≡ Some s → s.0 ≡ x)
-    → stay_below i (stay_or (reported_failure i z) None) ≡ told_below (fault_reply e i) ks z
+    → match_failure_below i (latest_match_failure (reported_failure i z) None) ≡ lines_below (fault_reply e i) ks z
 below e ks None z h = refl
 below e ks (Some x) None h = refl
-below e ks (Some x) (Some s) h = ap (λ n. stay_line n s.1) (sym (h x s refl refl))
+below e ks (Some x) (Some s) h = ap (λ n. match_failure_line n s.1) (sym (h x s refl refl))
 
 pub traced_lines : (o : Option Aim) (a b : State) (r q : Result ℕ Fault) (begun text lines : List ℕ) (before failure : Option MatchFailure) → Converts (conversion_to o a.held) r a b → Notified o a.held r begun text before failure → Shown r q text lines failure
     → lines ≡ conversion_text o a.held (conversion_reply q)
@@ -114,9 +114,9 @@ traced_lines o a b (Ok n) q begun text lines before failure c h s =
     s.ok.1 ∙ h.told ∙ ap (λ (t : List ℕ). t ++ located_text (applied_rules (conversion_to o a.held))) h.nothing ∙ sym (ap (λ x. conversion_text o a.held (conversion_reply x)) s.ok.0)
 traced_lines o a b (Err f) q begun text lines before failure c h s = go s.fault
   where
-    go : ToldFault f failure q lines → lines ≡ conversion_text o a.held (conversion_reply q)
+    go : FaultWithLine f failure q lines → lines ≡ conversion_text o a.held (conversion_reply q)
     go (inl (e, l)) =
-        l ∙ ap (stay_below f.id) (h.stays ∙ ap (stay_or (reported_failure f.id (stay_to o a.held))) h.unset) ∙ below f.refusal (applied_rules (conversion_to o a.held)) f.id (stay_to o a.held) (λ x z i k. fault_is_for o a.held f b.things x z c.0 i k)
+        l ∙ ap (match_failure_below f.id) (h.stays ∙ ap (latest_match_failure (reported_failure f.id (match_failure_to o a.held))) h.unset) ∙ below f.refusal (applied_rules (conversion_to o a.held)) f.id (match_failure_to o a.held) (λ x z i k. fault_is_for o a.held f b.things x z c.0 i k)
         ∙ sym (ap (λ x. conversion_text o a.held (conversion_reply x)) e)
     go (inr (e, l)) = l ∙ sym (ap (λ x. conversion_text o a.held (conversion_reply x)) e)
 

@@ -10,7 +10,7 @@ use Rattle.conversion.specs.patterns.Rewrites.{Rewrite, none, refused, becomes, 
 use Rattle.conversion.specs.patterns.RuleNames.{by_number, by_word}
 use Rattle.conversion.specs.patterns.Rule.{Rule}
 use Rattle.user_patterns_data.specs.Shapes.{PatternModel}
-use Rattle.greedy.specs.own.Own.{own_rewrite}
+use Rattle.greedy.specs.own.Own.{user_pattern_rewrite}
 
 -- how often a rule was applied
 abbrev pub applied_times : Bool → ℕ
@@ -35,8 +35,8 @@ rewriting_at w x = record { transformed = applied_at w x; interns = true }
 abbrev pub applying : Rule → ℕ → Transformation
 applying r x = rewriting_at (λ m. rewrite_of r m x) x
 
-abbrev pub applying_own : PatternModel → ℕ → Transformation
-applying_own p x = rewriting_at (λ m. own_rewrite p m x) x
+abbrev pub applying_user_pattern : PatternModel → ℕ → Transformation
+applying_user_pattern p x = rewriting_at (λ m. user_pattern_rewrite p m x) x
 
 -- the rule with this name
 abbrev pub rule_named : RuleName → Option Rule

@@ -8,11 +8,11 @@ use Rattle.conversion.specs.rewriter.Machine.{DoneWith, Limited, Outcome, Reply}
 use Rattle.conversion.specs.patterns.RuleNames.{number_of}
 use Rattle.conversion.specs.patterns.Rule.{Rule}
 use Rattle.greedy.specs.Tracing.{trace_of}
-use Rattle.greedy.specs.PatternSet.{by_attempts, by_rules}
+use Rattle.greedy.specs.PatternSet.{pattern_set_from, by_rules}
 use Rattle.greedy.specs.declared.applied_rewrite.AppliedPattern.{AppliedPattern}
 use Rattle.greedy.specs.declared.applied_rewrite.AppliedPattern.TheVariants as by
 use Rattle.greedy.specs.declared.applied_rewrite.AppliedRewrite.{AppliedRewrite}
-use Rattle.mlir_work_transforms.specs.RuleLists.{Listed, attempts_in, names_in}
+use Rattle.mlir_work_transforms.specs.RuleLists.{Listed, rules_and_patterns_in, names_in}
 use Rattle.mlir_work_transforms.specs.TraceText.{by_text}
 
 -- ---- counts
@@ -33,17 +33,17 @@ times_in b [] = 0
 times_in b (c ∷ cs) = if is_same b c then suc (times_in b cs) else times_in b cs
 
 -- a rule or pattern that fired, and how many times
-pub record Firing : Type 0 where
+pub record FirstMatching : Type 0 where
   pub applied : AppliedPattern
   pub times : ℕ
 
 -- the count of the first entry of `rest`, unless it was counted at an entry before
-abbrev pub first_of : List AppliedPattern → List AppliedPattern → List Firing
+abbrev pub first_of : List AppliedPattern → List AppliedPattern → List FirstMatching
 first_of before [] = []
 first_of before (b ∷ rest) = if is_in b before then [] else record { applied = b; times = times_in b (b ∷ rest) } ∷ []
 
 -- the counts of the entries of a list after the entries `before`, in the order of the first entry of each
-abbrev pub fired_after : List AppliedPattern → List AppliedPattern → List Firing
+abbrev pub fired_after : List AppliedPattern → List AppliedPattern → List FirstMatching
 fired_after before [] = []
 fired_after before (b ∷ rest) = first_of before (b ∷ rest) ++ fired_after (before ++ b ∷ []) rest
 
@@ -52,7 +52,7 @@ abbrev pub last_hundred : List AppliedPattern → List AppliedPattern
 last_hundred bs = drop (length bs - 100) bs
 
 -- the rules and patterns among the last hundred entries
-abbrev pub fired_of : List AppliedPattern → List Firing
+abbrev pub fired_of : List AppliedPattern → List FirstMatching
 fired_of bs = fired_after [] (last_hundred bs)
 
 -- the rule or pattern of each rewrite
@@ -62,10 +62,10 @@ applied_by fs = map (λ f. f.by) fs
 -- ---- lines
 
 -- `fired 4 drop-zero 37`, `fired mine 63`
-abbrev pub fired_line : List (List ℕ) → Firing → List ℕ
+abbrev pub fired_line : List (List ℕ) → FirstMatching → List ℕ
 fired_line names f = codes "fired " ++ (by_text names f.applied ++ (codes " " ++ (decimal f.times ++ codes "\n")))
 
-abbrev pub fired_text : List (List ℕ) → List Firing → List ℕ
+abbrev pub fired_text : List (List ℕ) → List FirstMatching → List ℕ
 fired_text names [] = []
 fired_text names (f ∷ fs) = fired_line names f ++ fired_text names fs
 
@@ -101,4 +101,4 @@ fired_by (Some rs) limit m response = fired_below response [] (trace_of (by_rule
 abbrev pub rule_list_fired : Option (List Listed) → ℕ → Module → Response → List ℕ
 rule_list_fired None limit m response = []
 rule_list_fired (Some ls) limit m response =
-    fired_below response (names_in ls) (trace_of (by_attempts (attempts_in ls)) limit m)
+    fired_below response (names_in ls) (trace_of (pattern_set_from (rules_and_patterns_in ls)) limit m)

@@ -4,7 +4,7 @@ use Rattle.std.specs.List.{list_any}
 use Rattle.ir_event.specs.Modules.{Module}
 use Rattle.mlir_work_transforms.specs.greedy.Changes.{rewriting}
 use Rattle.mlir_work_transforms.specs.greedy.Tracing.{trace_of}
-use Rattle.mlir_work_transforms.specs.greedy.PatternSet.{RuleOrPatternModel, OfOwn, OfRule, by_attempts}
+use Rattle.mlir_work_transforms.specs.greedy.PatternSet.{RuleOrPatternModel, OfUserPattern, OfRule, pattern_set_from}
 use Rattle.mlir_work_transforms.specs.rewriter.Commands.{Numbered, RuleName, Worded}
 use Rattle.mlir_work_transforms.specs.rewriter.Machine.{Transformation}
 use Rattle.mlir_work_transforms.specs.Rewriting.{canonical_named}
@@ -19,13 +19,13 @@ pattern_named (Worded word) registry = found word registry
 
 -- a rule, or a pattern with its name
 pub record Listed : Type 0 where
-  pub attempt : RuleOrPatternModel
+  pub rule_or_pattern : RuleOrPatternModel
   pub name : List ℕ
 
 -- a name resolves to a registered pattern, or else to a canonicalization rule
 abbrev pub or_rule : Option Kept → RuleName → Option Listed
-or_rule None name = option_map (λ r. record { attempt = OfRule r; name = [] }) (canonical_named name)
-or_rule (Some k) name = Some (record { attempt = OfOwn k.shape; name = k.name })
+or_rule None name = option_map (λ r. record { rule_or_pattern = OfRule r; name = [] }) (canonical_named name)
+or_rule (Some k) name = Some (record { rule_or_pattern = OfUserPattern k.shape; name = k.name })
 
 abbrev pub listed_named : RegistryModel → RuleName → Option Listed
 listed_named registry name = or_rule (pattern_named name registry) name
@@ -45,21 +45,21 @@ abbrev pub all_listed : RegistryModel → List RuleName → Option (List Listed)
 all_listed registry names = each_listed registry (opened (has_canon registry) names)
 
 -- whether a name is that of a registered pattern
-abbrev pub names_own : RegistryModel → List RuleName → Bool
-names_own registry names = list_any (λ name. is_some (pattern_named name registry)) names
+abbrev pub names_user_pattern : RegistryModel → List RuleName → Bool
+names_user_pattern registry names = list_any (λ name. is_some (pattern_named name registry)) names
 
 -- the rules and patterns, and their names for a trace
-abbrev pub attempts_in : List Listed → List RuleOrPatternModel
-attempts_in ls = map Listed.attempt ls
+abbrev pub rules_and_patterns_in : List Listed → List RuleOrPatternModel
+rules_and_patterns_in ls = map Listed.rule_or_pattern ls
 
 abbrev pub names_in : List Listed → List (List ℕ)
 names_in ls = map Listed.name ls
 
 -- the transformation of a list with at most so many rewrites
-abbrev pub mixing : RegistryModel → List RuleName → ℕ → Option Transformation
-mixing registry names limit = option_map (λ ls. rewriting (by_attempts (attempts_in ls)) limit) (all_listed registry names)
+abbrev pub rule_list_transformation : RegistryModel → List RuleName → ℕ → Option Transformation
+rule_list_transformation registry names limit = option_map (λ ls. rewriting (pattern_set_from (rules_and_patterns_in ls)) limit) (all_listed registry names)
 
 -- the trace of a list
 abbrev pub rule_list_trace : Option (List Listed) → ℕ → Module → List ℕ
 rule_list_trace None limit m = []
-rule_list_trace (Some ls) limit m = trace_text (names_in ls) (trace_of (by_attempts (attempts_in ls)) limit m)
+rule_list_trace (Some ls) limit m = trace_text (names_in ls) (trace_of (pattern_set_from (rules_and_patterns_in ls)) limit m)

@@ -60,14 +60,14 @@ is_noted name n = bytes_eq n.name name
 abbrev pub and_once : List Noted → Noted → List Noted
 and_once ns n = if list_any (is_noted n.name) ns then ns else ns ++ n ∷ []
 
-abbrev pub and_own : List Noted → Option Kept → List Noted
-and_own ns None = ns
-and_own ns (Some k) = and_once ns (noted_of k)
+abbrev pub and_user_pattern : List Noted → Option Kept → List Noted
+and_user_pattern ns None = ns
+and_user_pattern ns (Some k) = and_once ns (noted_of k)
 
 -- the registered patterns that these names name, in order and each once, appended to those before
 abbrev pub noted_after : RegistryModel → List Noted → List RuleName → List Noted
 noted_after registry ns [] = ns
-noted_after registry ns (name ∷ names) = noted_after registry (and_own ns (pattern_named name registry)) names
+noted_after registry ns (name ∷ names) = noted_after registry (and_user_pattern ns (pattern_named name registry)) names
 
 -- ---- the lines
 

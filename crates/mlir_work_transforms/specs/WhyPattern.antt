@@ -22,7 +22,7 @@ use Rattle.user_patterns_data.specs.declared.pattern.ConstantExpression.TheVaria
 use Rattle.user_patterns_data.specs.declared.pattern.PatternOp.{PatternOp}
 use Rattle.user_patterns_data.specs.declared.pattern.PatternType.{PatternType}
 use Rattle.user_patterns_data.specs.declared.pattern.PatternType.TheVariants as kinds
-use Rattle.greedy.specs.own.Mismatches.{own_mismatch}
+use Rattle.greedy.specs.own.Mismatches.{user_pattern_mismatch}
 use Rattle.greedy.specs.own.Numbers.{found_number, kind_at, numbers_in, predicate_at}
 use Rattle.greedy.specs.own.declared.mismatch.Mismatch.{Mismatch}
 use Rattle.greedy.specs.own.declared.mismatch.Mismatch.TheVariants as fails
@@ -328,4 +328,4 @@ subject_text x name = codes "why " ++ (op_text x ++ (codes " " ++ name))
 
 -- `why #5 mine operand 1 expected arith.constant found arith.addi #3`
 unfoldable pub why_pattern : Kept → Module → ℕ → List ℕ
-why_pattern k m x = subject_text x k.name ++ (codes " " ++ (mismatch_text k.shape m x (own_mismatch k.shape m x) ++ codes "\n"))
+why_pattern k m x = subject_text x k.name ++ (codes " " ++ (mismatch_text k.shape m x (user_pattern_mismatch k.shape m x) ++ codes "\n"))

@@ -12,14 +12,14 @@ use Rattle.mlir_work_transforms.specs.Applying.{rule_named}
 use Rattle.mlir_work_transforms.specs.TraceText.{rule_text}
 
 -- the given rule, or else the rules in the table for the name of operation `x`
-abbrev pub told_rules : Option Rule → ℕ → Module → List Rule
-told_rules None x m = rules_for_op (find x m.tree)
-told_rules (Some r) x m = r ∷ []
+abbrev pub rules_to_explain : Option Rule → ℕ → Module → List Rule
+rules_to_explain None x m = rules_for_op (find x m.tree)
+rules_to_explain (Some r) x m = r ∷ []
 
 -- the rules of a command; none if the given name isn't a rule's
 abbrev pub requested_rules : Option RuleName → ℕ → Module → Option (List Rule)
-requested_rules None x m = Some (told_rules None x m)
-requested_rules (Some name) x m = option_map (λ r. told_rules (Some r) x m) (rule_named name)
+requested_rules None x m = Some (rules_to_explain None x m)
+requested_rules (Some name) x m = option_map (λ r. rules_to_explain (Some r) x m) (rule_named name)
 
 -- the verdict on a rule
 abbrev pub verdict : Option Reason → List ℕ

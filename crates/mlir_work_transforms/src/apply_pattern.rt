@@ -4,7 +4,7 @@ ghost use Rattle.conversion.specs.rewriter.Machine.{Change, IsFullSo};
 ghost use Rattle.conversion.specs.rewriter.RewriterCalls.{Does, JournalAfter, Led, state_of};
 ghost use Rattle.conversion.specs.patterns.runs.Interning.{IsFull};
 ghost use Rattle.user_patterns_data.specs.Shapes.{pattern_model};
-ghost use Rattle.mlir_work_transforms.specs.Applying.{applied_reply, applying_own};
+ghost use Rattle.mlir_work_transforms.specs.Applying.{applied_reply, applying_user_pattern};
 
 use conversion::rewriter::Bench;
 use conversion::rewriter::laws::led_benches_are_kept;
@@ -24,8 +24,8 @@ pub fn apply_pattern<L: Analysis>(
     pattern: &Pattern,
     op: OpId,
 ) -> Result<bool, Refusal>
-    ensures does { Does L.meaning (Change (applying_own (pattern_model pattern.now) op)) (applied_reply result) bench.old bench.new }
-    ensures headroom { IsFullSo (IsFull bench.new.transaction.ctx) (state_of L.meaning bench.old) (applying_own (pattern_model pattern.now) op)
+    ensures does { Does L.meaning (Change (applying_user_pattern (pattern_model pattern.now) op)) (applied_reply result) bench.old bench.new }
+    ensures headroom { IsFullSo (IsFull bench.new.transaction.ctx) (state_of L.meaning bench.old) (applying_user_pattern (pattern_model pattern.now) op)
         (applied_reply result) }
     ensures led { Led L.meaning bench.old bench.new }
     ensures grows { IsExtendedBy bench.old.transaction.ctx bench.new.transaction.ctx }

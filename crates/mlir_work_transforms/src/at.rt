@@ -10,7 +10,7 @@ ghost use Rattle.conversion.specs.rewriter.RewriterCalls.{Does, Led, state_of};
 ghost use Rattle.conversion.specs.rewriter.Machine.{Change, IsFullSo};
 ghost use Rattle.conversion.specs.rewriter.Moves.{Recorded};
 ghost use Rattle.greedy.specs.Changes.{canonical_reply};
-ghost use Rattle.greedy.specs.Outcomes.{Applied, Refuses, Tells};
+ghost use Rattle.greedy.specs.Outcomes.{Applied, Refuses, MarksRewrite};
 ghost use Rattle.mlir_work_transforms.specs.At.{canonicalizing_at};
 ghost use Rattle.mlir_work_transforms.specs.AtRuns.{ComeToAt, IsCanonicalAt, IsReasonAt, StopAt};
 
@@ -55,7 +55,7 @@ fn applies_or_memory(refusal: Refusal) -> Result<bool, Refusal>
 
 /// Returns whether a rule matches at an operation, by a trial rewrite that is undone.
 fn applies<R: GreedyRewriter>(alloc: Global, bench: &mut R, op: OpId) -> Result<bool, Refusal>
-    ensures ok { IfOk result (λ any. Tells (highest_priority (R.held bench.old) op) any) }
+    ensures ok { IfOk result (λ any. MarksRewrite (highest_priority (R.held bench.old) op) any) }
     ensures held { R.held bench.new ≡ R.held bench.old }
     ensures marks { R.marks bench.new ≡ R.marks bench.old }
     ensures left { Recorded [] (R.transaction bench.old) (R.transaction bench.new) }

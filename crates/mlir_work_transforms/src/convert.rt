@@ -10,10 +10,10 @@ ghost use Rattle.mlir_work_script_base.specs.Clauses.{clauses_of, target_of as s
 ghost use Rattle.conversion.specs.Conversion.{has_no_cast};
 ghost use Rattle.conversion.specs.Benches.{seen};
 ghost use Rattle.conversion.specs.Converting.{command_aim, conversion, conversion_reply, conversion_to};
-ghost use Rattle.conversion.specs.Converting.{stay_to, applied_rules};
+ghost use Rattle.conversion.specs.Converting.{match_failure_to, applied_rules};
 ghost use Rattle.conversion.specs.MatchFailures.{reported_failure};
 ghost use Rattle.conversion.specs.States.{Converts};
-ghost use Rattle.mlir_work_transforms.specs.ConvertText.{ToldFault, conversion_text, stay_below};
+ghost use Rattle.mlir_work_transforms.specs.ConvertText.{FaultWithLine, conversion_text, match_failure_below};
 
 use crate::convert_lines::{ConvertLines, line_of};
 use crate::target::target_of;
@@ -34,7 +34,7 @@ use std::alloc::{AllocError, Global};
 ///
 /// Errors: those of `conversion::convert::convert_traced`; before them `Full` or `Memory` if there is no room for a
 /// listed name.
-fn convert_told<L: Analysis, T: Tracer>(
+fn convert_and_trace<L: Analysis, T: Tracer>(
     alloc: Global,
     bench: &mut Bench<L>,
     full: bool,
@@ -50,7 +50,7 @@ fn convert_told<L: Analysis, T: Tracer>(
         (applied_rules (conversion_to (command_aim (said_target full (clauses_of clauses.now)))
         (module_held bench.old.transaction))) tracer.old tracer.new) }
     ensures stays { IfErr result (λ f. T.stayed
-        (reported_failure f.id (stay_to (command_aim (said_target full (clauses_of clauses.now)))
+        (reported_failure f.id (match_failure_to (command_aim (said_target full (clauses_of clauses.now)))
         (module_held bench.old.transaction))) tracer.old tracer.new) }
     ensures none { OnOk result (has_no_cast (module_held bench.new.transaction).tree ≡ true) }
     ensures grows { IsExtendedBy bench.old.transaction.ctx bench.new.transaction.ctx }
@@ -97,7 +97,7 @@ pub fn convert<L: Analysis>(
     ensures journal { MatchResult result (λ _. Noted bench.old.transaction bench.new.transaction)
         (λ _. Recorded [] bench.old.transaction bench.new.transaction) }
 {
-    convert_told(alloc, bench, full, clauses, &mut NoTracer)
+    convert_and_trace(alloc, bench, full, clauses, &mut NoTracer)
 }
 
 /// The result of a traced conversion, with the lines to show below the reply.
@@ -116,7 +116,7 @@ fn line_below(
     id: Option<OpId>,
     failure: Option<MatchFailure>,
 ) -> Result<Vec<u8>, AllocError>
-    ensures { IfOk result (λ line. line.items ≡ stay_below id failure) }
+    ensures { IfOk result (λ line. line.items ≡ match_failure_below id failure) }
 {
     let Some(op) = id else {
         return Ok(Vec::new(alloc));
@@ -130,7 +130,7 @@ fn line_below(
 /// Returns the result of a refused conversion, with the reason why an operation stays illegal. If memory runs out for
 /// the line, the fault becomes `Memory`.
 fn traced_fault(alloc: Global, fault: Fault, failure: Option<MatchFailure>) -> TracedConversion
-    ensures { ToldFault fault failure result.called result.lines.items }
+    ensures { FaultWithLine fault failure result.called result.lines.items }
 {
     let Ok(line) = line_below(alloc, fault.id, failure) else {
         return TracedConversion {
@@ -156,7 +156,7 @@ fn traced_conversion(
     called: Result<u32, Fault>,
 ) -> TracedConversion
     ensures ok { OnOk called ((result.called ≡ called) × (result.lines.items ≡ text.items)) }
-    ensures fault { IfErr called (λ f. ToldFault f failure result.called result.lines.items) }
+    ensures fault { IfErr called (λ f. FaultWithLine f failure result.called result.lines.items) }
 {
     match called {
         Ok(count) => TracedConversion {
@@ -192,7 +192,7 @@ pub fn convert_traced<L: Analysis>(
 {
     led_benches_are_kept::<L>();
     let mut lines = ConvertLines::new(alloc);
-    let called = convert_told(alloc, bench, full, clauses, &mut lines);
+    let called = convert_and_trace(alloc, bench, full, clauses, &mut lines);
     let ConvertLines { text, failure } = lines;
     traced_conversion(alloc, text, failure, called)
 }

@@ -1,7 +1,7 @@
 //! The lines that trace a conversion.
 ghost use Rattle.std.specs.Prelude.{◌≡◌, ◌++◌, [], None, IfOk, OnOk};
 ghost use Rattle.conversion.specs.declared.match_failure.MatchFailure.TheVariants.{ConditionFails, MakesIllegal};
-ghost use Rattle.mlir_work_transforms.specs.ConvertText.{applied_as, stay_line, stay_text, located_text};
+ghost use Rattle.mlir_work_transforms.specs.ConvertText.{applied_as, match_failure_line, match_failure_text, located_text};
 
 use crate::trace_lines::{write_applied_rewrite, write_op, write_rule};
 use conversion::applied_rule::AppliedRule;
@@ -48,7 +48,7 @@ fn write_applied_rules(text: &mut Vec<u8>, applied: &[AppliedRule]) -> Result<()
 
 /// Appends a rule and its first condition that doesn't hold.
 fn write_failing(text: &mut Vec<u8>, rule: Rule, condition: Reason) -> Result<(), AllocError>
-    ensures { OnOk result (text.new.items ≡ text.old.items ++ stay_text (ConditionFails rule condition)) }
+    ensures { OnOk result (text.new.items ≡ text.old.items ++ match_failure_text (ConditionFails rule condition)) }
 {
     write_rule(text, rule)?;
     text.extend_from_slice(b" ")?;
@@ -57,7 +57,7 @@ fn write_failing(text: &mut Vec<u8>, rule: Rule, condition: Reason) -> Result<()
 
 /// Appends a rule whose new operations can't be legalized.
 fn write_illegal(text: &mut Vec<u8>, rule: Rule) -> Result<(), AllocError>
-    ensures { OnOk result (text.new.items ≡ text.old.items ++ stay_text (MakesIllegal rule)) }
+    ensures { OnOk result (text.new.items ≡ text.old.items ++ match_failure_text (MakesIllegal rule)) }
 {
     write_rule(text, rule)?;
     text.extend_from_slice(b" makes-illegal")
@@ -65,7 +65,7 @@ fn write_illegal(text: &mut Vec<u8>, rule: Rule) -> Result<(), AllocError>
 
 /// Appends the reason why an operation stays illegal.
 fn write_match_failure(text: &mut Vec<u8>, failure: MatchFailure) -> Result<(), AllocError>
-    ensures { OnOk result (text.new.items ≡ text.old.items ++ stay_text failure) }
+    ensures { OnOk result (text.new.items ≡ text.old.items ++ match_failure_text failure) }
 {
     match failure {
         MatchFailure::NoRule => text.extend_from_slice(b"no-rule"),
@@ -76,7 +76,7 @@ fn write_match_failure(text: &mut Vec<u8>, failure: MatchFailure) -> Result<(), 
 
 /// Returns the line that says why an operation stays illegal.
 pub(crate) fn line_of(alloc: Global, op: OpId, failure: MatchFailure) -> Result<Vec<u8>, AllocError>
-    ensures { IfOk result (λ text. text.items ≡ stay_line op failure) }
+    ensures { IfOk result (λ text. text.items ≡ match_failure_line op failure) }
 {
     let mut text = Vec::new(alloc);
     text.extend_from_slice(b"stays ")?;
@@ -102,11 +102,11 @@ impl ConvertLines {
 
 impl Tracer for ConvertLines {
     ghost use Rattle.std.specs.Prelude.{◌≡◌, ◌++◌};
-    ghost use Rattle.mlir_work_transforms.specs.ConvertText.{stay_or, located_text};
+    ghost use Rattle.mlir_work_transforms.specs.ConvertText.{latest_match_failure, located_text};
 
     ghost told = { λ ks a b. b.text.items ≡ a.text.items ++ located_text ks };
 
-    ghost stayed = { λ s a b. b.failure ≡ stay_or s a.failure };
+    ghost stayed = { λ s a b. b.failure ≡ latest_match_failure s a.failure };
 
     ghost untouched = { λ t i. t.failure };
 

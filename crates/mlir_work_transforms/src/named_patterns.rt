@@ -3,7 +3,7 @@ ghost use Rattle.std.specs.Prelude.{◌≡◌, is_some, option_map};
 ghost use Rattle.mlir_work_script_base.specs.RuleNames.{name_of};
 ghost use Rattle.mlir_work_registry.specs.Registry.{registry_model, kept_view};
 ghost use Rattle.mlir_work_registry.specs.RuleLists.{names_of};
-ghost use Rattle.mlir_work_transforms.specs.RuleLists.{names_own, pattern_named};
+ghost use Rattle.mlir_work_transforms.specs.RuleLists.{names_user_pattern, pattern_named};
 
 use mlir_work_registry::registry::{PatternRegistry, RegisteredPattern, find};
 use mlir_work_registry::rule_lists::{names_in, next_name};
@@ -23,7 +23,7 @@ pub fn find_pattern<'a>(
 }
 
 /// Returns whether a rule name is that of a registered pattern.
-fn is_own(registry: &PatternRegistry, name: &RuleName<'_>) -> bool
+fn is_registered_pattern(registry: &PatternRegistry, name: &RuleName<'_>) -> bool
     ensures { result ≡ is_some (pattern_named (name_of name.now) (registry_model registry.now)) }
 {
     find_pattern(registry, name).is_some()
@@ -31,11 +31,11 @@ fn is_own(registry: &PatternRegistry, name: &RuleName<'_>) -> bool
 
 /// Returns whether a list has the name of a registered pattern.
 pub fn names_pattern(registry: &PatternRegistry, list: &[u8]) -> bool
-    ensures { result ≡ names_own (registry_model registry.now) (names_of list.now) }
+    ensures { result ≡ names_user_pattern (registry_model registry.now) (names_of list.now) }
 {
     let mut names = names_in(list, true);
     'names: while let Some(name) = next_name(&mut names) {
-        if is_own(registry, &name) {
+        if is_registered_pattern(registry, &name) {
             return true;
         }
     }

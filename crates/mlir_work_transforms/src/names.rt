@@ -7,7 +7,7 @@ ghost use Rattle.ir_event.specs.types.declared.refusal.Refusal.{Refusal as Reaso
 ghost use Rattle.ir_event.specs.types.declared.refusal.Refusal.TheVariants.{Memory as NoMemory};
 ghost use Rattle.mlir_work_script_base.specs.Items.{items_after, number_or_zero};
 ghost use Rattle.mlir_work_script_base.specs.Numbers.{number_of};
-ghost use Rattle.conversion.specs.States.{IsWant};
+ghost use Rattle.conversion.specs.States.{IsOutOfCapacity};
 ghost use Rattle.mlir_work_transforms.specs.Interned.{AreNumbers, Interned, numbers_after};
 
 use conversion::names::Names;
@@ -22,7 +22,7 @@ use std::alloc::Global;
 /// Returns the refusal of a conversion if a name can't be interned: `Full` if the context is full, or `Memory`.
 fn wanting(refusal: Refusal) -> Refusal
     ensures { (bytes : List ℕ) (c : ContextModel) (named : Named ℕ Reason) → named ≡ Err refusal
-        → IsRefusedFor (name_reason bytes c) named → IsWant c result }
+        → IsRefusedFor (name_reason bytes c) named → IsOutOfCapacity c result }
 {
     if refusal == Refusal::TooMany {
         return Refusal::Full;
@@ -33,7 +33,7 @@ fn wanting(refusal: Refusal) -> Refusal
 /// Interns a name in the context and returns its number.
 fn intern<L: Analysis>(bench: &mut Bench<L>, bytes: &[u8]) -> Result<NameId, Refusal>
     ensures named { IfOk result (λ n. AreNumbers bench.new.transaction.ctx (n ∷ []) (bytes.now ∷ [])) }
-    ensures want { IfErr result (IsWant bench.new.transaction.ctx) }
+    ensures want { IfErr result (IsOutOfCapacity bench.new.transaction.ctx) }
     ensures interned { Interned L.meaning bench.old bench.new }
 {
     let named = bench.name(bytes);
@@ -53,7 +53,7 @@ fn intern_onto<L: Analysis>(
     ensures named { OnOk result
         ((names : List (List ℕ)) → AreNumbers bench.old.transaction.ctx numbers.old names
         → AreNumbers bench.new.transaction.ctx numbers.new (names ++ bytes.now ∷ [])) }
-    ensures want { IfErr result (IsWant bench.new.transaction.ctx) }
+    ensures want { IfErr result (IsOutOfCapacity bench.new.transaction.ctx) }
     ensures interned { Interned L.meaning bench.old bench.new }
 {
     let name = match intern(bench, bytes) {
@@ -73,7 +73,7 @@ pub(crate) fn names_in<L: Analysis>(
     names: Option<&[u8]>,
 ) -> Result<Names, Refusal>
     ensures named { IfOk result (λ v. AreNumbers bench.new.transaction.ctx v (items_after (option_copied names.entry))) }
-    ensures want { IfErr result (IsWant bench.new.transaction.ctx) }
+    ensures want { IfErr result (IsOutOfCapacity bench.new.transaction.ctx) }
     ensures interned { Interned L.meaning bench.old bench.new }
 {
     let mut numbers = Names::new(alloc);

@@ -2,7 +2,7 @@
 ghost use Rattle.std.specs.Prelude.{◌≡◌, ◌∷◌, ◌++◌, [], is_some, map, true, IfErr, IfOk, IfSome, OnOk, option_map};
 ghost use Rattle.ir_event.specs.types.declared.refusal.Refusal.TheVariants.{Memory as NoMemory};
 ghost use Rattle.mlir_work_script_base.specs.RuleNames.{name_of};
-ghost use Rattle.mlir_work_transforms.specs.greedy.PatternSet.{AreAttempts, MayAttempt, attempt_of, patterns_of};
+ghost use Rattle.mlir_work_transforms.specs.greedy.PatternSet.{MayUseAll, MayUse, rule_or_pattern_of, patterns_of};
 ghost use Rattle.mlir_work_registry.specs.Registry.{registry_model};
 ghost use Rattle.mlir_work_registry.specs.RuleLists.{names_left, names_of, opened};
 ghost use Rattle.mlir_work_transforms.specs.RuleLists.{all_listed, has_canon, listed_named};
@@ -98,7 +98,7 @@ pub fn pattern_set<'a>(
     alloc: Global,
     listed: &[RuleItem<'a>],
 ) -> Result<Vec<RuleOrPattern<'a>>, AllocError>
-    ensures { IfOk result (λ v. patterns_of v.items ≡ map (λ l. attempt_of l.candidate) listed.now) }
+    ensures { IfOk result (λ v. patterns_of v.items ≡ map (λ l. rule_or_pattern_of l.candidate) listed.now) }
 {
     let mut candidates = Vec::with_capacity(alloc, listed.len())?;
     let mut rest = listed;

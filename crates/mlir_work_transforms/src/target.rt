@@ -2,7 +2,7 @@
 ghost use Rattle.std.specs.Prelude.{◌≡◌, IfOk, IfErr, IfSome, option_map};
 ghost use Rattle.mlir_work_script_base.specs.Clauses.{clauses_of, target_of as said_target};
 ghost use Rattle.conversion.specs.Converting.{command_aim};
-ghost use Rattle.conversion.specs.States.{IsWant};
+ghost use Rattle.conversion.specs.States.{IsOutOfCapacity};
 ghost use Rattle.conversion.specs.Targets.{IsNamedIn, target_model};
 ghost use Rattle.mlir_work_transforms.specs.Interned.{Interned};
 
@@ -30,7 +30,7 @@ pub(crate) fn target_of<L: Analysis>(
     ensures aim { IfOk result
         (λ target. option_map (target_model bench.new.transaction.ctx) target
         ≡ command_aim (said_target full (clauses_of clauses.now))) }
-    ensures want { IfErr result (IsWant bench.new.transaction.ctx) }
+    ensures want { IfErr result (IsOutOfCapacity bench.new.transaction.ctx) }
     ensures interned { Interned L.meaning bench.old bench.new }
 {
     let legal = match names_in(alloc, bench, clauses.legal) {

@@ -9,7 +9,7 @@ ghost use Rattle.conversion.specs.rewriter.Held.{module_held};
 ghost use Rattle.conversion.specs.rewriter.Machine.{Change, IsFullSo};
 ghost use Rattle.greedy.specs.Changes.{canonical_reply, canonicalizing, rewriting};
 ghost use Rattle.greedy.specs.Tracing.{trace_of};
-ghost use Rattle.greedy.specs.PatternSet.{AreAttempts, patterns_of, by_attempts, by_rules};
+ghost use Rattle.greedy.specs.PatternSet.{MayUseAll, patterns_of, pattern_set_from, by_rules};
 ghost use Rattle.mlir_work_transforms.specs.TraceText.{trace_text};
 
 use crate::trace_lines::TraceLines;
@@ -82,14 +82,14 @@ pub fn trace_rewrite_with_patterns<L: Analysis>(
     limit: u32,
     lines: &mut TraceLines,
 ) -> Result<Outcome, Refusal>
-    requires { AreAttempts (patterns_of candidates.now) }
-    ensures does { Does L.meaning (Change (rewriting (by_attempts (patterns_of candidates.now)) limit))
+    requires { MayUseAll (patterns_of candidates.now) }
+    ensures does { Does L.meaning (Change (rewriting (pattern_set_from (patterns_of candidates.now)) limit))
         (canonical_reply result) bench.old bench.new }
     ensures told { OnOk result (lines.new.text.items ≡ lines.old.text.items
         ++ trace_text (map (λ n. n.items) lines.old.names.items)
-        (trace_of (by_attempts (patterns_of candidates.now)) limit (module_held bench.old.transaction))) }
+        (trace_of (pattern_set_from (patterns_of candidates.now)) limit (module_held bench.old.transaction))) }
     ensures headroom { IsFullSo (IsFull bench.new.transaction.ctx) (state_of L.meaning bench.old)
-        (rewriting (by_attempts (patterns_of candidates.now)) limit) (canonical_reply result) }
+        (rewriting (pattern_set_from (patterns_of candidates.now)) limit) (canonical_reply result) }
     ensures led { Led L.meaning bench.old bench.new }
     ensures grows { IsExtendedBy bench.old.transaction.ctx bench.new.transaction.ctx }
 {

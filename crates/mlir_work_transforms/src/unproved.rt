@@ -7,7 +7,7 @@ ghost use Rattle.mlir_work_registry.specs.CheckSummary.TheVariants.{Holds as Say
 ghost use Rattle.mlir_work_registry.specs.Registry.{registry_model, kept_view};
 ghost use Rattle.mlir_work_registry.specs.RuleLists.{names_of};
 ghost use Rattle.mlir_work_transforms.specs.RuleLists.{pattern_named};
-ghost use Rattle.mlir_work_transforms.specs.Unproved.{and_once, and_own, is_noted, noted_after, noted_of, proves};
+ghost use Rattle.mlir_work_transforms.specs.Unproved.{and_once, and_user_pattern, is_noted, noted_after, noted_of, proves};
 ghost use Rattle.mlir_work_transforms.specs.Unproved.{unproved_line, unproved_of, unproved_one, unproved_text, verdict_text};
 ghost use Rattle.mlir_work_transforms.specs.Views.{IsCopy, noted_view, noted_views};
 
@@ -64,7 +64,7 @@ fn add_named<'a>(
     registry: &'a PatternRegistry,
     name: &RuleName<'_>,
 ) -> Result<(), AllocError>
-    ensures { OnOk result (noted_views noted.new.items ≡ and_own (noted_views noted.old.items) (pattern_named (name_of name.now) (registry_model registry.now))) }
+    ensures { OnOk result (noted_views noted.new.items ≡ and_user_pattern (noted_views noted.old.items) (pattern_named (name_of name.now) (registry_model registry.now))) }
 {
     match find_pattern(registry, name) {
         Some(held) => add_once(noted, held),

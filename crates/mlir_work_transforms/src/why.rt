@@ -4,7 +4,7 @@ ghost use Rattle.ir_event.specs.Modules.{module_in};
 ghost use Rattle.conversion.specs.reasons.Reasons.{reason_of};
 ghost use Rattle.mlir_work_script_base.specs.Values.{op_text};
 ghost use Rattle.mlir_work_transforms.specs.TraceText.{rule_text};
-ghost use Rattle.mlir_work_transforms.specs.WhyText.{told_rules, verdict, why_line, why_lines};
+ghost use Rattle.mlir_work_transforms.specs.WhyText.{rules_to_explain, verdict, why_line, why_lines};
 
 use crate::trace_lines::{write_op, write_rule};
 use conversion::reasons::listed::rules_at;
@@ -90,7 +90,7 @@ pub fn match_failure(
     rule: Option<Rule>,
 ) -> Result<Vec<u8>, AllocError>
     ensures { IfOk result (λ text. text.items
-        ≡ why_lines (told_rules rule op (module_in world.now)) op (module_in world.now)) }
+        ≡ why_lines (rules_to_explain rule op (module_in world.now)) op (module_in world.now)) }
 {
     match rule {
         Some(rule) => lines_of(alloc, world, op, &[rule]),

@@ -20,8 +20,8 @@ use Rattle.patterns_soundness.specs.base.Canonicalization.{first_rule}
 use Rattle.patterns_soundness.specs.base.Rewrites.{none, edits_of, rewrite_of, rewrite_by, carried_out}
 use Rattle.patterns_soundness.specs.Accepted.{AreAccepted}
 use Rattle.patterns.specs.Applied.{RewriteOutcome}
-use Rattle.patterns.specs.Firing.{firing, rule_or}
-use Rattle.patterns.specs.Lowest.{IsFirst, greedy}
+use Rattle.patterns.specs.FirstMatching.{first_matching_rule, rule_or}
+use Rattle.patterns.specs.HighestPriority.{IsFirst, greedy}
 use Rattle.patterns.specs.Planned.{IsFree, MadeIsOf, planned_edits}
 use Rattle.patterns.specs.Rows.{AreCanonical, IsFirstOf, those_for}
 use Rattle.patterns.specs.declared.plan.RulePlan.{RulePlan}
@@ -29,7 +29,7 @@ use Rattle.patterns.specs.declared.apply_highest_priority.MatchedRule.{MatchedRu
 use Rattle.patterns.proofs.Acceptance.{accepted_of}
 use Rattle.patterns.proofs.Applying.{edits_due, rewrite_due, same_module}
 use Rattle.patterns_soundness.proofs.of_base.Facts.{rewrite_is}
-use Rattle.patterns.proofs.Firsts.{firing_more, none_then, some_then}
+use Rattle.patterns.proofs.Firsts.{first_matching_more, none_then, some_then}
 use Rattle.patterns.proofs.Planned.{found, none_rule}
 
 abbrev IsTried : Rule → Type 0
@@ -53,15 +53,15 @@ module _ (only : OnlyListed) (m : Module) (x : ℕ) (o : Operation) (is : find x
       same : (p : Operation) → find x m.tree ≡ Some p → o ≡ p
       same p f = (let both : Some o ≡ Some p = sym is ∙ f in cc)
 
-  pub named_suffice : (rs : List Rule) → firing rs m x ≡ firing (those_for rs name) m x
+  pub named_suffice : (rs : List Rule) → first_matching_rule rs m x ≡ first_matching_rule (those_for rs name) m x
   named_suffice [] = refl
   named_suffice (r ∷ rs) = by (has_rule r name) refl (named_suffice rs)
     where
-      by : (t : Bool) → has_rule r name ≡ t → firing rs m x ≡ firing (those_for rs name) m x → firing (r ∷ rs) m x ≡ firing (if t then r ∷ those_for rs name else those_for rs name) m x
-      by true f rest = firing_more r rs m x ∙ ap (rule_or (rewrite_of r m x) r) rest ∙ sym (firing_more r (those_for rs name) m x)
+      by : (t : Bool) → has_rule r name ≡ t → first_matching_rule rs m x ≡ first_matching_rule (those_for rs name) m x → first_matching_rule (r ∷ rs) m x ≡ first_matching_rule (if t then r ∷ those_for rs name else those_for rs name) m x
+      by true f rest = first_matching_more r rs m x ∙ ap (rule_or (rewrite_of r m x) r) rest ∙ sym (first_matching_more r (those_for rs name) m x)
       by false f rest =
-          firing_more r rs m x
-          ∙ ap (λ w. rule_or w r (firing rs m x)) (rewrite_is r m x ∙ ap (λ es. rewrite_by es m) (sym (unlisted r f)))
+          first_matching_more r rs m x
+          ∙ ap (λ w. rule_or w r (first_matching_rule rs m x)) (rewrite_is r m x ∙ ap (λ es. rewrite_by es m) (sym (unlisted r f)))
           ∙ rest
 
 -- the table entry of the operation's name
@@ -72,13 +72,13 @@ module _ (only : OnlyListed) (m : Module) (x : ℕ) (h : Header) (shown : Some h
   tried_there : AreCanonical (those_for rs h.name)
   tried_there = All-filter (λ r. has_rule r h.name) IsTried rs canonical
 
-  pub list_suffices : firing rs m x ≡ firing (greedy row) m x
+  pub list_suffices : first_matching_rule rs m x ≡ first_matching_rule (greedy row) m x
   list_suffices =
       named_suffice only m x (found x m.tree h shown).here (found x m.tree h shown).is rs
-      ∙ ap (λ (xs : List Rule). firing xs m x) (sym row_is ∙ sym (all_kept row (subst AreCanonical (sym is) tried_there)))
+      ∙ ap (λ (xs : List Rule). first_matching_rule xs m x) (sym row_is ∙ sym (all_kept row (subst AreCanonical (sym is) tried_there)))
 
 -- the first applicable rule of a sufficient list is the first of the whole list
-module _ (w : World) (x : ℕ) (insertion : Place) (rs rules : List Rule) (suffices : firing rs (module_in w) x ≡ firing (greedy rules) (module_in w) x) where
+module _ (w : World) (x : ℕ) (insertion : Place) (rs rules : List Rule) (suffices : first_matching_rule rs (module_in w) x ≡ first_matching_rule (greedy rules) (module_in w) x) where
   pub none_of_list : (f : Option (Rule × RulePlan)) → IsFirst rules w x insertion f → f ≡ None → IsFirstOf rs w x None
   none_of_list f is e = suffices ∙ subst (IsFirst rules w x insertion) e is
 
@@ -87,11 +87,11 @@ module _ (w : World) (x : ℕ) (insertion : Place) (rs rules : List Rule) (suffi
 
 -- the world of a rewriter and its transaction
 module _ (w : World) (b : TransactionModel) (ctx : w.ctx ≡ b.ctx) (store : w.store ≡ b.store) (x : ℕ) (rs : List Rule) where
-  pub none_held : firing rs (module_in w) x ≡ None → RewriteOutcome (first_rule rs (module_held b) x) false (module_held b) (module_held b)
+  pub none_held : first_matching_rule rs (module_in w) x ≡ None → RewriteOutcome (first_rule rs (module_held b) x) false (module_held b) (module_held b)
   none_held e = subst (λ a. RewriteOutcome a false (module_held b) (module_held b)) (sym (ap (λ m. first_rule rs m x) (sym (same_module w b ctx store x)) ∙ none_then rs (module_in w) x e)) (refl, refl)
 
-  pub none_applied : firing rs (module_in w) x ≡ None → firing rs (module_held b) x ≡ None
-  none_applied e = subst (λ m. firing rs m x ≡ None) (same_module w b ctx store x) e
+  pub none_applied : first_matching_rule rs (module_in w) x ≡ None → first_matching_rule rs (module_held b) x ≡ None
+  none_applied e = subst (λ m. first_matching_rule rs m x ≡ None) (same_module w b ctx store x) e
 
   module _ (f : MatchedRule) (is : IsFirstOf rs w x (Some f)) where
     pub fits_held : MadeIsOf b.ctx f.planned.made
@@ -100,8 +100,8 @@ module _ (w : World) (b : TransactionModel) (ctx : w.ctx ≡ b.ctx) (store : w.s
     pub rule_held : first_rule rs (module_held b) x ≡ rewrite_of f.rule (module_held b) x
     rule_held = subst (λ m. first_rule rs m x ≡ rewrite_of f.rule m x) (same_module w b ctx store x) (some_then rs (module_in w) x f.rule is.1)
 
-    pub applied_held : firing rs (module_held b) x ≡ Some f.rule
-    applied_held = subst (λ m. firing rs m x ≡ Some f.rule) (same_module w b ctx store x) is.1
+    pub applied_held : first_matching_rule rs (module_held b) x ≡ Some f.rule
+    applied_held = subst (λ m. first_matching_rule rs m x ≡ Some f.rule) (same_module w b ctx store x) is.1
 
     pub first_due : first_rule rs (module_held b) x ≡ carried_out (planned_edits b.ctx (module_held b).next x f.planned) (module_held b)
     first_due = rule_held ∙ rewrite_due w b ctx store x (λ c n q. planned_edits c n x q) f.rule (Some f.planned) is.0.edits f.planned refl

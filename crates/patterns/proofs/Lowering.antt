@@ -18,8 +18,8 @@ use Rattle.patterns_soundness.specs.Accepted.{AreAccepted}
 use Rattle.patterns_soundness.specs.base.Canonicalization.{greedy_rules, highest_priority}
 use Rattle.patterns_soundness.specs.base.Rewrites.{none, edits_of, rewrite_of, carried_out}
 use Rattle.patterns.specs.Applied.{RewriteOutcome}
-use Rattle.patterns.specs.Firing.{firing}
-use Rattle.patterns.specs.Lowest.{IsFirst, IsLeftOut, IsHighestPriority, FirstMatch, greedy}
+use Rattle.patterns.specs.FirstMatching.{first_matching_rule}
+use Rattle.patterns.specs.HighestPriority.{IsFirst, IsLeftOut, IsHighestPriority, FirstMatch, greedy}
 use Rattle.patterns.specs.Planned.{IsFree, MadeIsOf, made_edits, planned_edits}
 use Rattle.patterns.specs.declared.plan.RulePlan.{RulePlan}
 use Rattle.patterns.specs.declared.apply_highest_priority.MatchedRule.{MatchedRule}
@@ -53,27 +53,27 @@ module _ (only : OnlyListed) (m : Module) (x : ℕ) (h : Header) (shown : Some h
   name_is : rules ≡ rules_for (head (found x m.tree h shown).here).name
   name_is = row ∙ ap (λ (k : Header). rules_for k.name) (found x m.tree h shown).same
 
-  pub row_suffices : firing greedy_rules m x ≡ firing (greedy rules) m x
+  pub row_suffices : first_matching_rule greedy_rules m x ≡ first_matching_rule (greedy rules) m x
   row_suffices =
       named_suffice only m x (found x m.tree h shown).here (found x m.tree h shown).is greedy_rules
-      ∙ ap (λ rs. firing rs m x) (rises (head (found x m.tree h shown).here).name)
-      ∙ ap (λ rs. firing (greedy rs) m x) (sym name_is)
+      ∙ ap (λ rs. first_matching_rule rs m x) (rises (head (found x m.tree h shown).here).name)
+      ∙ ap (λ rs. first_matching_rule (greedy rs) m x) (sym name_is)
 
 -- the first applicable rule of a sufficient list is the highest-priority rule
-module _ (w : World) (x : ℕ) (insertion : Place) (rules : List Rule) (suffices : firing greedy_rules (module_in w) x ≡ firing (greedy rules) (module_in w) x) where
-  pub none_first_lowest : (f : Option (Rule × RulePlan)) → IsFirst rules w x insertion f → f ≡ None → IsHighestPriority w x None
-  none_first_lowest f is e = suffices ∙ subst (IsFirst rules w x insertion) e is
+module _ (w : World) (x : ℕ) (insertion : Place) (rules : List Rule) (suffices : first_matching_rule greedy_rules (module_in w) x ≡ first_matching_rule (greedy rules) (module_in w) x) where
+  pub none_first_highest_priority : (f : Option (Rule × RulePlan)) → IsFirst rules w x insertion f → f ≡ None → IsHighestPriority w x None
+  none_first_highest_priority f is e = suffices ∙ subst (IsFirst rules w x insertion) e is
 
-  pub first_lowest : (f : Option (Rule × RulePlan)) (r : Rule) (p : RulePlan) → IsFirst rules w x insertion f → f ≡ Some (r, p) → IsHighestPriority w x (Some (record { rule = r; planned = record { point = insertion; made = p } }))
-  first_lowest f r p is e = (let first = subst (IsFirst rules w x insertion) e is in (first.0, suffices ∙ first.1))
+  pub first_highest_priority : (f : Option (Rule × RulePlan)) (r : Rule) (p : RulePlan) → IsFirst rules w x insertion f → f ≡ Some (r, p) → IsHighestPriority w x (Some (record { rule = r; planned = record { point = insertion; made = p } }))
+  first_highest_priority f r p is e = (let first = subst (IsFirst rules w x insertion) e is in (first.0, suffices ∙ first.1))
 
 -- the world of a rewriter and its transaction
 module _ (w : World) (b : TransactionModel) (ctx : w.ctx ≡ b.ctx) (store : w.store ≡ b.store) (x : ℕ) where
-  pub none_held : firing greedy_rules (module_in w) x ≡ None → RewriteOutcome (highest_priority (module_held b) x) false (module_held b) (module_held b)
+  pub none_held : first_matching_rule greedy_rules (module_in w) x ≡ None → RewriteOutcome (highest_priority (module_held b) x) false (module_held b) (module_held b)
   none_held e = subst (λ a. RewriteOutcome a false (module_held b) (module_held b)) (sym (ap (λ m. highest_priority m x) (sym (same_module w b ctx store x)) ∙ none_then greedy_rules (module_in w) x e)) (refl, refl)
 
-  pub none_applied : firing greedy_rules (module_in w) x ≡ None → firing greedy_rules (module_held b) x ≡ None
-  none_applied e = subst (λ m. firing greedy_rules m x ≡ None) (same_module w b ctx store x) e
+  pub none_applied : first_matching_rule greedy_rules (module_in w) x ≡ None → first_matching_rule greedy_rules (module_held b) x ≡ None
+  none_applied e = subst (λ m. first_matching_rule greedy_rules m x ≡ None) (same_module w b ctx store x) e
 
   module _ (f : MatchedRule) (is : IsHighestPriority w x (Some f)) where
     pub fits_held : MadeIsOf b.ctx f.planned.made
@@ -82,11 +82,11 @@ module _ (w : World) (b : TransactionModel) (ctx : w.ctx ≡ b.ctx) (store : w.s
     pub rule_held : highest_priority (module_held b) x ≡ rewrite_of f.rule (module_held b) x
     rule_held = subst (λ m. highest_priority m x ≡ rewrite_of f.rule m x) (same_module w b ctx store x) (some_then greedy_rules (module_in w) x f.rule is.1)
 
-    pub applied_held : firing greedy_rules (module_held b) x ≡ Some f.rule
-    applied_held = subst (λ m. firing greedy_rules m x ≡ Some f.rule) (same_module w b ctx store x) is.1
+    pub applied_held : first_matching_rule greedy_rules (module_held b) x ≡ Some f.rule
+    applied_held = subst (λ m. first_matching_rule greedy_rules m x ≡ Some f.rule) (same_module w b ctx store x) is.1
 
-    pub lowest_due : highest_priority (module_held b) x ≡ carried_out (planned_edits b.ctx (module_held b).next x f.planned) (module_held b)
-    lowest_due = rule_held ∙ rewrite_due w b ctx store x (λ c n q. planned_edits c n x q) f.rule (Some f.planned) is.0.edits f.planned refl
+    pub highest_priority_due : highest_priority (module_held b) x ≡ carried_out (planned_edits b.ctx (module_held b).next x f.planned) (module_held b)
+    highest_priority_due = rule_held ∙ rewrite_due w b ctx store x (λ c n q. planned_edits c n x q) f.rule (Some f.planned) is.0.edits f.planned refl
 
     pub free_held : AreAccepted → IsSoundIn b.ctx b.store.module_of.tree → IsWellFormed (isolated_in b.ctx) b.store.module_of → IsFree (planned_edits b.ctx (module_held b).next x f.planned) (module_held b)
     free_held accepted sound wellformed n e =

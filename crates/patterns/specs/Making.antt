@@ -12,7 +12,7 @@ use Rattle.patterns.specs.declared.plan.RulePlan.{RulePlan}
 use Rattle.patterns.specs.declared.plan.RulePlan.TheVariants as made
 
 -- edits of the code fit a context and mean these edits there
-pub record StandsFor (c : ContextModel) (es : List Coded) (edits : List Edit) : Type 0 where
+pub record EditsDenote (c : ContextModel) (es : List Coded) (edits : List Edit) : Type 0 where
   pub meaning : edits_meaning c es ≡ edits
   pub fit : AllFit c es
 

@@ -10,8 +10,8 @@ use Rattle.ir_event.specs.Modules.{module_in}
 use Rattle.patterns_soundness.specs.base.RuleNames.{is_canonical}
 use Rattle.patterns_soundness.specs.base.Rules.{has_rule}
 use Rattle.patterns_soundness.specs.base.declared.rule.Rule.{Rule}
-use Rattle.patterns.specs.Firing.{firing}
-use Rattle.patterns.specs.Lowest.{IsMadeOf}
+use Rattle.patterns.specs.FirstMatching.{first_matching_rule}
+use Rattle.patterns.specs.HighestPriority.{IsMadeOf}
 use Rattle.patterns.specs.declared.apply_highest_priority.MatchedRule.{MatchedRule}
 use Rattle.patterns.specs.declared.rules_by_name.RulesByName.{RulesByName}
 
@@ -41,6 +41,6 @@ pub record IsRuleTable (rows : RulesByName) : Type 0 where
 
 -- the first of some rules that applies, with its plan, or none applies
 abbrev pub IsFirstOf : List Rule → World → ℕ → Option MatchedRule → Type 0
-IsFirstOf rs w x None = firing rs (module_in w) x ≡ None
+IsFirstOf rs w x None = first_matching_rule rs (module_in w) x ≡ None
 IsFirstOf rs w x (Some f) =
-    IsMadeOf w x f.planned.point f.rule f.planned.made × (firing rs (module_in w) x ≡ Some f.rule)
+    IsMadeOf w x f.planned.point f.rule f.planned.made × (first_matching_rule rs (module_in w) x ≡ Some f.rule)

@@ -7,7 +7,7 @@ ghost use Rattle.patterns_soundness.specs.base.Rewrites.{rewrite_of};
 ghost use Rattle.patterns_lowering.specs.RewriterCalls.{JournalAfter};
 ghost use Rattle.patterns_lowering.specs.Held.{module_held};
 ghost use Rattle.patterns.specs.Applied.{Applied, RewriteOutcome, IsReason};
-ghost use Rattle.patterns.specs.Firing.{firing};
+ghost use Rattle.patterns.specs.FirstMatching.{first_matching_rule};
 ghost use Rattle.patterns.specs.Rows.{IsFirstOf, IsRuleTable};
 
 use crate::apply_highest_priority::{MatchedRule, first_made};
@@ -82,7 +82,7 @@ pub fn apply_first<L: Analysis>(
         (module_held bench.old.transaction) (module_held bench.new.transaction)) }
     ensures rule { IfOk result (λ r. IfSome r (λ r. first_rule rows.now.rules.now (module_held bench.old.transaction) op
         ≡ rewrite_of r (module_held bench.old.transaction) op)) }
-    ensures applied { IfOk result (λ r. r ≡ firing rows.now.rules.now (module_held bench.old.transaction) op) }
+    ensures applied { IfOk result (λ r. r ≡ first_matching_rule rows.now.rules.now (module_held bench.old.transaction) op) }
     ensures err { OnErr result (module_held bench.new.transaction ≡ module_held bench.old.transaction) }
     ensures refused { IfErr result (λ e. IsReason (first_rule rows.now.rules.now (module_held bench.old.transaction) op) op
         (module_held bench.old.transaction) bench.new.transaction.ctx e) }

@@ -3,7 +3,7 @@ ghost use Rattle.std.specs.Prelude.{◌≡◌, false, true, is_some, Err, IfOk, 
 ghost use Rattle.ir_event.specs.types.declared.refusal.Refusal.TheVariants.{NoSuchOp};
 ghost use Rattle.ir_event.specs.trees.Ids.{has_id};
 ghost use Rattle.ir_event.specs.Modules.{NodeIsOf, module_in};
-ghost use Rattle.patterns_soundness.specs.base.Canonicalization.{greedy_rules, highest_priority as lowest_of};
+ghost use Rattle.patterns_soundness.specs.base.Canonicalization.{greedy_rules, highest_priority as highest_priority_of};
 ghost use Rattle.patterns_soundness.specs.base.Looks.{insertion_of};
 ghost use Rattle.patterns_soundness.specs.base.Rewrites.{rewrite_of};
 ghost use Rattle.patterns_plans.specs.reads.Reads.{head_at, header_of_node};
@@ -11,8 +11,8 @@ ghost use Rattle.patterns_plans.specs.reads.Suited.{IsEligibilityOf};
 ghost use Rattle.patterns_lowering.specs.RewriterCalls.{JournalAfter};
 ghost use Rattle.patterns_lowering.specs.Held.{module_held};
 ghost use Rattle.patterns.specs.Applied.{Applied, RewriteOutcome, IsReason};
-ghost use Rattle.patterns.specs.Firing.{firing};
-ghost use Rattle.patterns.specs.Lowest.{BeginsLikely, IsFirst, IsLikely, IsHighestPriority, FirstMatch};
+ghost use Rattle.patterns.specs.FirstMatching.{first_matching_rule};
+ghost use Rattle.patterns.specs.HighestPriority.{BeginsLikely, IsFirst, IsLikely, IsHighestPriority, FirstMatch};
 
 use crate::apply_plan::apply_plan;
 use crate::plan::{PlacedPlan, RulePlan, made_at, made_dead};
@@ -151,7 +151,11 @@ pub(crate) fn first_made(
 
 /// Returns the highest-priority rule that applies at `op`, with its plan. Computes the eligibility of `op` only if a
 /// cheap test says that a rule may apply.
-fn find_lowest(alloc: Global, world: &World, op: OpId) -> Result<Option<MatchedRule>, AllocError>
+fn find_highest_priority(
+    alloc: Global,
+    world: &World,
+    op: OpId,
+) -> Result<Option<MatchedRule>, AllocError>
     ensures { IfOk result (IsHighestPriority world.now op) }
 {
     only_listed_rules_apply();
@@ -191,13 +195,13 @@ pub fn apply_highest_priority<L: Analysis>(
     op: OpId,
 ) -> Result<Option<Rule>, Refusal>
     ensures there { has_id op (module_held bench.old.transaction).tree ≡ false → result ≡ Err NoSuchOp }
-    ensures ok { IfOk result (λ r. RewriteOutcome (lowest_of (module_held bench.old.transaction) op) (is_some r)
+    ensures ok { IfOk result (λ r. RewriteOutcome (highest_priority_of (module_held bench.old.transaction) op) (is_some r)
         (module_held bench.old.transaction) (module_held bench.new.transaction)) }
-    ensures rule { IfOk result (λ r. IfSome r (λ r. lowest_of (module_held bench.old.transaction) op
+    ensures rule { IfOk result (λ r. IfSome r (λ r. highest_priority_of (module_held bench.old.transaction) op
         ≡ rewrite_of r (module_held bench.old.transaction) op)) }
-    ensures applied { IfOk result (λ r. r ≡ firing greedy_rules (module_held bench.old.transaction) op) }
+    ensures applied { IfOk result (λ r. r ≡ first_matching_rule greedy_rules (module_held bench.old.transaction) op) }
     ensures err { OnErr result (module_held bench.new.transaction ≡ module_held bench.old.transaction) }
-    ensures refused { IfErr result (λ e. IsReason (lowest_of (module_held bench.old.transaction) op) op
+    ensures refused { IfErr result (λ e. IsReason (highest_priority_of (module_held bench.old.transaction) op) op
         (module_held bench.old.transaction) bench.new.transaction.ctx e) }
     ensures stays { Applied L.meaning bench.old bench.new }
     ensures journal { JournalAfter L.meaning result bench.old bench.new }
@@ -208,7 +212,7 @@ pub fn apply_highest_priority<L: Analysis>(
     if !world.store.in_tree(op) {
         return Err(Refusal::NoSuchOp);
     }
-    let Ok(lowest) = find_lowest(alloc, world, op) else {
+    let Ok(lowest) = find_highest_priority(alloc, world, op) else {
         return Err(Refusal::Memory);
     };
     let Some(found) = lowest else {

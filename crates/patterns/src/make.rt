@@ -3,7 +3,7 @@ ghost use Rattle.std.specs.Prelude.{◌≡◌, ◌+◌, ◌≤◌, IfOk, IfErr};
 ghost use Rattle.ir_event.specs.trees.Limits.{most_next};
 ghost use Rattle.patterns_plans.specs.reads.Plans.{PlanIsOf, plan_meaning};
 ghost use Rattle.patterns_lowering.specs.Interning.{Added, IsCapacityRefusal};
-ghost use Rattle.patterns.specs.Making.{StandsFor, made_makes, plan_makes};
+ghost use Rattle.patterns.specs.Making.{EditsDenote, made_makes, plan_makes};
 ghost use Rattle.patterns.specs.Planned.{MadeIsOf, made_edits};
 
 use crate::insertion_point::InsertionPoint;
@@ -29,7 +29,7 @@ fn plan_edits<L: Analysis>(
 ) -> Result<Vec<Edit>, Refusal>
     requires of { PlanIsOf bench.old.transaction.ctx plan }
     requires headroom { site.now.next + plan_makes plan ≤ most_next }
-    ensures stands { IfOk result (λ es. StandsFor bench.new.transaction.ctx es.items
+    ensures stands { IfOk result (λ es. EditsDenote bench.new.transaction.ctx es.items
         (plan_meaning bench.old.transaction.ctx site.now.next site.now.op site.now.point plan)) }
     ensures refused { IfErr result (λ e. IsCapacityRefusal bench.new.transaction.ctx e) }
     ensures added { Added L.meaning bench.old bench.new }
@@ -83,7 +83,7 @@ pub(crate) fn edits_for<L: Analysis>(
     requires of { MadeIsOf bench.old.transaction.ctx made }
     requires next { site.now.next ≡ bench.old.transaction.store.module_of.next }
     requires headroom { site.now.next + made_makes made ≤ most_next }
-    ensures stands { IfOk result (λ es. StandsFor bench.new.transaction.ctx es.items
+    ensures stands { IfOk result (λ es. EditsDenote bench.new.transaction.ctx es.items
         (made_edits bench.old.transaction.ctx site.now.next site.now.op site.now.point made)) }
     ensures refused { IfErr result (λ e. IsCapacityRefusal bench.new.transaction.ctx e) }
     ensures added { Added L.meaning bench.old bench.new }

@@ -8,7 +8,7 @@ ghost use Rattle.patterns_soundness.specs.base.Makes.{give_constant, give_new};
 ghost use Rattle.patterns_plans.specs.reads.Plans.{choosing, combined, dividing_by, mirroring, subtracting};
 ghost use Rattle.patterns_lowering.specs.Interning.{Added, IsCapacityRefusal};
 ghost use Rattle.patterns.specs.Interned.{DifferenceAttrs};
-ghost use Rattle.patterns.specs.Making.{StandsFor};
+ghost use Rattle.patterns.specs.Making.{EditsDenote};
 
 use crate::edits::{
     cast_edits, chosen_edits, combined_edits, constant_edits, difference_edits, mirrored_edits,
@@ -34,7 +34,7 @@ pub(crate) fn constant<L: Analysis>(
 ) -> Result<Vec<Edit>, Refusal>
     requires of { IsType bench.old.transaction.ctx ty }
     requires headroom { site.now.next + 1 ≤ most_next }
-    ensures stands { IfOk result (λ es. StandsFor bench.new.transaction.ctx es.items
+    ensures stands { IfOk result (λ es. EditsDenote bench.new.transaction.ctx es.items
         (give_constant site.now.point site.now.next site.now.op (type_term bench.old.transaction.ctx ty) bits)) }
     ensures refused { IfErr result (λ e. IsCapacityRefusal bench.new.transaction.ctx e) }
     ensures added { Added L.meaning bench.old bench.new }
@@ -62,7 +62,7 @@ pub(crate) fn recast<L: Analysis>(
     requires name { IsName bench.old.transaction.ctx name }
     requires ty { IsType bench.old.transaction.ctx ty }
     requires headroom { site.now.next + 1 ≤ most_next }
-    ensures stands { IfOk result (λ es. StandsFor bench.new.transaction.ctx es.items
+    ensures stands { IfOk result (λ es. EditsDenote bench.new.transaction.ctx es.items
         (give_new site.now.point site.now.next site.now.op
         (cast (name_term bench.old.transaction.ctx name) (type_term bench.old.transaction.ctx ty) value.now))) }
     ensures refused { IfErr result (λ e. IsCapacityRefusal bench.new.transaction.ctx e) }
@@ -88,7 +88,7 @@ pub(crate) fn combination<L: Analysis>(
     requires name { IsName bench.old.transaction.ctx name }
     requires ty { IsType bench.old.transaction.ctx ty }
     requires headroom { site.now.next + 2 ≤ most_next }
-    ensures stands { IfOk result (λ es. StandsFor bench.new.transaction.ctx es.items
+    ensures stands { IfOk result (λ es. EditsDenote bench.new.transaction.ctx es.items
         (combined site.now.next site.now.op site.now.point (name_term bench.old.transaction.ctx name)
         (type_term bench.old.transaction.ctx ty) operand.now bits)) }
     ensures refused { IfErr result (λ e. IsCapacityRefusal bench.new.transaction.ctx e) }
@@ -119,7 +119,7 @@ pub(crate) fn mirrored<L: Analysis>(
     first: &Value,
     second: &Value,
 ) -> Result<Vec<Edit>, Refusal>
-    ensures stands { IfOk result (λ es. StandsFor bench.new.transaction.ctx es.items
+    ensures stands { IfOk result (λ es. EditsDenote bench.new.transaction.ctx es.items
         (mirroring site.now.op predicate first.now second.now)) }
     ensures refused { IfErr result (λ e. IsCapacityRefusal bench.new.transaction.ctx e) }
     ensures added { Added L.meaning bench.old bench.new }
@@ -147,7 +147,7 @@ pub(crate) fn choice<L: Analysis>(
 ) -> Result<Vec<Edit>, Refusal>
     requires ty { IsType bench.old.transaction.ctx ty }
     requires headroom { site.now.next + 2 ≤ most_next }
-    ensures stands { IfOk result (λ es. StandsFor bench.new.transaction.ctx es.items
+    ensures stands { IfOk result (λ es. EditsDenote bench.new.transaction.ctx es.items
         (choosing site.now.next site.now.op site.now.point predicate
         (type_term bench.old.transaction.ctx ty) first.now second.now)) }
     ensures refused { IfErr result (λ e. IsCapacityRefusal bench.new.transaction.ctx e) }
@@ -209,7 +209,7 @@ pub(crate) fn difference<L: Analysis>(
 ) -> Result<Vec<Edit>, Refusal>
     requires ty { IsType bench.old.transaction.ctx ty }
     requires headroom { site.now.next + 5 ≤ most_next }
-    ensures stands { IfOk result (λ es. StandsFor bench.new.transaction.ctx es.items
+    ensures stands { IfOk result (λ es. EditsDenote bench.new.transaction.ctx es.items
         (subtracting site.now.next site.now.op site.now.point
         (type_term bench.old.transaction.ctx ty) first.now second.now ones)) }
     ensures refused { IfErr result (λ e. IsCapacityRefusal bench.new.transaction.ctx e) }
@@ -239,7 +239,7 @@ pub(crate) fn remainder<L: Analysis>(
     requires name { IsName bench.old.transaction.ctx division }
     requires ty { IsType bench.old.transaction.ctx ty }
     requires headroom { site.now.next + 3 ≤ most_next }
-    ensures stands { IfOk result (λ es. StandsFor bench.new.transaction.ctx es.items
+    ensures stands { IfOk result (λ es. EditsDenote bench.new.transaction.ctx es.items
         (dividing_by site.now.next site.now.op site.now.point (name_term bench.old.transaction.ctx division)
         (type_term bench.old.transaction.ctx ty) first.now second.now)) }
     ensures refused { IfErr result (λ e. IsCapacityRefusal bench.new.transaction.ctx e) }

@@ -2,7 +2,7 @@
 ghost use Rattle.std.specs.Prelude.{◌≡◌, false, true, IfSome, Some, option_map};
 ghost use Rattle.ir_event.specs.Modules.{module_in};
 ghost use Rattle.patterns_plans.specs.reads.Reads.{head_at, header_of_node};
-ghost use Rattle.patterns.specs.Lowest.{AreLikely, BeginsLikely, IsLeftOut, IsLikely};
+ghost use Rattle.patterns.specs.HighestPriority.{AreLikely, BeginsLikely, IsLeftOut, IsLikely};
 
 use ir_event::store::node::Node;
 use ir_event::types::ids::OpId;

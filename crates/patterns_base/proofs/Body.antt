@@ -8,7 +8,7 @@ use Rattle.ir_tree.specs.Uses.{uses_of}
 use Rattle.ir_tree.specs.Places.{put, put_here, is_in_block, put_in, without, shifted, each_list, region_each_list, ops_each_list, drop_op}
 use Rattle.ir_tree.specs.WellFormed.{ModuleOf}
 use Rattle.ir_tree.proofs.Moves.{list_id}
-use Rattle.ir_tree_laws.specs.Stands.{StepOf, StandOf, stands, dropping}
+use Rattle.ir_tree_laws.specs.Stands.{StepOf, OpWithPathOf, stands, dropping}
 use Rattle.ir_tree_laws.specs.Members.{In}
 use Rattle.ir_tree_laws.specs.Values.{region_at}
 use Rattle.ir_tree_laws.specs.Reasons.{shift_reason}
@@ -94,7 +94,7 @@ module _ {N T A : Type 0} (isolated is_table : N → Bool) where
         other h = elim (bool_cases (eqb (head o).id yi)) [
           | inr k ↦ k
           | inl k ↦ (let same = same_stand t d (stand o (step s.at.here r args (y ∷ fs) os ∷ up)) (stand y (b ∷ up)) h there (eqb-true (head o).id yi k) in
-              let paths : step s.at.here r args (y ∷ fs) os ∷ up ≡ b ∷ up = ap (λ (z : StandOf N T A). z.path) same in
+              let paths : step s.at.here r args (y ∷ fs) os ∷ up ≡ b ∷ up = ap (λ (z : OpWithPathOf N T A). z.path) same in
               let steps : step s.at.here r args (y ∷ fs) os ≡ b = cc in
               let l = ap (λ (z : StepOf N T A). length z.preceding) steps in
               absurd (omega (arith, l)))
@@ -132,7 +132,7 @@ module _ {N T A : Type 0} (isolated is_table : N → Bool) where
     elsewhere = elim (bool_cases (eqb x insertion.parent)) [
       | inr k ↦ ap (λ c. c && eqb r insertion.region) k
       | inl k ↦ (let same = same_stand t d (stand s.at.here up) (stand s.at.step_in.parent s.at.path) s.at.there (around_there t s.at.here s.at.step_in s.at.path s.at.there).1 (s.at.id ∙ eqb-true x insertion.parent k ∙ ap (λ (p : Place). p.parent) s.at.place) in
-          let l = ap (λ (z : StandOf N T A). length z.path) same in
+          let l = ap (λ (z : OpWithPathOf N T A). length z.path) same in
           absurd (omega (arith, l)))
     ]
 

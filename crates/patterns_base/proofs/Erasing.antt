@@ -11,7 +11,7 @@ use Rattle.ir_tree.specs.Frames.{owner_of}
 use Rattle.ir_tree.specs.Sites.{operands_visible}
 use Rattle.ir_tree.specs.Places.{without}
 use Rattle.ir_tree.proofs.Replaced.{same_value_refl}
-use Rattle.ir_tree_laws.specs.Stands.{StandOf, stand_id, stands, dominated_by, gone_in, is_gone, dropping}
+use Rattle.ir_tree_laws.specs.Stands.{OpWithPathOf, op_with_path_id, stands, dominated_by, gone_in, is_gone, dropping}
 use Rattle.ir_tree_laws.specs.Members.{In}
 use Rattle.ir_tree_laws.specs.Values.{has_value}
 use Rattle.ir_tree_laws.specs.Reads.{is_within}
@@ -31,7 +31,7 @@ use Rattle.std.proofs.lemmas.Option.{slice_get_within}
 module _ {N T A : Type 0} (isolated : N → Bool) (x : ℕ) (t o : OpOf N T A) (d : HasDistinctIds t) (root : eqb (head t).id x ≡ false) (found : find x t ≡ Some o) (wellformed : operands_visible isolated t ≡ true) where
   -- none of its results is used
   module _ (unused : (k : ℕ) → k < length (head o).results → uses_of (Result x k) t ≡ []) where
-    outside : (s : StandOf N T A) → In s (stands [] t) → is_gone x s ≡ false → (v : Value) → In v (head s.here).operands → is_within (owner_of v).0 (Some o) ≡ false
+    outside : (s : OpWithPathOf N T A) → In s (stands [] t) → is_gone x s ≡ false → (v : Value) → In v (head s.here).operands → is_within (owner_of v).0 (Some o) ≡ false
     outside s h g v m = elim (bool_cases (is_within (owner_of v).0 (Some o))) [
       | inr k ↦ k
       | inl k ↦ absurd (
@@ -39,7 +39,7 @@ module _ {N T A : Type 0} (isolated : N → Bool) (x : ℕ) (t o : OpOf N T A) (
           let u = present_stand (i.step_in ∷ i.path) o (owner_of v).0 k in
           let there = within o (i.step_in ∷ i.path) u.0 u.1 [] t i.there in
           let gone = within_gone x o (i.step_in ∷ i.path) (or_left (eqb (head o).id x) (gone_in x i.step_in.parent i.path) (eq-eqb (head o).id x i.id)) u.0 u.1 in
-          let e = all_each (dominated_by isolated s.path) (head s.here).operands (all_each (λ (z : StandOf N T A). list_all (dominated_by isolated z.path) (head z.here).operands) (stands [] t) (sym (stands_operands isolated t) ∙ wellformed) s h) v m in
+          let e = all_each (dominated_by isolated s.path) (head s.here).operands (all_each (λ (z : OpWithPathOf N T A). list_all (dominated_by isolated z.path) (head z.here).operands) (stands [] t) (sym (stands_operands isolated t) ∙ wellformed) s h) v m in
           let r = seen_outside isolated x t d root s.here s.path h g v e u.0 there (sym u.2) gone in
           let w = seen_by isolated t d s h v e in
           used r.0 (few r.0 (ap (λ z. has_value z t) (sym r.1) ∙ w.is)) (subst (λ z. In z (head s.here).operands) r.1 m))
@@ -54,15 +54,15 @@ module _ {N T A : Type 0} (isolated : N → Bool) (x : ℕ) (t o : OpOf N T A) (
 
         used : (k : ℕ) → k < length (head o).results → In (Result x k) (head s.here).operands → ⊥
         used k l m =
-            let n = used_here (Result x k) (stand_id s) 0 (head s.here).operands (Result x k) m (same_value_refl (Result x k)) in
-            subst (In (stand_id s, n.0)) (stands_uses (Result x k) [] t ∙ unused k l) (in_gather (λ (z : StandOf N T A). operand_uses (Result x k) (stand_id z) 0 (head z.here).operands) (stand_id s, n.0) s (stands [] t) h n.1)
+            let n = used_here (Result x k) (op_with_path_id s) 0 (head s.here).operands (Result x k) m (same_value_refl (Result x k)) in
+            subst (In (op_with_path_id s, n.0)) (stands_uses (Result x k) [] t ∙ unused k l) (in_gather (λ (z : OpWithPathOf N T A). operand_uses (Result x k) (op_with_path_id z) 0 (head z.here).operands) (op_with_path_id s, n.0) s (stands [] t) h n.1)
 
     pub nobody_uses : unused_outside x t ≡ true
     nobody_uses =
         sym (stands_every (λ q. leaves_within (find x t) (head q)) [] (without x t))
-        ∙ each_all (λ (u : StandOf N T A). leaves_within (find x t) (head u.here)) (stands [] (without x t)) (λ u h.
+        ∙ each_all (λ (u : OpWithPathOf N T A). leaves_within (find x t) (head u.here)) (stands [] (without x t)) (λ u h.
         let w = member_left x t u h in
-        ap (λ (z : StandOf N T A). leaves_within (find x t) (head z.here)) w.3
+        ap (λ (z : OpWithPathOf N T A). leaves_within (find x t) (head z.here)) w.3
         ∙ ap (leaves_within (find x t)) (same_head x (dropping x) w.0.here)
         ∙ ap (λ f. leaves_within f (head w.0.here)) found
         ∙ each_all (λ v. not (is_within (owner_of v).0 (Some o))) (head w.0.here).operands (λ v m. ap not (outside w.0 w.1 w.2 v m)))

@@ -20,7 +20,7 @@ use Rattle.patterns_laws.specs.Keeps.{given, lowered_type}
 use Rattle.ir_tree.specs.Meaning.{Operation}
 use Rattle.ir_tree_laws.proofs.Listed.{both}
 use Rattle.ir_verify.proofs.Verdicts.{none_told}
-use Rattle.ir_verify.specs.Diagnostics.{broken_at, told_at}
+use Rattle.ir_verify.specs.Diagnostics.{broken_at, reported_at}
 use Rattle.std.proofs.Common.{[], Bool, List, None, Option, Some, ap, arith, false, if◌then◌else◌, length, not, refl, sym, true, ℕ, ◌&&◌, ◌++◌, ◌+◌, ◌<◌, ◌||◌, ◌∙◌, ◌∷◌, ◌≡◌, ◌≤◌, ◌⊎◌}
 use Rattle.std.specs.Prelude.{◌&&◌}
 

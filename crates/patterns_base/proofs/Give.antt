@@ -10,7 +10,7 @@ use Rattle.ir_tree.specs.Sites.{visible}
 use Rattle.ir_tree.specs.Edits.{each_head, put_values, with_value_replaced}
 use Rattle.ir_tree.specs.WellFormed.{ModuleOf}
 use Rattle.ir_tree.proofs.Replaced.{old_unused}
-use Rattle.ir_tree_laws.specs.Reasons.{unused_outside, users_see}
+use Rattle.ir_tree_laws.specs.Reasons.{unused_outside, is_visible_to_users}
 use Rattle.ir_tree_laws.specs.Values.{has_value}
 use Rattle.ir_tree_laws.proofs.Around.{stand_present}
 use Rattle.ir_tree_laws.proofs.Members.{stand}
@@ -45,7 +45,7 @@ module _ {N T A : Type 0} (isolated : N → Bool) where
         first : (k : ℕ) → k < 1 → uses_of (Result x k) (with_value_replaced (Result x 0) v m.tree) ≡ []
         first k l = subst (λ j. uses_of (Result x j) (with_value_replaced (Result x 0) v m.tree) ≡ []) (let e : 0 ≡ k = omega (arith, l) in e) (old_unused (Result x 0) v (differs isolated x insertion m s v seen 0) m.tree)
 
-    pub given_users : users_see isolated (Result x 0) v m.tree ≡ true
+    pub given_users : is_visible_to_users isolated (Result x 0) v m.tree ≡ true
     given_users = users_see_it isolated m.tree s.wellformed.distinct s.wellformed.wellformed.visible x 0 v seen
 
     pub given_is : has_value v m.tree ≡ true

@@ -14,7 +14,7 @@ use Rattle.ir_tree.specs.Sites.{visible}
 use Rattle.ir_tree.specs.Edits.{each_head, at, put_operand, put_values, with_operand, with_value_replaced}
 use Rattle.ir_tree.specs.WellFormed.{ModuleOf, IsWellFormed}
 use Rattle.ir_tree.proofs.Replaced.{same_value_true}
-use Rattle.ir_tree_laws.specs.Stands.{StandOf, stand_id, stands, dominated_by, edit_step, edit_stand}
+use Rattle.ir_tree_laws.specs.Stands.{OpWithPathOf, op_with_path_id, stands, dominated_by, edit_step, edit_stand}
 use Rattle.ir_tree_laws.specs.Members.{In}
 use Rattle.ir_tree_laws.specs.Reasons.{value_reason, operand_reason, set_operand_reason}
 use Rattle.ir_tree_laws.proofs.Listed.{bool_cases, in_map}
@@ -31,9 +31,9 @@ use Rattle.ir_tree.proofs.Facts.{head_each}
 module _ {N T A : Type 0} (isolated : N → Bool) where
   module _ (f : HeadOf N T A → HeadOf N T A) (alike : (h : HeadOf N T A) → Alike (f h) h) where
     pub dominated_by_headed : (t : OpOf N T A) (x : ℕ) (v : Value) → visible isolated (each_head f t) x v ≡ visible isolated t x v
-    dominated_by_headed t x v = stands_visible isolated (each_head f t) x v ∙ ap (list_any (λ (s : StandOf N T A). eqb (stand_id s) x && dominated_by isolated s.path v)) (each_stands f [] t) ∙ go (stands [] t) ∙ sym (stands_visible isolated t x v)
+    dominated_by_headed t x v = stands_visible isolated (each_head f t) x v ∙ ap (list_any (λ (s : OpWithPathOf N T A). eqb (op_with_path_id s) x && dominated_by isolated s.path v)) (each_stands f [] t) ∙ go (stands [] t) ∙ sym (stands_visible isolated t x v)
       where
-        go : (ss : List (StandOf N T A)) → list_any (λ (s : StandOf N T A). eqb (stand_id s) x && dominated_by isolated s.path v) (map (edit_stand f) ss) ≡ list_any (λ (s : StandOf N T A). eqb (stand_id s) x && dominated_by isolated s.path v) ss
+        go : (ss : List (OpWithPathOf N T A)) → list_any (λ (s : OpWithPathOf N T A). eqb (op_with_path_id s) x && dominated_by isolated s.path v) (map (edit_stand f) ss) ≡ list_any (λ (s : OpWithPathOf N T A). eqb (op_with_path_id s) x && dominated_by isolated s.path v) ss
         go [] = refl
         go (s ∷ ss) = λ i. (eqb (each_id f alike s.here i) x && each_dominated_by f alike isolated s.path v i) || go ss i
 
@@ -58,7 +58,7 @@ module _ {N T A : Type 0} (isolated : N → Bool) where
   not_root x insertion m s = elim (bool_cases (eqb (head m.tree).id x)) [
     | inr k ↦ k
     | inl k ↦ (let same = same_stand m.tree s.wellformed.distinct (stand m.tree []) (stand s.at.here (s.at.step_in ∷ s.at.path)) (itself [] m.tree) s.at.there (eqb-true (head m.tree).id x k ∙ sym s.at.id) in
-        let bad : [] ≡ s.at.step_in ∷ s.at.path = ap (λ (z : StandOf N T A). z.path) same in
+        let bad : [] ≡ s.at.step_in ∷ s.at.path = ap (λ (z : OpWithPathOf N T A). z.path) same in
         absurd cc)
   ]
 

@@ -7,7 +7,7 @@ use Rattle.ir_tree.specs.Tree.{OpOf, head}
 use Rattle.ir_tree.specs.Ids.{HasDistinctIds}
 use Rattle.ir_tree.specs.Frames.{owner_of}
 use Rattle.ir_tree.specs.Sites.{arguments, shows, results_of}
-use Rattle.ir_tree_laws.specs.Stands.{StepOf, StandOf, stand_id, stands, dominated_by, gone_in, is_gone}
+use Rattle.ir_tree_laws.specs.Stands.{StepOf, OpWithPathOf, op_with_path_id, stands, dominated_by, gone_in, is_gone}
 use Rattle.ir_tree_laws.specs.Members.{In}
 use Rattle.ir_tree_laws.proofs.Listed.{bool_cases, one_any, both, either, or_left, or_right}
 use Rattle.ir_tree_laws.proofs.Members.{stand, has_around, same_stand}
@@ -26,14 +26,14 @@ module _ {N T A : Type 0} (isolated : N → Bool) (x : ℕ) (t : OpOf N T A) (d 
     where
       outermost : In (stand p []) (stands [] t) → (head t).id ≡ (head p).id
       outermost h = elim (has_around [] t (stand p []) h) [
-        | inl k ↦ ap (λ (z : StandOf N T A). stand_id z) (sym k)
+        | inl k ↦ ap (λ (z : OpWithPathOf N T A). op_with_path_id z) (sym k)
         | inr w ↦ (let bad : [] ≡ w.0 ∷ w.1 = w.2 in absurd cc)
       ]
   inside_goes o p (a ∷ q) h (inl e) = or_left (eqb (head p).id x) (gone_in x a.parent q) (eq-eqb (head p).id x e)
 
   -- a value of x, or of an operation inside x, that dominates an operation outside is a result of x
   pub seen_outside : (o : OpOf N T A) (path : List (StepOf N T A)) → In (stand o path) (stands [] t) → gone_in x o path ≡ false → (v : Value) → dominated_by isolated path v ≡ true
-      → (u : StandOf N T A) → In u (stands [] t) → (owner_of v).0 ≡ stand_id u → is_gone x u ≡ true → IsResult v
+      → (u : OpWithPathOf N T A) → In u (stands [] t) → (owner_of v).0 ≡ op_with_path_id u → is_gone x u ≡ true → IsResult v
   seen_outside o [] h g v e u m id gone = absurd (true≢false (sym e))
   seen_outside o (a ∷ q) h g v e u m id gone =
       elim (either (list_any (λ f. shows v (results_of f)) a.preceding) _ e) [
@@ -48,7 +48,7 @@ module _ {N T A : Type 0} (isolated : N → Bool) (x : ℕ) (t : OpOf N T A) (d 
         ]
       ]
     where
-      insertion : (f : OpOf N T A) → In f a.preceding → (v : Value) → shows v (results_of f) ≡ true → (owner_of v).0 ≡ stand_id u → IsResult v
+      insertion : (f : OpOf N T A) → In f a.preceding → (v : Value) → shows v (results_of f) ≡ true → (owner_of v).0 ≡ op_with_path_id u → IsResult v
       insertion f i (Arg y r k) e id = absurd (true≢false (sym e))
       insertion f i (Result y k) e id =
           let b = stands_before t o f a q h i in
@@ -60,7 +60,7 @@ module _ {N T A : Type 0} (isolated : N → Bool) (x : ℕ) (t : OpOf N T A) (d 
             | inr j ↦ absurd (true≢false (sym (or_right (eqb (head o).id x) (gone_in x a.parent q) (ap (λ z. gone_in x z q) (sym b.parent) ∙ j)) ∙ g))
           ]
 
-      args : (v : Value) → shows v (arguments (head a.parent).id a.region (length a.args)) ≡ true → (owner_of v).0 ≡ stand_id u → gone_in x a.parent q ≡ true
+      args : (v : Value) → shows v (arguments (head a.parent).id a.region (length a.args)) ≡ true → (owner_of v).0 ≡ op_with_path_id u → gone_in x a.parent q ≡ true
       args (Result y k) e id = absurd (true≢false (sym e))
       args (Arg y r k) e id =
           let up = (around_there t o a q h).1 in

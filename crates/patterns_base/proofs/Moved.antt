@@ -15,7 +15,7 @@ use Rattle.ir_tree.specs.Sites.{arguments, shows, results_of, visible, operands_
 use Rattle.ir_tree.specs.Places.{put, without, shifted}
 use Rattle.ir_tree.specs.WellFormed.{ModuleOf}
 use Rattle.ir_tree.proofs.Replaced.{same_value_refl}
-use Rattle.ir_tree_laws.specs.Stands.{StepOf, StandOf, stand_id, stands, regions_stands, region_stands, ops_stands, dominated_by, gone_in, left_stand, left_step, dropping, table_in}
+use Rattle.ir_tree_laws.specs.Stands.{StepOf, OpWithPathOf, op_with_path_id, stands, regions_stands, region_stands, ops_stands, dominated_by, gone_in, left_stand, left_step, dropping, table_in}
 use Rattle.ir_tree_laws.specs.Tables.{table_of}
 use Rattle.ir_tree_laws.specs.Members.{In}
 use Rattle.ir_tree_laws.specs.Reads.{around, is_within}
@@ -50,19 +50,19 @@ same_option (Some x) = eq-eqb x x refl
 module _ {N T A : Type 0} where
   -- an operation inside another is at least as deep
   mutual
-    pub deeper : (p : List (StepOf N T A)) (t : OpOf N T A) (s : StandOf N T A) → In s (stands p t) → length p ≤ length s.path
-    deeper p (op h rs) s (inl e) = (let l = ap (λ (z : StandOf N T A). length z.path) e in omega (arith, l))
+    pub deeper : (p : List (StepOf N T A)) (t : OpOf N T A) (s : OpWithPathOf N T A) → In s (stands p t) → length p ≤ length s.path
+    deeper p (op h rs) s (inl e) = (let l = ap (λ (z : OpWithPathOf N T A). length z.path) e in omega (arith, l))
     deeper p (op h rs) s (inr k) = regions_deeper (op h rs) p 0 rs s k
 
-    regions_deeper : (o : OpOf N T A) (p : List (StepOf N T A)) (r : ℕ) (rs : RegionsOf N T A) (s : StandOf N T A) → In s (regions_stands o p r rs) → length p ≤ length s.path
+    regions_deeper : (o : OpOf N T A) (p : List (StepOf N T A)) (r : ℕ) (rs : RegionsOf N T A) (s : OpWithPathOf N T A) → In s (regions_stands o p r rs) → length p ≤ length s.path
     regions_deeper o p r no_regions s k = absurd k
     regions_deeper o p r (region g rs) s k = elim (in_parts s (region_stands o p r g) (regions_stands o p (r + 1) rs) k) [ inl l ↦ region_deeper o p r g s l | inr l ↦ regions_deeper o p (r + 1) rs s l ]
 
-    region_deeper : (o : OpOf N T A) (p : List (StepOf N T A)) (r : ℕ) (g : RegionOf N T A) (s : StandOf N T A) → In s (region_stands o p r g) → length p ≤ length s.path
+    region_deeper : (o : OpOf N T A) (p : List (StepOf N T A)) (r : ℕ) (g : RegionOf N T A) (s : OpWithPathOf N T A) → In s (region_stands o p r g) → length p ≤ length s.path
     region_deeper o p r empty s k = absurd k
     region_deeper o p r (block args os) s k = ops_deeper o p r args [] os s k
 
-    ops_deeper : (o : OpOf N T A) (p : List (StepOf N T A)) (r : ℕ) (args : List T) (preceding : List (OpOf N T A)) (os : OpsOf N T A) (s : StandOf N T A) → In s (ops_stands o p r args preceding os) → length p ≤ length s.path
+    ops_deeper : (o : OpOf N T A) (p : List (StepOf N T A)) (r : ℕ) (args : List T) (preceding : List (OpOf N T A)) (os : OpsOf N T A) (s : OpWithPathOf N T A) → In s (ops_stands o p r args preceding os) → length p ≤ length s.path
     ops_deeper o p r args preceding no_ops s k = absurd k
     ops_deeper o p r args preceding (next q os) s k = elim (in_parts s (stands (step o r args preceding os ∷ p) q) (ops_stands o p r args (preceding ++ q ∷ []) os) k) [
       | inl l ↦ (let n = deeper (step o r args preceding os ∷ p) q s l in omega (arith, n))
@@ -83,29 +83,29 @@ module _ {N T A : Type 0} where
       ])
     ]
 
-    abbrev pub Was : StandOf N T A → List (StandOf N T A) → Type 0
-    Was s ss = (z : StandOf N T A) × In z ss × (z.here ≡ s.here) × DominatedByMore z.path s.path
+    abbrev pub Was : OpWithPathOf N T A → List (OpWithPathOf N T A) → Type 0
+    Was s ss = (z : OpWithPathOf N T A) × In z ss × (z.here ≡ s.here) × DominatedByMore z.path s.path
 
-    wider : (s : StandOf N T A) (ss us : List (StandOf N T A)) → ((z : StandOf N T A) → In z ss → In z us) → Was s ss → Was s us
+    wider : (s : OpWithPathOf N T A) (ss us : List (OpWithPathOf N T A)) → ((z : OpWithPathOf N T A) → In z ss → In z us) → Was s ss → Was s us
     wider s ss us f w = (w.0, f w.0 w.1, w.2, w.3)
 
     mutual
-      pub restands : (p q : List (StepOf N T A)) → DominatedByMore p q → (t : OpOf N T A) (s : StandOf N T A) → In s (stands q t) → Was s (stands p t)
-      restands p q f (op h rs) s (inl e) = (stand (op h rs) p, inl refl, ap (λ (z : StandOf N T A). z.here) (sym e), λ v k l. ap (λ (z : StandOf N T A). dominated_by isolated z.path v) e ∙ f v k l)
+      pub restands : (p q : List (StepOf N T A)) → DominatedByMore p q → (t : OpOf N T A) (s : OpWithPathOf N T A) → In s (stands q t) → Was s (stands p t)
+      restands p q f (op h rs) s (inl e) = (stand (op h rs) p, inl refl, ap (λ (z : OpWithPathOf N T A). z.here) (sym e), λ v k l. ap (λ (z : OpWithPathOf N T A). dominated_by isolated z.path v) e ∙ f v k l)
       restands p q f (op h rs) s (inr k) = wider s (regions_stands (op h rs) p 0 rs) (stands p (op h rs)) (λ z l. inr l) (regions_restand (op h rs) p q f 0 rs s k)
 
-      regions_restand : (o : OpOf N T A) (p q : List (StepOf N T A)) → DominatedByMore p q → (r : ℕ) (rs : RegionsOf N T A) (s : StandOf N T A) → In s (regions_stands o q r rs) → Was s (regions_stands o p r rs)
+      regions_restand : (o : OpOf N T A) (p q : List (StepOf N T A)) → DominatedByMore p q → (r : ℕ) (rs : RegionsOf N T A) (s : OpWithPathOf N T A) → In s (regions_stands o q r rs) → Was s (regions_stands o p r rs)
       regions_restand o p q f r no_regions s k = absurd k
       regions_restand o p q f r (region g rs) s k = elim (in_parts s (region_stands o q r g) (regions_stands o q (r + 1) rs) k) [
         | inl l ↦ wider s (region_stands o p r g) (region_stands o p r g ++ regions_stands o p (r + 1) rs) (λ z m. in_left z (region_stands o p r g) (regions_stands o p (r + 1) rs) m) (region_restand o p q f r g s l)
         | inr l ↦ wider s (regions_stands o p (r + 1) rs) (region_stands o p r g ++ regions_stands o p (r + 1) rs) (λ z m. in_right z (region_stands o p r g) (regions_stands o p (r + 1) rs) m) (regions_restand o p q f (r + 1) rs s l)
       ]
 
-      region_restand : (o : OpOf N T A) (p q : List (StepOf N T A)) → DominatedByMore p q → (r : ℕ) (g : RegionOf N T A) (s : StandOf N T A) → In s (region_stands o q r g) → Was s (region_stands o p r g)
+      region_restand : (o : OpOf N T A) (p q : List (StepOf N T A)) → DominatedByMore p q → (r : ℕ) (g : RegionOf N T A) (s : OpWithPathOf N T A) → In s (region_stands o q r g) → Was s (region_stands o p r g)
       region_restand o p q f r empty s k = absurd k
       region_restand o p q f r (block args os) s k = ops_restand o p q f r args [] os s k
 
-      ops_restand : (o : OpOf N T A) (p q : List (StepOf N T A)) → DominatedByMore p q → (r : ℕ) (args : List T) (preceding : List (OpOf N T A)) (os : OpsOf N T A) (s : StandOf N T A) → In s (ops_stands o q r args preceding os) → Was s (ops_stands o p r args preceding os)
+      ops_restand : (o : OpOf N T A) (p q : List (StepOf N T A)) → DominatedByMore p q → (r : ℕ) (args : List T) (preceding : List (OpOf N T A)) (os : OpsOf N T A) (s : OpWithPathOf N T A) → In s (ops_stands o q r args preceding os) → Was s (ops_stands o p r args preceding os)
       ops_restand o p q f r args preceding no_ops s k = absurd k
       ops_restand o p q f r args preceding (next u os) s k = elim (in_parts s (stands (step o r args preceding os ∷ q) u) (ops_stands o q r args (preceding ++ u ∷ []) os) k) [
         | inl l ↦ wider s (stands (step o r args preceding os ∷ p) u) (stands (step o r args preceding os ∷ p) u ++ ops_stands o p r args (preceding ++ u ∷ []) os) (λ z m. in_left z (stands (step o r args preceding os ∷ p) u) (ops_stands o p r args (preceding ++ u ∷ []) os) m)
@@ -134,7 +134,7 @@ module _ {N T A : Type 0} (isolated is_table : N → Bool) (x : ℕ) (insertion 
       let w = gone_within yi t p o h e in
       let same = same_stand t d (stand w.here (w.step_in ∷ w.path)) (stand y yp) w.there there w.id in
       let l = deeper (w.step_in ∷ w.path) w.here (stand o p) w.inner in
-      let k = ap (λ (z : StandOf N T A). length z.path) same in
+      let k = ap (λ (z : OpWithPathOf N T A). length z.path) same in
       omega (arith, l, k)
 
   stays : (o : OpOf N T A) (p : List (StepOf N T A)) → In (stand o p) (stands [] m.tree) → length p < length (b ∷ s.at.step_in ∷ s.at.path) → gone_in (head y).id o p ≡ false
@@ -149,7 +149,7 @@ module _ {N T A : Type 0} (isolated is_table : N → Bool) (x : ℕ) (insertion 
   pub y_root : eqb (head m.tree).id (head y).id ≡ false
   y_root = elim (bool_cases (eqb (head t).id yi)) [
     | inr k ↦ k
-    | inl k ↦ (let same = same_stand t d (stand t []) (stand y yp) (itself [] t) there (eqb-true (head t).id yi k) in let bad : [] ≡ yp = ap (λ (z : StandOf N T A). z.path) same in absurd cc)
+    | inl k ↦ (let same = same_stand t d (stand t []) (stand y yp) (itself [] t) there (eqb-true (head t).id yi k) in let bad : [] ≡ yp = ap (λ (z : OpWithPathOf N T A). z.path) same in absurd cc)
   ]
 
   -- neither x nor an operation around it is inside y
@@ -159,7 +159,7 @@ module _ {N T A : Type 0} (isolated is_table : N → Bool) (x : ℕ) (insertion 
     | inl k ↦ (let w = present_stand yp y (head o).id k in
         let same = same_stand t d w.0 (stand o p) (within y yp w.0 w.1 [] t there) h w.2 in
         let n = deeper yp y w.0 w.1 in
-        let e = ap (λ (z : StandOf N T A). length z.path) same in
+        let e = ap (λ (z : OpWithPathOf N T A). length z.path) same in
         absurd (omega (arith, l, n, e)))
   ]
 
@@ -215,7 +215,7 @@ module _ {N T A : Type 0} (isolated is_table : N → Bool) (x : ℕ) (insertion 
         | inr k ↦ k
         | inl k ↦ (let w = seen_by isolated t d (stand s.at.here (s.at.step_in ∷ s.at.path)) s.at.there v e in
             let same = same_stand t d w.owner (stand y yp) w.there there (sym w.id ∙ eqb-true (owner_of v).0 yi k) in
-            let l = ap (λ (z : StandOf N T A). length z.path) same in
+            let l = ap (λ (z : OpWithPathOf N T A). length z.path) same in
             absurd (elim w.nearer [
               | inl n ↦ omega (arith, l, n)
               | inr n ↦ (let f = ap length n.3 in let g = ap length n.4 in omega (arith, l, f, g))
@@ -237,7 +237,7 @@ module _ {N T A : Type 0} (isolated is_table : N → Bool) (x : ℕ) (insertion 
         let g = stands_before t o w.0 c q h w.1 in
         let id = eqb-true yi (head w.0).id (both (eqb yi (head w.0).id) _ w.2).0 in
         let same = same_stand t d (stand w.0 (g.step_in ∷ q)) (stand y yp) g.there there (sym id) in
-        let n = ap (λ (z : StandOf N T A). length z.path) same in
+        let n = ap (λ (z : OpWithPathOf N T A). length z.path) same in
         stays c.parent q (around_there t o c q h).1 (omega (arith, n)))
     | inr l ↦ later (both (not (isolated (head c.parent).name)) (dominated_by isolated q (Result yi k)) l).1
   ]
@@ -257,10 +257,10 @@ module _ {N T A : Type 0} (isolated is_table : N → Bool) (x : ℕ) (insertion 
   around_after o c q h g i v e =
       let l : In (left_stand yi (stand o (c ∷ q))) (stands [] (without yi after)) = subst (λ z. In (left_stand yi (stand o (c ∷ q))) (stands [] z)) (sym after_rest) (left_member yi t (stand o (c ∷ q)) h g) in
       let w = member_left yi after (left_stand yi (stand o (c ∷ q))) l in
-      let id : (head o).id ≡ stand_id w.0 = ap (λ h. h.id) (sym (same_head yi (dropping yi) o)) ∙ ap (λ (z : StandOf N T A). stand_id z) w.3 ∙ ap (λ h. h.id) (same_head yi (dropping yi) w.0.here) in
-      go w.0 w.1 id w.0.path refl (ap (λ (z : StandOf N T A). z.path) w.3)
+      let id : (head o).id ≡ op_with_path_id w.0 = ap (λ h. h.id) (sym (same_head yi (dropping yi) o)) ∙ ap (λ (z : OpWithPathOf N T A). op_with_path_id z) w.3 ∙ ap (λ h. h.id) (same_head yi (dropping yi) w.0.here) in
+      go w.0 w.1 id w.0.path refl (ap (λ (z : OpWithPathOf N T A). z.path) w.3)
     where
-      go : (z : StandOf N T A) → In z (stands [] after) → (head o).id ≡ stand_id z → (p : List (StepOf N T A)) → z.path ≡ p → map (left_step yi) (c ∷ q) ≡ map (left_step yi) z.path → visible isolated after (head o).id v ≡ true
+      go : (z : OpWithPathOf N T A) → In z (stands [] after) → (head o).id ≡ op_with_path_id z → (p : List (StepOf N T A)) → z.path ≡ p → map (left_step yi) (c ∷ q) ≡ map (left_step yi) z.path → visible isolated after (head o).id v ≡ true
       go z k id [] r f = (let bad : map (left_step yi) (c ∷ q) ≡ [] = f ∙ ap (map (left_step yi)) r in absurd cc)
       go z k id (a ∷ p) r f =
           let two : left_step yi c ∷ map (left_step yi) q ≡ left_step yi a ∷ map (left_step yi) p = f ∙ ap (map (left_step yi)) r in
@@ -280,7 +280,7 @@ module _ {N T A : Type 0} (isolated is_table : N → Bool) (x : ℕ) (insertion 
           let g = stands_before t o w.0 c q h w.1 in
           let id = eqb-true yi (head w.0).id (both (eqb yi (head w.0).id) _ w.2).0 in
           let same = same_stand t d (stand w.0 (g.step_in ∷ q)) (stand y yp) g.there there (sym id) in
-          let path : g.step_in ∷ q ≡ yp = ap (λ (z : StandOf N T A). z.path) same in
+          let path : g.step_in ∷ q ≡ yp = ap (λ (z : OpWithPathOf N T A). z.path) same in
           let one : g.step_in ≡ b = cc in
           let up : c.parent ≡ s.at.here = sym g.parent ∙ ap (λ (z : StepOf N T A). z.parent) one ∙ around_it in
           around_after o c q h (users_outside k o (c ∷ q) h e) (ap (λ (z : OpOf N T A). isolated (head z).name) up ∙ opened) (Result yi k)
@@ -293,10 +293,10 @@ module _ {N T A : Type 0} (isolated is_table : N → Bool) (x : ℕ) (insertion 
         unnot false h = refl
         unnot true h = absurd (true≢false (sym h))
 
-    users_see : (k : ℕ) → k < length (head y).results → list_all (λ u. visible isolated (put insertion y (without (head y).id m.tree)) u.0 (Result (head y).id k)) (uses_of (Result (head y).id k) m.tree) ≡ true
-    users_see k n = each_all (λ u. visible isolated after u.0 (Result yi k)) (uses_of (Result yi k) t) (λ u h.
+    is_visible_to_users : (k : ℕ) → k < length (head y).results → list_all (λ u. visible isolated (put insertion y (without (head y).id m.tree)) u.0 (Result (head y).id k)) (uses_of (Result (head y).id k) m.tree) ≡ true
+    is_visible_to_users k n = each_all (λ u. visible isolated after u.0 (Result yi k)) (uses_of (Result yi k) t) (λ u h.
         let z = user (Result yi k) t u h in
-        let own = all_each (dominated_by isolated z.0.path) (head z.0.here).operands (all_each (λ (z : StandOf N T A). list_all (dominated_by isolated z.path) (head z.here).operands) (stands [] t) (sym (stands_operands isolated t) ∙ s.wellformed.wellformed.visible) z.0 z.1) (Result yi k) z.3 in
+        let own = all_each (dominated_by isolated z.0.path) (head z.0.here).operands (all_each (λ (z : OpWithPathOf N T A). list_all (dominated_by isolated z.path) (head z.here).operands) (stands [] t) (sym (stands_operands isolated t) ∙ s.wellformed.wellformed.visible) z.0 z.1) (Result yi k) z.3 in
         ap (λ j. visible isolated after j (Result yi k)) z.2 ∙ still_seen k n z.0.here z.0.path z.1 own)
 
     -- no argument of the block is used
@@ -318,7 +318,7 @@ module _ {N T A : Type 0} (isolated is_table : N → Bool) (x : ℕ) (insertion 
         ]
       ]
 
-      not_argument : (z : StandOf N T A) → In z (stands [] m.tree) → (v : Value) → In v (head z.here).operands → shows v (arguments (head b.parent).id b.region (length b.args)) ≡ false
+      not_argument : (z : OpWithPathOf N T A) → In z (stands [] m.tree) → (v : Value) → In v (head z.here).operands → shows v (arguments (head b.parent).id b.region (length b.args)) ≡ false
       not_argument z h (Result i k) e = refl
       not_argument z h (Arg i r k) e = elim (bool_cases (shows (Arg i r k) (arguments (head b.parent).id b.region (length b.args)))) [
         | inr l ↦ l
@@ -327,8 +327,8 @@ module _ {N T A : Type 0} (isolated is_table : N → Bool) (x : ℕ) (insertion 
             let own : i ≡ x = eqb-true i (head b.parent).id c.0 ∙ ap (λ (z : OpOf N T A). (head z).id) around_it ∙ s.at.id in
             let re = eqb-true r b.region (both (eqb r b.region) _ c.1).0 in
             let is : Arg i r k ≡ Arg x b.region k = (λ j. Arg (own j) (re j) k) in
-            let n = used_here (Arg x b.region k) (stand_id z) 0 (head z.here).operands (Arg x b.region k) (subst (λ w. In w (head z.here).operands) is e) (same_value_refl (Arg x b.region k)) in
-            subst (In (stand_id z, n.0)) (stands_uses (Arg x b.region k) [] t ∙ spared k) (in_gather (λ (z : StandOf N T A). operand_uses (Arg x b.region k) (stand_id z) 0 (head z.here).operands) (stand_id z, n.0) z (stands [] t) h n.1))
+            let n = used_here (Arg x b.region k) (op_with_path_id z) 0 (head z.here).operands (Arg x b.region k) (subst (λ w. In w (head z.here).operands) is e) (same_value_refl (Arg x b.region k)) in
+            subst (In (op_with_path_id z, n.0)) (stands_uses (Arg x b.region k) [] t ∙ spared k) (in_gather (λ (z : OpWithPathOf N T A). operand_uses (Arg x b.region k) (op_with_path_id z) 0 (head z.here).operands) (op_with_path_id z, n.0) z (stands [] t) h n.1))
       ]
 
       abbrev yl : List (StepOf N T A)
@@ -340,37 +340,37 @@ module _ {N T A : Type 0} (isolated is_table : N → Bool) (x : ℕ) (insertion 
       inside_dominated_by : every (λ q. list_all (visible isolated (put insertion y (without (head y).id m.tree)) (head q).id) (head q).operands) y ≡ true
       inside_dominated_by =
           sym (stands_every (λ q. list_all (visible isolated after (head q).id) (head q).operands) yl y)
-          ∙ each_all (λ (z : StandOf N T A). list_all (visible isolated after (head z.here).id) (head z.here).operands) (stands yl y) (λ z h.
+          ∙ each_all (λ (z : OpWithPathOf N T A). list_all (visible isolated after (head z.here).id) (head z.here).operands) (stands yl y) (λ z h.
           let w = restands isolated Other yp yl (λ v n e. sym (visible_there isolated after after_distinct (stand y yl) y_there v) ∙ dominated_by_there v n e) y z h in
           let was = within y yp w.0 w.1 [] t there in
           each_all (visible isolated after (head z.here).id) (head z.here).operands (λ v i.
           let j : In v (head w.0.here).operands = subst (λ (q : OpOf N T A). In v (head q).operands) (sym w.2) i in
           visible_there isolated after after_distinct z (within y yl z h [] after y_there) v
-          ∙ w.3 v (not_argument w.0 was v j) (all_each (dominated_by isolated w.0.path) (head w.0.here).operands (all_each (λ (z : StandOf N T A). list_all (dominated_by isolated z.path) (head z.here).operands) (stands [] t) (sym (stands_operands isolated t) ∙ s.wellformed.wellformed.visible) w.0 was) v j)))
+          ∙ w.3 v (not_argument w.0 was v j) (all_each (dominated_by isolated w.0.path) (head w.0.here).operands (all_each (λ (z : OpWithPathOf N T A). list_all (dominated_by isolated z.path) (head z.here).operands) (stands [] t) (sym (stands_operands isolated t) ∙ s.wellformed.wellformed.visible) w.0 was) v j)))
 
       all_see : operands_visible isolated (shifted (head y).id insertion m.tree) ≡ true
       all_see = shift_dominated_by isolated yi insertion t y d y_found y_root point outside s.wellformed.wellformed.visible
           (subst (λ z. every (λ q. list_all (visible isolated z (head q).id) (head q).operands) y ≡ true) (sym after_is) inside_dominated_by)
-          (λ k n. subst (λ z. list_all (λ u. visible isolated z u.0 (Result yi k)) (uses_of (Result yi k) t) ≡ true) (sym after_is) (users_see k n))
+          (λ k n. subst (λ z. list_all (λ u. visible isolated z u.0 (Result yi k)) (uses_of (Result yi k) t) ≡ true) (sym after_is) (is_visible_to_users k n))
 
       -- its depth
       levels : fits_around (depth y) (around insertion.parent m.tree) ≡ true
       levels =
           ap (fits_around (depth y)) (placed.around_is x insertion t d s.at)
           ∙ le-leb (length s.at.path + 1 + depth y) most_around (
-          let g = greatest_within (λ (z : StandOf N T A). length z.path) most_around (stands yp y) (λ z h. (from_wellformed isolated t s.wellformed.wellformed).shallow z (within y yp z h [] t there)) in
+          let g = greatest_within (λ (z : OpWithPathOf N T A). length z.path) most_around (stands yp y) (λ z h. (from_wellformed isolated t s.wellformed.wellformed).shallow z (within y yp z h [] t there)) in
           let e = stands_depth yp y in
           omega (arith, g, e))
 
       module _ (plain : is_table (head s.at.here).name ≡ false) where
         table_was : table_of is_table (head y).id m.tree ≡ Some (table_in is_table (s.at.step_in ∷ s.at.path))
         table_was =
-            sym (stands_table is_table yi [] t) ∙ ap (option_map (λ (z : StandOf N T A). table_in is_table z.path)) (stand_of_member t d (stand y yp) there)
+            sym (stands_table is_table yi [] t) ∙ ap (option_map (λ (z : OpWithPathOf N T A). table_in is_table z.path)) (stand_of_member t d (stand y yp) there)
             ∙ ap (λ c. Some (cond c (Some (head b.parent).id) (table_in is_table (s.at.step_in ∷ s.at.path)))) (ap (λ (z : OpOf N T A). is_table (head z).name) around_it ∙ plain)
 
         table_of_x : Some (table_in is_table (s.at.step_in ∷ s.at.path)) ≡ table_of is_table x (put insertion y (without (head y).id m.tree))
         table_of_x =
-            sym (ap (λ z. table_of is_table z t) (sym s.at.id) ∙ sym (stands_table is_table (head s.at.here).id [] t) ∙ ap (option_map (λ (z : StandOf N T A). table_in is_table z.path)) (stand_of_member t d (stand s.at.here (s.at.step_in ∷ s.at.path)) s.at.there))
+            sym (ap (λ z. table_of is_table z t) (sym s.at.id) ∙ sym (stands_table is_table (head s.at.here).id [] t) ∙ ap (option_map (λ (z : OpWithPathOf N T A). table_in is_table z.path)) (stand_of_member t d (stand s.at.here (s.at.step_in ∷ s.at.path)) s.at.there))
             ∙ sym (table_stays yi t d x x_in is_table)
             ∙ ap (table_of is_table x) (sym after_rest)
             ∙ table_stays yi after after_distinct x (ap (has_id x) after_rest ∙ x_in) is_table

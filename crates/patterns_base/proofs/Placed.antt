@@ -11,7 +11,7 @@ use Rattle.ir_tree.specs.Ids.{HasDistinctIds, find, has_id}
 use Rattle.ir_tree.specs.Frames.{owner_of}
 use Rattle.ir_tree.specs.Sites.{shows, results_of, visible}
 use Rattle.ir_tree.specs.Places.{put, without, place_of, first_id}
-use Rattle.ir_tree_laws.specs.Stands.{StepOf, StandOf, stand_id, stands, ops_stands, dominated_by, place_in, table_in}
+use Rattle.ir_tree_laws.specs.Stands.{StepOf, OpWithPathOf, op_with_path_id, stands, ops_stands, dominated_by, place_in, table_in}
 use Rattle.ir_tree_laws.specs.Tables.{table_of}
 use Rattle.ir_tree_laws.specs.Members.{In}
 use Rattle.ir_tree_laws.specs.Reads.{around}
@@ -48,7 +48,7 @@ module _ {N T A : Type 0} where
       let u = member_of_place x place t e in
       go u.0 u.1 u.2 u.0.path refl u.3
     where
-      go : (u : StandOf N T A) → In u (stands [] t) → stand_id u ≡ x → (p : List (StepOf N T A)) → u.path ≡ p → place_in u.path ≡ Some place → Following x (record place { before = Some x }) t
+      go : (u : OpWithPathOf N T A) → In u (stands [] t) → op_with_path_id u ≡ x → (p : List (StepOf N T A)) → u.path ≡ p → place_in u.path ≡ Some place → Following x (record place { before = Some x }) t
       go u h i [] q e = (let bad : None ≡ Some place = sym (ap place_in q) ∙ e in absurd cc)
       go u h i (a ∷ p) q e =
           let one : Some (record { parent = (head a.parent).id; region = a.region; before = first_id a.rest }) ≡ Some place = sym (ap place_in q) ∙ e in
@@ -76,7 +76,7 @@ module _ {N T A : Type 0} where
     parent_is = ap (λ (p : Place). has_id p.parent t) s.place ∙ stand_present [] t (stand s.step_in.parent s.path) up
 
     pub around_is : around preceding.parent t ≡ Some (length s.path)
-    around_is = ap (λ (p : Place). around p.parent t) s.place ∙ sym (stands_around (head s.step_in.parent).id [] t) ∙ ap (option_map (λ (u : StandOf N T A). length u.path)) (stand_of_member t d (stand s.step_in.parent s.path) up)
+    around_is = ap (λ (p : Place). around p.parent t) s.place ∙ sym (stands_around (head s.step_in.parent).id [] t) ∙ ap (option_map (λ (u : OpWithPathOf N T A). length u.path)) (stand_of_member t d (stand s.step_in.parent s.path) up)
 
     -- an operation that may be inserted before x
     module _ (o : OpOf N T A) (may : MayPut preceding o t) where
@@ -154,7 +154,7 @@ module _ {N T A : Type 0} where
             sym (dominance_stays (head o).id (put preceding o t) distinct x (ap (has_id x) back ∙ there_still w) isolated v (not_new v e))
             ∙ ap (λ z. visible isolated z x v) back ∙ e
           where
-            there_still : (w : (u : StandOf N T A) × In u (stands [] t) × (stand_id u ≡ x) × (dominated_by isolated u.path v ≡ true)) → has_id x t ≡ true
+            there_still : (w : (u : OpWithPathOf N T A) × In u (stands [] t) × (op_with_path_id u ≡ x) × (dominated_by isolated u.path v ≡ true)) → has_id x t ≡ true
             there_still w = ap (λ z. has_id z t) (sym w.2) ∙ stand_present [] t w.0 w.1
 
         -- the values that dominate x dominate the new operation
@@ -192,5 +192,5 @@ module _ {N T A : Type 0} where
       pub table_next_to : (is_table : N → Bool) → table_of is_table x (put preceding o t) ≡ table_of is_table (head o).id (put preceding o t)
       table_next_to is_table =
           ap (λ z. table_of is_table z (put preceding o t)) (sym after_it.id)
-          ∙ sym (stands_table is_table (head after_it.it).id [] (put preceding o t)) ∙ ap (option_map (λ (z : StandOf N T A). table_in is_table z.path)) (stand_of_member (put preceding o t) distinct (stand after_it.it (b' ∷ there.path)) still)
-          ∙ sym (sym (stands_table is_table (head o).id [] (put preceding o t)) ∙ ap (option_map (λ (z : StandOf N T A). table_in is_table z.path)) (stand_of_member (put preceding o t) distinct (stand o (there.step_in ∷ there.path)) there.there))
+          ∙ sym (stands_table is_table (head after_it.it).id [] (put preceding o t)) ∙ ap (option_map (λ (z : OpWithPathOf N T A). table_in is_table z.path)) (stand_of_member (put preceding o t) distinct (stand after_it.it (b' ∷ there.path)) still)
+          ∙ sym (sym (stands_table is_table (head o).id [] (put preceding o t)) ∙ ap (option_map (λ (z : OpWithPathOf N T A). table_in is_table z.path)) (stand_of_member (put preceding o t) distinct (stand o (there.step_in ∷ there.path)) there.there))

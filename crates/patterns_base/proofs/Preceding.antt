@@ -6,7 +6,7 @@ use Rattle.ir_tree.specs.declared.value.Value.TheVariants.{Result}
 use Rattle.ir_tree.specs.Tree.{OpOf, OpsOf, next, head}
 use Rattle.ir_tree.specs.Ids.{HasDistinctIds}
 use Rattle.ir_tree.specs.Sites.{arguments, shows, results_of}
-use Rattle.ir_tree_laws.specs.Stands.{StepOf, StandOf, stands, ops_stands, dominated_by}
+use Rattle.ir_tree_laws.specs.Stands.{StepOf, OpWithPathOf, stands, ops_stands, dominated_by}
 use Rattle.ir_tree_laws.specs.Members.{In}
 use Rattle.ir_tree_laws.proofs.Listed.{one_any, any_one, in_left, both, both_hold, either, or_left, or_right}
 use Rattle.ir_tree_laws.proofs.Readings.{step}
@@ -62,7 +62,7 @@ module _ {N T A : Type 0} where
               let b = stands_before t u w.0 a q h w.1 in
               let id = eqb-true (head o).id (head w.0).id (both (eqb (head o).id (head w.0).id) _ w.2).0 in
               let same = same_stand t d (stand w.0 (b.step_in ∷ q)) (stand o p) b.there there (sym id) in
-              let path : b.step_in ∷ q ≡ p = ap (λ (z : StandOf N T A). z.path) same in
+              let path : b.step_in ∷ q ≡ p = ap (λ (z : OpWithPathOf N T A). z.path) same in
               nearer a b.step_in q b.between w.0 b.parent b.region b.args b.preceding (subst (λ l. dominated_by isolated l v ≡ true) (sym path) s))
           | inr m ↦ or_right (list_any (λ f. shows v (results_of f)) a.preceding) _ (or_right (shows v (arguments (head a.parent).id a.region (length a.args))) _
               (let c = both (not (isolated (head a.parent).name)) (dominated_by isolated q (Result (head o).id k)) m in

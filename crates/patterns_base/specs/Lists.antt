@@ -40,9 +40,9 @@ abbrev pub edits_meaning : ContextModel → List Coded → List Edit
 edits_meaning c es = map (λ e. edit_meaning c (numbered e)) es
 
 -- an edit was made in a module, or refused for its reason or because memory ran out
-abbrev pub Tried : Edit → Result (Unit {0}) Refusal → Module → Module → Type 0
-Tried e (Ok u) m n = (edit_reason e m ≡ None) × (n ≡ edited e m)
-Tried e (Err r) m n = ((r ≡ Memory) ⊎ (edit_reason e m ≡ Some r)) × (n ≡ m)
+abbrev pub IsMadeOrRefused : Edit → Result (Unit {0}) Refusal → Module → Module → Type 0
+IsMadeOrRefused e (Ok u) m n = (edit_reason e m ≡ None) × (n ≡ edited e m)
+IsMadeOrRefused e (Err r) m n = ((r ≡ Memory) ⊎ (edit_reason e m ≡ Some r)) × (n ≡ m)
 
 -- one of some edits, made one after another, is refused for its reason
 pub record IsRefusedAmong (es : List Edit) (m : Module) (r : Refusal) : Type 0 where

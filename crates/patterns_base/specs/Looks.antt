@@ -16,7 +16,7 @@ use Rattle.ir_tree.specs.Meaning.{Operation}
 use Rattle.ir_tree_laws.specs.Values.{region_at, type_of_value}
 use Rattle.patterns_laws.specs.integers.Folds.{Known, fold_of, property_of}
 use Rattle.ir_types.specs.SameTypes.{same_type}
-use Rattle.ir_verify.specs.Diagnostics.{broken_at, told_at}
+use Rattle.ir_verify.specs.Diagnostics.{broken_at, reported_at}
 use Rattle.effects.specs.Dead.{is_dead}
 use Rattle.patterns_laws.specs.Keeps.{given}
 use Rattle.patterns_laws.specs.Words.{named, among}
@@ -48,7 +48,7 @@ is_verified t h = breaks_none (broken_at h.id t) && has_own_properties h
 -- whether an operation is in order: the verifier reports no rule for it, and each of its properties is inherent to its
 -- name. Each verified operation is in order. An operation outside the table may be in order without being verified
 unfoldable pub is_in_order : Operation → Header → Bool
-is_in_order t h = breaks_none (told_at h.id t) && has_own_properties h
+is_in_order t h = breaks_none (reported_at h.id t) && has_own_properties h
 
 -- whether an operation may be erased: none of its results is used, and it has no effect that others observe
 -- (`isOpTriviallyDead`)

@@ -21,7 +21,7 @@ use Rattle.rewriter.proofs.Calls.{stepped, committed, rolled_back}
 use Rattle.rewriter.proofs.Noted.{recorded_undone}
 use Rattle.rewriter.proofs.OpenMarks.{open_none}
 use Rattle.patterns_base.specs.declared.edit.Edit.{Edit as Coded}
-use Rattle.patterns_base.specs.Lists.{AllFit, Fits, IsWhy, Tried, edits_meaning, numbered}
+use Rattle.patterns_base.specs.Lists.{AllFit, Fits, IsWhy, IsMadeOrRefused, edits_meaning, numbered}
 use Rattle.patterns_lowering.specs.Runs.{Along, Noted}
 use Rattle.patterns_lowering.proofs.Journals.{marked_more, push_some, recorded_none, recorded_on, recorded_whole, surely}
 use Rattle.patterns_base.proofs.EditFacts.{edited_both, edits_more}
@@ -50,16 +50,16 @@ refused_why s t e r g = elim g.answer [
     go None is h = absurd (taken e s.held r h)
     go (Some q) is h = (let n : q ≡ r = cc in is ∙ ap Some n)
 
-pub tried_by : {A : Type 0} (s t : State) (e : Edit) (result : Result A Refusal) (plain : Result (Unit {0}) Refusal) → Goes s (Do e) (reply_of result) Nothing t → reply_of plain ≡ reply_of result → Tried e plain s.held t.held × (t.marks ≡ s.marks)
+pub tried_by : {A : Type 0} (s t : State) (e : Edit) (result : Result A Refusal) (plain : Result (Unit {0}) Refusal) → Goes s (Do e) (reply_of result) Nothing t → reply_of plain ≡ reply_of result → IsMadeOrRefused e plain s.held t.held × (t.marks ≡ s.marks)
 tried_by s t e (Ok a) (Ok u) g is = (let d = accepted_gives s t (Do e) Done Nothing g refl in ((d.0, d.1), d.2))
 tried_by s t e (Err r) (Err q) g is = (let d = refused_leaves s t (Do e) (Refused r) Nothing g refl in let n : r ≡ q = cc in ((elim (refused_why s t e r g) [ inl h ↦ inl (sym n ∙ h) | inr h ↦ inr (h ∙ ap Some n) ], d.0), d.1))
 tried_by s t e (Ok a) (Err q) g is = absurd cc
 tried_by s t e (Err r) (Ok u) g is = absurd cc
 
-pub made_by : (s t : State) (e : Edit) (x : ℕ) → Goes s (Do e) (DoneAs x) Nothing t → Tried e (Ok tt) s.held t.held × (t.marks ≡ s.marks)
+pub made_by : (s t : State) (e : Edit) (x : ℕ) → Goes s (Do e) (DoneAs x) Nothing t → IsMadeOrRefused e (Ok tt) s.held t.held × (t.marks ≡ s.marks)
 made_by s t e x g = (let d = accepted_gives s t (Do e) (DoneAs x) Nothing g refl in ((d.0, d.1), d.2))
 
-pub unmade_by : (s t : State) (e : Edit) (r : Refusal) → Goes s (Do e) (Refused r) Nothing t → Tried e (Err r) s.held t.held × (t.marks ≡ s.marks)
+pub unmade_by : (s t : State) (e : Edit) (r : Refusal) → Goes s (Do e) (Refused r) Nothing t → IsMadeOrRefused e (Err r) s.held t.held × (t.marks ≡ s.marks)
 unmade_by s t e r g = (let d = refused_leaves s t (Do e) (Refused r) Nothing g refl in ((refused_why s t e r g, d.0), d.1))
 
 module _ {B : Type 0} (meaning : B → Listener) where
@@ -94,7 +94,7 @@ module _ {B : Type 0} (meaning : B → Listener) where
   pub fits_next : (all rest : List Coded) (e : Coded) (a b : Benched B) → Carrying all (e ∷ rest) a b → Fits b.transaction.ctx e
   fits_next all rest e a b c = subst (λ z. Fits z e) (sym c.along.ctx) c.fit.0
 
-  pub carrying_more : Composes → (all rest : List Coded) (e : Coded) (a b d : Benched B) → Holds a.transaction.ctx → Carrying all (e ∷ rest) a b → Tried (edit_meaning b.transaction.ctx (numbered e)) (Ok tt) (module_held b.transaction) (module_held d.transaction) → Along meaning b d → Journaled meaning b d → Carrying all rest a d
+  pub carrying_more : Composes → (all rest : List Coded) (e : Coded) (a b d : Benched B) → Holds a.transaction.ctx → Carrying all (e ∷ rest) a b → IsMadeOrRefused (edit_meaning b.transaction.ctx (numbered e)) (Ok tt) (module_held b.transaction) (module_held d.transaction) → Along meaning b d → Journaled meaning b d → Carrying all rest a d
   carrying_more more all rest e a b d holds c tried along noted = record {
     done = c.done ++ e ∷ [];
     parts = append_assoc c.done (e ∷ []) rest ∙ c.parts;
@@ -107,7 +107,7 @@ module _ {B : Type 0} (meaning : B → Listener) where
   pub carrying_done : (all : List Coded) (a b : Benched B) → Carrying all [] a b → module_held b.transaction ≡ all_edited (edits_meaning a.transaction.ctx all) (module_held a.transaction)
   carrying_done all a b c = c.held ∙ ap (λ l. all_edited (edits_meaning a.transaction.ctx l) (module_held a.transaction)) (sym (append-nil c.done) ∙ c.parts)
 
-  pub carrying_why : (all rest : List Coded) (e : Coded) (r : Refusal) (a b d : Benched B) → Carrying all (e ∷ rest) a b → Tried (edit_meaning b.transaction.ctx (numbered e)) (Err r) (module_held b.transaction) (module_held d.transaction) → IsWhy (edits_meaning a.transaction.ctx all) (module_held a.transaction) r
+  pub carrying_why : (all rest : List Coded) (e : Coded) (r : Refusal) (a b d : Benched B) → Carrying all (e ∷ rest) a b → IsMadeOrRefused (edit_meaning b.transaction.ctx (numbered e)) (Err r) (module_held b.transaction) (module_held d.transaction) → IsWhy (edits_meaning a.transaction.ctx all) (module_held a.transaction) r
   carrying_why all rest e r a b d c tried = elim tried.0 [
     | inl h ↦ inl h
     | inr h ↦ inr (record {

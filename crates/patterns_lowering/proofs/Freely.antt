@@ -10,7 +10,7 @@ use Rattle.rewriter.specs.Held.{TransactionModel, module_held}
 use Rattle.rewriter.proofs.Calls.{stepped}
 use Rattle.rewriter.proofs.Numbers.{reason_meaning}
 use Rattle.patterns_base.specs.declared.edit.Edit.{Edit as Coded}
-use Rattle.patterns_base.specs.Lists.{Free, Tried, edits_meaning, numbered}
+use Rattle.patterns_base.specs.Lists.{Free, IsMadeOrRefused, edits_meaning, numbered}
 use Rattle.patterns_lowering.specs.Runs.{Along}
 use Rattle.patterns_lowering.proofs.Carrying.{Begun, Carrying}
 
@@ -26,7 +26,7 @@ module _ {B : Type 0} (meaning : B → Listener) where
 
   -- the edits left after one more
   pub free_more : (rest : List Coded) (e : Coded) (b d : Benched B) → Free (edits_meaning b.transaction.ctx (e ∷ rest)) (module_held b.transaction)
-      → Tried (edit_meaning b.transaction.ctx (numbered e)) (Ok tt) (module_held b.transaction) (module_held d.transaction) → Along meaning b d → Free (edits_meaning d.transaction.ctx rest) (module_held d.transaction)
+      → IsMadeOrRefused (edit_meaning b.transaction.ctx (numbered e)) (Ok tt) (module_held b.transaction) (module_held d.transaction) → Along meaning b d → Free (edits_meaning d.transaction.ctx rest) (module_held d.transaction)
   free_more rest e b d free tried along = subst (λ (p : List Edit × Module). Free p.0 p.1) (λ i. (edits_meaning (sym along.ctx i) rest, sym tried.1 i)) free.1
 
   -- the edits after a step was opened

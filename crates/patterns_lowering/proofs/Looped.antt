@@ -19,7 +19,7 @@ use Rattle.patterns_base.specs.Lists.{edits_meaning}
 use Rattle.patterns_soundness.specs.base.Made.{i64, placeholder}
 use Rattle.patterns_soundness.specs.base.Makes.{arguments_from, replacing, replaced, moving, erasing}
 use Rattle.patterns_soundness.specs.base.Lowering.{before_in, next_to, bridges, brought, crossed, crossing, end_of, gathering, lowered_op, marked}
-use Rattle.patterns_plans.specs.Opened.{put_for}
+use Rattle.patterns_plans.specs.Opened.{argument_replacement}
 use Rattle.patterns_lowering.specs.declared.plan.MovedOps.{MovedOps}
 use Rattle.patterns_lowering.specs.declared.plan.IndexedLoop.{IndexedLoop}
 use Rattle.patterns_lowering.specs.declared.plan.IndexedChoice.{IndexedChoice}
@@ -117,7 +117,7 @@ four_meant : (c : ContextModel) (p q r s : List _) → edits_meaning c (p ++ q +
 four_meant c p q r s =
     edits_more c (p ++ q ++ r) s ∙ ap (λ l. l ++ edits_meaning c s) (edits_more c (p ++ q) r ∙ ap (λ l. l ++ edits_meaning c r) (edits_more c p q))
 
-put_is : (x : ℕ) (args : List ℕ) (news : List Value) → length news ≡ length args → (vs : List Value) → map (put_for x news) vs ≡ map (replaced (arguments_from x 0 args) news) vs
+put_is : (x : ℕ) (args : List ℕ) (news : List Value) → length news ≡ length args → (vs : List Value) → map (argument_replacement x news) vs ≡ map (replaced (arguments_from x 0 args) news) vs
 put_is x args news h vs = ap (λ olds. map (replaced olds news) vs) (arguments_alike x 0 news args h)
 
 module _ (c : ContextModel) (wide index : ℕ) (fs : List (ℕ × ℕ)) (n : ℕ) (insertion : Place) (sound : IsSound c) (types : AreTypes c wide index) where

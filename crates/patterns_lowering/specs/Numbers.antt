@@ -13,7 +13,7 @@ use Rattle.patterns_base.specs.declared.edit.Edit.TheVariants.{Make, SetOperand,
 use Rattle.patterns_soundness.specs.base.Looks.{is_index}
 use Rattle.patterns_soundness.specs.base.Makes.{arguments_from, results_from}
 use Rattle.patterns_soundness.specs.base.Lowering.{before_in, next_to, crossed, end_of, marked}
-use Rattle.patterns_plans.specs.Opened.{put_for}
+use Rattle.patterns_plans.specs.Opened.{argument_replacement}
 use Rattle.patterns_lowering.specs.declared.plan.MovedOps.{MovedOps}
 use Rattle.patterns_lowering.specs.declared.plan.IndexedLoop.{IndexedLoop}
 use Rattle.patterns_lowering.specs.declared.plan.IndexedChoice.{IndexedChoice}
@@ -164,7 +164,7 @@ inside_edits index point y ids holders arguments news l =
 abbrev pub after_edits : ℕ → ℕ → Place → LoopIds → List Value → IndexedLoop → List Edit
 after_edits wide index point ids news l =
     handed_edits wide (before_in ids.op 0 l.body.last) ids.handed l.body.last l.of.index_results.items
-    (map (put_for (head l.of.op).id news) l.body.handed.items)
+    (map (argument_replacement (head l.of.op).id news) l.body.handed.items)
     ++ give_edits index point l.of.index_results.items l.of.op ids.op ids.results
 
 -- the edits that lower a loop

@@ -12,9 +12,9 @@ ghost use Rattle.patterns_lowering.specs.Refused.{as_full};
 ghost use Rattle.patterns_lowering.specs.Lowered.{AreKnown, AreLowered, AreTypes, IsLowering, index_bits};
 
 use crate::Bench;
-use crate::bench_laws::led_benches_are_kept;
 use crate::index::is_index;
 use crate::numbers::Numbers;
+use crate::rewriter_laws::led_benches_are_kept;
 use ir_event::analysis::Analysis;
 use ir_event::trees::tree::TreeOp;
 use ir_event::types::context::Context;

@@ -32,4 +32,4 @@ pub use patterns_plans as region_rules;
 pub use patterns_plans::reads;
 pub use patterns_soundness::base::rule;
 pub use rewriter;
-pub use rewriter::{Bench, laws as bench_laws};
+pub use rewriter::{Bench, laws as rewriter_laws};

@@ -6,7 +6,7 @@ ghost use Rattle.patterns_soundness.specs.base.Lowering.{marked};
 ghost use Rattle.patterns_lowering.specs.declared.plan.Lowering.TheVariants.{Loop};
 ghost use Rattle.patterns_lowering.specs.Numbers.{give_edits, handed_edits, held_edits, inside_edits};
 ghost use Rattle.patterns_lowering.specs.Numbers.{loop_edits, loop_ids};
-ghost use Rattle.patterns_plans.specs.Opened.{put_for};
+ghost use Rattle.patterns_plans.specs.Opened.{argument_replacement};
 ghost use Rattle.patterns_lowering.specs.Plans.{IsIndexedLoop, lowering_makes};
 
 use crate::give::push_given;
@@ -147,7 +147,7 @@ fn push_after(
     requires given { given.now.first + marked of.now.of.index_results.items ≤ most_next }
     ensures { OnOk result (edits.new.items ≡ edits.old.items
         ++ (handed_edits handed.now.ty handed.now.place handed.now.first of.now.body.last of.now.of.index_results.items
-        (map (put_for (head of.now.of.op).id parts.now.news.items) of.now.body.handed.items)
+        (map (argument_replacement (head of.now.of.op).id parts.now.news.items) of.now.body.handed.items)
         ++ give_edits given.now.ty given.now.place of.now.of.index_results.items of.now.of.op parts.now.op
         given.now.first)) }
 {

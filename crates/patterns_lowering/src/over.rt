@@ -3,7 +3,7 @@ ghost use Rattle.std.specs.Prelude.{◌≡◌, ◌≤◌, ◌+◌, IfOk, OnOk, L
 ghost use Rattle.ir_event.specs.trees.Limits.{most_next};
 ghost use Rattle.patterns_soundness.specs.base.Makes.{arguments_from};
 ghost use Rattle.patterns_soundness.specs.base.Lowering.{marked};
-ghost use Rattle.patterns_plans.specs.Opened.{put_for};
+ghost use Rattle.patterns_plans.specs.Opened.{argument_replacement};
 ghost use Rattle.patterns_lowering.specs.Numbers.{crossing_edits, gather_edits, handed_edits, move_edits, over_edits};
 
 use crate::lists::{push_bridges, push_edit};
@@ -200,7 +200,7 @@ pub(crate) fn all_put(
     news: &[Value],
     values: &[Value],
 ) -> Result<Vec<Value>, AllocError>
-    ensures { IfOk result (λ vs. vs.items ≡ map (put_for op news.now) values.now) }
+    ensures { IfOk result (λ vs. vs.items ≡ map (argument_replacement op news.now) values.now) }
 {
     let mut kept = Vec::new(alloc);
     let mut rest = values;

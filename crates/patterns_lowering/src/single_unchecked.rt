@@ -4,7 +4,7 @@ ghost use Rattle.rewriter.specs.RewriterCalls.{JournalAfter};
 ghost use Rattle.rewriter.specs.Held.{module_held};
 ghost use Rattle.patterns_base.specs.Contents.{edit_meaning, edit_reason};
 ghost use Rattle.patterns_base.specs.Edits as edit;
-ghost use Rattle.patterns_base.specs.Lists.{Fits, Tried, numbered};
+ghost use Rattle.patterns_base.specs.Lists.{Fits, IsMadeOrRefused, numbered};
 ghost use Rattle.patterns_lowering.specs.Runs.{Along};
 
 use crate::single::carry_one;
@@ -18,7 +18,7 @@ use rewriter::Bench;
 
 fn replace_one<L: Analysis>(bench: &mut Bench<L>, old: Value, new: Value) -> Result<(), Refusal>
     requires { edit_reason (edit_meaning bench.old.transaction.ctx (edit.Replace old new)) (module_held bench.old.transaction) ≡ None }
-    ensures tried { Tried (edit_meaning bench.old.transaction.ctx (edit.Replace old new)) result (module_held bench.old.transaction)
+    ensures tried { IsMadeOrRefused (edit_meaning bench.old.transaction.ctx (edit.Replace old new)) result (module_held bench.old.transaction)
         (module_held bench.new.transaction) }
     ensures along { Along L.meaning bench.old bench.new }
     ensures journal { JournalAfter L.meaning result bench.old bench.new }
@@ -28,7 +28,7 @@ fn replace_one<L: Analysis>(bench: &mut Bench<L>, old: Value, new: Value) -> Res
 
 fn move_one<L: Analysis>(bench: &mut Bench<L>, op: OpId, place: Place) -> Result<(), Refusal>
     requires { edit_reason (edit_meaning bench.old.transaction.ctx (edit.Move op place)) (module_held bench.old.transaction) ≡ None }
-    ensures tried { Tried (edit_meaning bench.old.transaction.ctx (edit.Move op place)) result (module_held bench.old.transaction)
+    ensures tried { IsMadeOrRefused (edit_meaning bench.old.transaction.ctx (edit.Move op place)) result (module_held bench.old.transaction)
         (module_held bench.new.transaction) }
     ensures along { Along L.meaning bench.old bench.new }
     ensures journal { JournalAfter L.meaning result bench.old bench.new }
@@ -38,7 +38,7 @@ fn move_one<L: Analysis>(bench: &mut Bench<L>, op: OpId, place: Place) -> Result
 
 fn erase_one<L: Analysis>(bench: &mut Bench<L>, op: OpId) -> Result<(), Refusal>
     requires { edit_reason (edit_meaning bench.old.transaction.ctx (edit.Erase op)) (module_held bench.old.transaction) ≡ None }
-    ensures tried { Tried (edit_meaning bench.old.transaction.ctx (edit.Erase op)) result (module_held bench.old.transaction)
+    ensures tried { IsMadeOrRefused (edit_meaning bench.old.transaction.ctx (edit.Erase op)) result (module_held bench.old.transaction)
         (module_held bench.new.transaction) }
     ensures along { Along L.meaning bench.old bench.new }
     ensures journal { JournalAfter L.meaning result bench.old bench.new }
@@ -50,7 +50,7 @@ fn erase_one<L: Analysis>(bench: &mut Bench<L>, op: OpId) -> Result<(), Refusal>
 pub(crate) fn carry_unchecked<L: Analysis>(bench: &mut Bench<L>, edit: &Edit) -> Result<(), Refusal>
     requires fits { Fits bench.old.transaction.ctx edit.now }
     requires free { edit_reason (edit_meaning bench.old.transaction.ctx (numbered edit.now)) (module_held bench.old.transaction) ≡ None }
-    ensures tried { Tried (edit_meaning bench.old.transaction.ctx (numbered edit.now)) result (module_held bench.old.transaction)
+    ensures tried { IsMadeOrRefused (edit_meaning bench.old.transaction.ctx (numbered edit.now)) result (module_held bench.old.transaction)
         (module_held bench.new.transaction) }
     ensures along { Along L.meaning bench.old bench.new }
     ensures journal { JournalAfter L.meaning result bench.old bench.new }

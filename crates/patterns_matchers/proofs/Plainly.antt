@@ -23,7 +23,7 @@ use Rattle.ir_verify_base.specs.Numbers.{node_in}
 use Rattle.patterns_laws.specs.Made.{value_entry}
 use Rattle.patterns_base.specs.Words.{named}
 use Rattle.patterns_base.specs.Looks.{Header, constant_value, known}
-use Rattle.patterns_matchers.specs.TriviallyVerified.{trivial_constant, IsPlainOf, GivesPlainly}
+use Rattle.patterns_matchers.specs.TriviallyVerified.{trivial_constant, IsConstantOf, GivesPlainly}
 use Rattle.patterns_matchers.specs.Reads.{head_at, header_of_node}
 use Rattle.patterns_matchers.proofs.Cleaned.{as_inherent, constant_is, known_some, source_yes}
 use Rattle.patterns_matchers.proofs.Silent.{plain_is_unbroken}

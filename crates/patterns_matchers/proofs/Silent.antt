@@ -11,7 +11,7 @@ use Rattle.ir_event.specs.trees.Tree.{HeadOf, OpOf, Op, op, head, regions}
 use Rattle.ir_event.specs.trees.Ids.{find}
 use Rattle.ir_event.specs.trees.Meaning.{Operation, meaning}
 use Rattle.ir_event.proofs.of_trees.Mapped.{map_find}
-use Rattle.ir_event.specs.tree_laws.Stands.{StandOf, stand_of}
+use Rattle.ir_event.specs.tree_laws.Stands.{OpWithPathOf, op_with_path}
 use Rattle.ir_event.specs.tree_laws.Values.{type_of_value}
 use Rattle.ir_event.proofs.of_tree_laws.Readings.{stands_find}
 use Rattle.ir_event.specs.store.Nodes.{Node as NumberNode, node_of}
@@ -48,8 +48,8 @@ plain_unbroken : (x : ℕ) (ty : TypeTerm) (bits : ℕ) (attributes : List (List
 plain_unbroken x ty bits attributes lasts outer num =
     none_told 1 (broken_rules_in (row_of (codes "arith.constant")) (constant_at x ty bits attributes lasts outer)) (quiet x ty bits attributes lasts outer ∙ λ i. requested (num i) (type_refl ty i))
 
-abbrev Stand : Type 0
-Stand = StandOf (List ℕ) TypeTerm AttrTerm
+abbrev OpWithPath : Type 0
+OpWithPath = OpWithPathOf (List ℕ) TypeTerm AttrTerm
 
 bare_operands : (c : ContextModel) (o : Op) → (head (meaning c o)).operands ≡ (node_in c (node_of o)).head.operands
 bare_operands c (op h rs) = refl
@@ -59,23 +59,23 @@ wherever : (c : ContextModel) (x : ℕ) (t : Op) (n : NumberNode) → Some n ≡
     → ((lasts : List (Option (List ℕ))) (outer : Option Outer) → broken (record { node = node_in c n; lasts = lasts; types = types; outer = outer }) ≡ []) → breaks_none (broken_at x (meaning c t)) ≡ true
 wherever c x t n shown types of none = found (find x t) refl shown
   where
-    at : (o : Op) → n ≡ node_of o → (z : Stand) → z.here ≡ meaning c o → broken (surround (meaning c t) z) ≡ []
+    at : (o : Op) → n ≡ node_of o → (z : OpWithPath) → z.here ≡ meaning c o → broken (surround (meaning c t) z) ≡ []
     at o e z i =
         let node : node_of z.here ≡ node_in c n = ap (λ q. node_of q) i ∙ map_node_of (name_term c) (type_term c) (attr_term c) o ∙ ap (node_in c) (sym e) in
         let operands : map (λ v. type_of_value v (meaning c t)) (head z.here).operands ≡ types = ap (λ (q : Operation). map (λ v. type_of_value v (meaning c t)) (head q).operands) i ∙ ap (map (λ v. type_of_value v (meaning c t))) (bare_operands c o ∙ ap (λ (q : NumberNode). (node_in c q).head.operands) (sym e)) ∙ of in
         (λ k. broken (record { node = node k; lasts = last_names (regions z.here); types = operands k; outer = outer_of z.path })) ∙ none (last_names (regions z.here)) (outer_of z.path)
 
-    located : (o : Op) → n ≡ node_of o → (z : Option Stand) → stand_of x (meaning c t) ≡ z → option_map (λ (s : Stand). s.here) z ≡ Some (meaning c o) → breaks_none (broken_at x (meaning c t)) ≡ true
+    located : (o : Op) → n ≡ node_of o → (z : Option OpWithPath) → op_with_path x (meaning c t) ≡ z → option_map (λ (s : OpWithPath). s.here) z ≡ Some (meaning c o) → breaks_none (broken_at x (meaning c t)) ≡ true
     located o e None f g = absurd cc
     located o e (Some z) f g =
         let here : z.here ≡ meaning c o = cc in
-        ap (λ (s : Option Stand). breaks_none (option_map broken (option_map (surround (meaning c t)) s))) f ∙ ap (λ l. breaks_none (Some l)) (at o e z here)
+        ap (λ (s : Option OpWithPath). breaks_none (option_map broken (option_map (surround (meaning c t)) s))) f ∙ ap (λ l. breaks_none (Some l)) (at o e z here)
 
     found : (f : Option Op) → find x t ≡ f → Some n ≡ option_map node_of f → breaks_none (broken_at x (meaning c t)) ≡ true
     found None e g = absurd cc
     found (Some o) e g =
         let same : n ≡ node_of o = cc in
-        located o same (stand_of x (meaning c t)) refl (stands_find x [] (meaning c t) ∙ map_find (name_term c) (type_term c) (attr_term c) x t ∙ ap (option_map (meaning c)) e)
+        located o same (op_with_path x (meaning c t)) refl (stands_find x [] (meaning c t) ∙ map_find (name_term c) (type_term c) (attr_term c) x t ∙ ap (option_map (meaning c)) e)
 
 pub plain_is_unbroken : (c : ContextModel) (x : ℕ) (t : Op) (n : NumberNode) → Some n ≡ option_map node_of (find x t) → IsTriviallyVerified (node_in c n) → breaks_none (broken_at x (meaning c t)) ≡ true
 plain_is_unbroken c x t n shown p =

@@ -3,7 +3,7 @@ use Rattle.std.proofs.Common.{◌≡◌, refl, sym, ◌∙◌, subst, ℕ, List,
 use Rattle.std.proofs.lemmas.Bool.{and_right}
 use Rattle.std.specs.Prelude.{if◌then◌else◌}
 use Rattle.ir_event.specs.trees.Meaning.{Operation}
-use Rattle.patterns_base.specs.Diagnostics.{broken_at, told_at}
+use Rattle.patterns_base.specs.Diagnostics.{broken_at, reported_at}
 use Rattle.patterns_base.specs.verify.declared.verdict.Verdict.{Verdict}
 use Rattle.patterns_base.specs.verify.declared.verdict.Verdict.TheVariants.{Valid, Unlisted, Invalid}
 use Rattle.patterns_base.specs.verify.Verdicts.{verdict_at, verdict_by, verdict_in}
@@ -22,7 +22,7 @@ verified_is : (t : Operation) (h : Header) → is_verified t h ≡ (breaks_none 
 unfolding is_verified
 verified_is t h = refl
 
-in_order_is : (t : Operation) (h : Header) → is_in_order t h ≡ (breaks_none (told_at h.id t) && has_own_properties h)
+in_order_is : (t : Operation) (h : Header) → is_in_order t h ≡ (breaks_none (reported_at h.id t) && has_own_properties h)
 unfolding is_in_order
 in_order_is t h = refl
 
@@ -43,15 +43,15 @@ module _ (t : Operation) (h : Header) (own : has_own_properties h ≡ true) wher
   pub all_right : breaks_none (broken_at h.id t) ≡ true → is_verified t h ≡ true
   all_right e = verified_is t h ∙ (λ i. e i && own i)
 
-  pub only_in_order : breaks_none (broken_at h.id t) ≡ false → breaks_none (told_at h.id t) ≡ true → (is_verified t h ≡ false) × (is_in_order t h ≡ true)
+  pub only_in_order : breaks_none (broken_at h.id t) ≡ false → breaks_none (reported_at h.id t) ≡ true → (is_verified t h ≡ false) × (is_in_order t h ≡ true)
   only_in_order e f = (verified_is t h ∙ (λ i. e i && own i), in_order_is t h ∙ (λ i. f i && own i))
 
-  pub told_of : breaks_none (told_at h.id t) ≡ false → is_in_order t h ≡ false
+  pub told_of : breaks_none (reported_at h.id t) ≡ false → is_in_order t h ≡ false
   told_of e = in_order_is t h ∙ (λ i. e i && own i)
 
 -- a property that isn't inherent
 pub unfit : (t : Operation) (h : Header) → has_own_properties h ≡ false → is_in_order t h ≡ false
-unfit t h e = in_order_is t h ∙ and_right (breaks_none (told_at h.id t)) (has_own_properties h) e
+unfit t h e = in_order_is t h ∙ and_right (breaks_none (reported_at h.id t)) (has_own_properties h) e
 
 module _ (r : Rule) (t : Operation) (h : Header) where
   pub eligible_any : is_verified t h ≡ true → true ≡ eligible r t h

@@ -1,7 +1,7 @@
 -- The eligibility of an operation for rules.
 use Rattle.std.specs.Prelude.{◌≡◌, ℕ, List, Option, true, false}
 use Rattle.ir_event.specs.trees.Meaning.{Operation}
-use Rattle.patterns_base.specs.Diagnostics.{broken_at, told_at}
+use Rattle.patterns_base.specs.Diagnostics.{broken_at, reported_at}
 use Rattle.patterns_base.specs.verify.declared.verdict.Verdict.{Verdict}
 use Rattle.patterns_base.specs.verify.declared.verdict.Verdict.TheVariants.{Valid, Unlisted, Invalid}
 use Rattle.patterns_base.specs.Looks.{Header, breaks_none, is_verified, is_in_order}
@@ -16,7 +16,7 @@ IsVerdict broken told Unlisted = (breaks_none broken ≡ false) × (breaks_none 
 IsVerdict broken told Invalid = breaks_none told ≡ false
 
 abbrev pub IsVerdictOf : ℕ → Operation → Verdict → Type 0
-IsVerdictOf x t v = IsVerdict (broken_at x t) (told_at x t) v
+IsVerdictOf x t v = IsVerdict (broken_at x t) (reported_at x t) v
 
 -- the operation is verified, or only in order, or not even in order
 abbrev pub IsEligibilityOf : Operation → Header → Eligibility → Type 0

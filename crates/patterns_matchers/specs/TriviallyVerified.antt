@@ -21,12 +21,12 @@ trivial_constant x ty bits attributes = record {
 }
 
 -- an operation is such a constant, of an integer type or index
-abbrev pub IsPlainOf : Node → TypeTerm → ℕ → Type 0
-IsPlainOf n ty bits = (is_number ty ≡ true) × (n ≡ trivial_constant n.head.id ty bits n.head.attributes)
+abbrev pub IsConstantOf : Node → TypeTerm → ℕ → Type 0
+IsConstantOf n ty bits = (is_number ty ≡ true) × (n ≡ trivial_constant n.head.id ty bits n.head.attributes)
 
 abbrev pub IsTriviallyVerified : Node → Type 0
-IsTriviallyVerified n = (ty : TypeTerm) × (bits : ℕ) × IsPlainOf n ty bits
+IsTriviallyVerified n = (ty : TypeTerm) × (bits : ℕ) × IsConstantOf n ty bits
 
 -- and defines a value of a kind
 abbrev pub GivesPlainly : Node → BitsKind → ℕ → Type 0
-GivesPlainly n k bits = (ty : TypeTerm) × (kind_of ty ≡ Some k) × IsPlainOf n ty bits
+GivesPlainly n k bits = (ty : TypeTerm) × (kind_of ty ≡ Some k) × IsConstantOf n ty bits

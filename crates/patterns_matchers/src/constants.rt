@@ -7,7 +7,7 @@ ghost use Rattle.patterns_base.specs.Looks.{constant_value, is_known, is_number,
 ghost use Rattle.patterns_matchers.specs.Reads.{verified_defining_op, header_of_node};
 
 use crate::nodes::{defining_op, op_node};
-use crate::trivially_verified::plain_bits;
+use crate::trivially_verified::constant_bits_of_node;
 use crate::verified::is_verified_node;
 use dialects_int::fold::fold;
 use ir_event::store::node::Node;
@@ -84,7 +84,7 @@ pub fn constant_value(
     let Some(node) = op_node(world, op) else {
         return Ok(None);
     };
-    if let Some(bits) = plain_bits(&world.ctx, &node) {
+    if let Some(bits) = constant_bits_of_node(&world.ctx, &node) {
         return Ok(Some(bits));
     }
     if !world.ctx.is_word(node.name(), Word::ArithConstant) {

@@ -9,7 +9,7 @@ ghost use Rattle.patterns_base.specs.Rewrites.{eligible};
 ghost use Rattle.patterns_matchers.specs.Reads.{header_of_node};
 ghost use Rattle.patterns_matchers.specs.Suited.{IsEligibilityOf, IsVerdictOf};
 
-use crate::trivially_verified::is_plain_shown;
+use crate::trivially_verified::is_trivially_verified_node;
 use crate::verified::are_inherent;
 use ir_event::store::node::Node;
 use ir_event::types::ids::OpId;
@@ -45,7 +45,7 @@ impl Eligibility {
 
 /// Returns the verifier's verdict on an operation of the module. `node` is what the store shows of it. The verifier
 /// runs only if the form of the operation doesn't already show that it breaks no rule.
-fn judge_shown(
+fn verify_shown(
     alloc: Global,
     world: &World,
     op: OpId,
@@ -55,7 +55,7 @@ fn judge_shown(
     requires of { NodeIsOf world.now.ctx node.now }
     ensures { IfOk result (IsVerdictOf op (module_in world.now).tree) }
 {
-    if is_plain_shown(world, op, node) {
+    if is_trivially_verified_node(world, op, node) {
         return Ok(Verdict::Valid);
     }
     match verify_op(alloc, world, op) {
@@ -77,7 +77,7 @@ pub fn eligibility_of(
     ensures { IfOk result (IsEligibilityOf (module_in world.now).tree
         (record (header_of_node world.now.ctx node.now) { id = op })) }
 {
-    let verdict = judge_shown(alloc, world, op, node)?;
+    let verdict = verify_shown(alloc, world, op, node)?;
     if !are_inherent(&world.ctx, node.name(), node.properties()) {
         return Ok(Eligibility::Ineligible);
     }

@@ -12,7 +12,7 @@ ghost use Rattle.ir_verify_base.specs.Numbers.{node_in};
 ghost use Rattle.patterns_base.specs.events.Modules.{NodeIsOf, module_in};
 ghost use Rattle.patterns_base.specs.Looks.{breaks_none};
 ghost use Rattle.patterns_base.specs.Diagnostics.{broken_at};
-ghost use Rattle.patterns_matchers.specs.TriviallyVerified.{GivesPlainly, IsTriviallyVerified, IsPlainOf};
+ghost use Rattle.patterns_matchers.specs.TriviallyVerified.{GivesPlainly, IsTriviallyVerified, IsConstantOf};
 ghost use Rattle.patterns_matchers.specs.Pairs.{AreFlags, IsPair, pairs};
 
 use crate::op_names::word_name;
@@ -34,23 +34,23 @@ pub(crate) fn is_trivially_verified(world: &World, op: OpId) -> bool
     let Some(node) = world.shown(op) else {
         return false;
     };
-    is_plain_shown(world, op, &node)
+    is_trivially_verified_node(world, op, &node)
 }
 
 /// Returns the same as `is_trivially_verified`. `node` is what the store shows of the operation.
-pub(crate) fn is_plain_shown(world: &World, op: OpId, node: &Node<'_>) -> bool
+pub(crate) fn is_trivially_verified_node(world: &World, op: OpId, node: &Node<'_>) -> bool
     requires stored { Some node.now ≡ option_map node_of (find op world.now.store.module_of.tree) }
     requires of { NodeIsOf world.now.ctx node.now }
     ensures { result ≡ true → breaks_none (broken_at op (module_in world.now).tree) ≡ true }
 {
-    has_plain_form(&world.ctx, node) || has_pair_form(world, node)
+    has_constant_form(&world.ctx, node) || has_pair_form(world, node)
 }
 
 /// Returns the type and the bits of a constant in plain form, or `None` for another node. A constant in plain form has
 /// no operands and no regions, one result, and its value as the only property, with the type of the result.
-fn plain_integer(ctx: &Context, node: &Node<'_>) -> Option<(TypeId, u128)>
+fn constant_integer_of_node(ctx: &Context, node: &Node<'_>) -> Option<(TypeId, u128)>
     requires { NodeIsOf ctx.now node.now }
-    ensures plain { IfSome result (λ i. IsPlainOf (node_in ctx.now node.now) (type_term ctx.now i.0) i.1) }
+    ensures plain { IfSome result (λ i. IsConstantOf (node_in ctx.now node.now) (type_term ctx.now i.0) i.1) }
     ensures ty { IfSome result (λ i. IsType ctx.now i.0) }
 {
     if !ctx.is_word(node.name(), Word::ArithConstant) {
@@ -82,22 +82,22 @@ fn plain_integer(ctx: &Context, node: &Node<'_>) -> Option<(TypeId, u128)>
 }
 
 /// Returns whether a node is a constant in plain form.
-fn has_plain_form(ctx: &Context, node: &Node<'_>) -> bool
+fn has_constant_form(ctx: &Context, node: &Node<'_>) -> bool
     requires { NodeIsOf ctx.now node.now }
     ensures { result ≡ true → IsTriviallyVerified (node_in ctx.now node.now) }
 {
-    match plain_integer(ctx, node) {
+    match constant_integer_of_node(ctx, node) {
         Some(_) => true,
         None => false,
     }
 }
 
 /// Returns the bits of a constant in plain form, or `None` for another node.
-pub(crate) fn plain_bits(ctx: &Context, node: &Node<'_>) -> Option<Bits>
+pub(crate) fn constant_bits_of_node(ctx: &Context, node: &Node<'_>) -> Option<Bits>
     requires { NodeIsOf ctx.now node.now }
     ensures { IfSome result (λ b. GivesPlainly (node_in ctx.now node.now) b.kind b.value) }
 {
-    let Some((ty, value)) = plain_integer(ctx, node) else {
+    let Some((ty, value)) = constant_integer_of_node(ctx, node) else {
         return None;
     };
     let Some(kind) = kind_of(ctx, ty) else {

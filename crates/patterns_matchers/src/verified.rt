@@ -13,7 +13,7 @@ ghost use Rattle.patterns_base.specs.Diagnostics.{broken_at};
 ghost use Rattle.patterns_matchers.specs.Reads.{header_of_node};
 ghost use Rattle.std.specs.Prelude.{List, ℕ};
 
-use crate::trivially_verified::{is_plain_shown, is_trivially_verified};
+use crate::trivially_verified::{is_trivially_verified, is_trivially_verified_node};
 use ir_event::store::node::Node;
 use ir_event::types::context::Context;
 use ir_event::types::ids::{AttrId, NameId, OpId};
@@ -68,7 +68,7 @@ fn breaks_none_shown(
     requires of { NodeIsOf world.now.ctx node.now }
     ensures { IfOk result (λ b. b ≡ breaks_none (broken_at op (module_in world.now).tree)) }
 {
-    if is_plain_shown(world, op, node) {
+    if is_trivially_verified_node(world, op, node) {
         return Ok(true);
     }
     obeys_all(alloc, world, op)

@@ -11,7 +11,7 @@ use Rattle.patterns_base.specs.Lists.{numbered, AllFit, edits_meaning}
 use Rattle.patterns_base.specs.declared.edit.Edit.{Edit as Coded}
 use Rattle.patterns_base.specs.declared.edit.Edit.TheVariants as coded
 use Rattle.patterns_matchers.specs.Makes.{arguments_from, results_from, replacing, moving}
-use Rattle.patterns_plans.specs.Opened.{opening, put_for, argument_edits, move_edits, result_edits}
+use Rattle.patterns_plans.specs.Opened.{opening, argument_replacement, argument_edits, move_edits, result_edits}
 use Rattle.patterns_base.proofs.EditFacts.{edits_more}
 
 module _ (c : ContextModel) where
@@ -24,9 +24,9 @@ module _ (c : ContextModel) where
   moves_meant place (x ∷ xs) = ap (λ l. Move x place ∷ l) (moves_meant place xs)
 
   results_meant : (x : ℕ) (values : List Value) (k : ℕ) (vs : List Value)
-      → edits_meaning c (result_edits x values k vs) ≡ replacing (results_from x k (map (put_for x values) vs)) (map (put_for x values) vs)
+      → edits_meaning c (result_edits x values k vs) ≡ replacing (results_from x k (map (argument_replacement x values) vs)) (map (argument_replacement x values) vs)
   results_meant x values k [] = refl
-  results_meant x values k (v ∷ vs) = ap (λ l. Replace (Result x k) (put_for x values v) ∷ l) (results_meant x values (k + 1) vs)
+  results_meant x values k (v ∷ vs) = ap (λ l. Replace (Result x k) (argument_replacement x values v) ∷ l) (results_meant x values (k + 1) vs)
 
   abbrev all : ℕ → Place → List ℕ → List Value → List Value → List Coded
   all x insertion ops values handed = ((argument_edits x 0 values ++ move_edits insertion ops) ++ result_edits x values 0 handed) ++ coded.Erase x ∷ []
@@ -37,7 +37,7 @@ module _ (c : ContextModel) where
       let es = argument_edits x 0 values in
       let fs = move_edits insertion ops in
       let gs = result_edits x values 0 handed in
-      let ws = map (put_for x values) handed in
+      let ws = map (argument_replacement x values) handed in
       let a = replacing (arguments_from x 0 values) values in
       let m = moving insertion ops in
       let r = replacing (results_from x 0 ws) ws in
@@ -75,7 +75,7 @@ module _ (c : ContextModel) where
       f ∙ ap (λ l. l ++ coded.Erase x ∷ []) (e ∙ ap (λ l. l ++ result_edits x values 0 handed) (d ∙ ap (λ l. l ++ move_edits insertion ops) (b ∙ ap (λ l. l ++ argument_edits x 0 values) a)))
 
 -- without values and operations, only results are replaced
-same_values : (x : ℕ) (vs : List Value) → map (put_for x []) vs ≡ vs
+same_values : (x : ℕ) (vs : List Value) → map (argument_replacement x []) vs ≡ vs
 same_values x [] = refl
 same_values x (v ∷ vs) = ap (λ l. v ∷ l) (same_values x vs)
 

@@ -4,7 +4,7 @@ use Rattle.ir_event.specs.trees.declared.value.Value.{Value}
 use Rattle.ir_event.specs.trees.declared.value.Value.TheVariants.{Result, Arg}
 use Rattle.ir_event.proofs.of_tree_laws.Listed.{bool_cases}
 use Rattle.patterns_matchers.specs.Makes.{arguments_from, replaced}
-use Rattle.patterns_plans.specs.Opened.{put_for}
+use Rattle.patterns_plans.specs.Opened.{argument_replacement}
 
 result_stays : (x j : ℕ) (vs : List Value) (y k : ℕ) → replaced (arguments_from x j vs) vs (Result y k) ≡ Result y k
 result_stays x j [] y k = refl
@@ -43,17 +43,17 @@ own_past x j (suc m) l (v ∷ vs) e h =
     own_later x j m l v vs e ∙ own_past x (j + 1) m l vs later (omega (arith, h))
 
 -- the same as the code finds them
-pub put_result : (x : ℕ) (vs : List Value) (v : Value) (y k : ℕ) → v ≡ Result y k → v ≡ put_for x vs v
-put_result x vs v y k e = e ∙ sym (ap (put_for x vs) e ∙ result_stays x 0 vs y k)
+pub put_result : (x : ℕ) (vs : List Value) (v : Value) (y k : ℕ) → v ≡ Result y k → v ≡ argument_replacement x vs v
+put_result x vs v y k e = e ∙ sym (ap (argument_replacement x vs) e ∙ result_stays x 0 vs y k)
 
-pub put_other : (x : ℕ) (vs : List Value) (v : Value) (y s l : ℕ) (b : Bool) → v ≡ Arg y s l → b ≡ not (eqb y x) → b ≡ true → v ≡ put_for x vs v
-put_other x vs v y s l b e f g = e ∙ sym (ap (put_for x vs) e ∙ other_stays x 0 vs y s l (ap (λ b. b && eqb 0 s) other))
+pub put_other : (x : ℕ) (vs : List Value) (v : Value) (y s l : ℕ) (b : Bool) → v ≡ Arg y s l → b ≡ not (eqb y x) → b ≡ true → v ≡ argument_replacement x vs v
+put_other x vs v y s l b e f g = e ∙ sym (ap (argument_replacement x vs) e ∙ other_stays x 0 vs y s l (ap (λ b. b && eqb 0 s) other))
   where
     other : eqb x y ≡ false
     other = elim (bool_cases (eqb x y)) [ inr k ↦ k | inl k ↦ (let n = sym (eq-eqb y x (sym (eqb-true x y k))) in absurd (true≢false (sym (sym f ∙ g) ∙ ap not (sym n)))) ]
 
-pub put_elsewhere : (x : ℕ) (vs : List Value) (v : Value) (y s l : ℕ) → v ≡ Arg y s l → (s ≡ 0 → ⊥) → v ≡ put_for x vs v
-put_elsewhere x vs v y s l e f = e ∙ sym (ap (put_for x vs) e ∙ other_stays x 0 vs y s l (never (eqb x y) (eqb 0 s) other))
+pub put_elsewhere : (x : ℕ) (vs : List Value) (v : Value) (y s l : ℕ) → v ≡ Arg y s l → (s ≡ 0 → ⊥) → v ≡ argument_replacement x vs v
+put_elsewhere x vs v y s l e f = e ∙ sym (ap (argument_replacement x vs) e ∙ other_stays x 0 vs y s l (never (eqb x y) (eqb 0 s) other))
   where
     other : eqb 0 s ≡ false
     other = elim (bool_cases (eqb 0 s)) [ inr k ↦ k | inl k ↦ absurd (f (sym (eqb-true 0 s k))) ]
@@ -69,8 +69,8 @@ own_is x v y s l b e f g h = e ∙ λ i. Arg (same i) (h i) l
     same : y ≡ x
     same = elim (bool_cases (eqb y x)) [ inl k ↦ eqb-true y x k | inr k ↦ absurd (true≢false (sym (ap not k) ∙ sym f ∙ g)) ]
 
-pub put_own : (x : ℕ) (vs : List Value) (v : Value) (y s l : ℕ) (b : Bool) → v ≡ Arg y s l → b ≡ not (eqb y x) → b ≡ false → s ≡ 0 → (w : Value) → l < length vs → w ≡ get_or vs l w → w ≡ put_for x vs v
-put_own x vs v y s l b e f g h w k m = m ∙ sym (ap (put_for x vs) (own_is x v y s l b e f g h) ∙ own_in x 0 l l vs w (omega arith) k)
+pub put_own : (x : ℕ) (vs : List Value) (v : Value) (y s l : ℕ) (b : Bool) → v ≡ Arg y s l → b ≡ not (eqb y x) → b ≡ false → s ≡ 0 → (w : Value) → l < length vs → w ≡ get_or vs l w → w ≡ argument_replacement x vs v
+put_own x vs v y s l b e f g h w k m = m ∙ sym (ap (argument_replacement x vs) (own_is x v y s l b e f g h) ∙ own_in x 0 l l vs w (omega arith) k)
 
-pub put_past : (x : ℕ) (vs : List Value) (v : Value) (y s l : ℕ) (b : Bool) → v ≡ Arg y s l → b ≡ not (eqb y x) → b ≡ false → s ≡ 0 → length vs ≤ l → v ≡ put_for x vs v
-put_past x vs v y s l b e f g h k = let own = own_is x v y s l b e f g h in own ∙ sym (ap (put_for x vs) own ∙ own_past x 0 l l vs (omega arith) k)
+pub put_past : (x : ℕ) (vs : List Value) (v : Value) (y s l : ℕ) (b : Bool) → v ≡ Arg y s l → b ≡ not (eqb y x) → b ≡ false → s ≡ 0 → length vs ≤ l → v ≡ argument_replacement x vs v
+put_past x vs v y s l b e f g h k = let own = own_is x v y s l b e f g h in own ∙ sym (ap (argument_replacement x vs) own ∙ own_past x 0 l l vs (omega arith) k)

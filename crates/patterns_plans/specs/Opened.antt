@@ -16,8 +16,8 @@ opening x point ops values handed =
     replacing args values ++ give_body point x ops (map (replaced args values) handed)
 
 -- a value after the arguments of x's block 0 are replaced by values
-abbrev pub put_for : ℕ → List Value → Value → Value
-put_for x values v = replaced (arguments_from x 0 values) values v
+abbrev pub argument_replacement : ℕ → List Value → Value → Value
+argument_replacement x values v = replaced (arguments_from x 0 values) values v
 
 -- the edits of the code: values replace arguments, from number k on
 abbrev pub argument_edits : ℕ → ℕ → List Value → List Coded
@@ -32,4 +32,4 @@ move_edits place (x ∷ xs) = coded.Move x place ∷ move_edits place xs
 -- the terminator's operands replace results, from number k on
 abbrev pub result_edits : ℕ → List Value → ℕ → List Value → List Coded
 result_edits x values k [] = []
-result_edits x values k (v ∷ vs) = coded.Replace (Result x k) (put_for x values v) ∷ result_edits x values (k + 1) vs
+result_edits x values k (v ∷ vs) = coded.Replace (Result x k) (argument_replacement x values v) ∷ result_edits x values (k + 1) vs

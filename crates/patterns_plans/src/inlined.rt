@@ -2,7 +2,7 @@
 ghost use Rattle.std.specs.Prelude.{◌≡◌, ◌++◌, IfOk, OnOk};
 ghost use Rattle.ir_event.specs.types.Things.{ContextModel};
 ghost use Rattle.patterns_base.specs.Lists.{AllFit, edits_meaning};
-ghost use Rattle.patterns_plans.specs.Opened.{argument_edits, move_edits, opening, put_for, result_edits};
+ghost use Rattle.patterns_plans.specs.Opened.{argument_edits, move_edits, opening, argument_replacement, result_edits};
 
 use ir_event::trees::place::Place;
 use ir_event::trees::value::Value;
@@ -12,7 +12,7 @@ use std::alloc::{AllocError, Global};
 
 /// Returns `value` after the arguments of block 0 of `op` are replaced by `values`.
 pub fn substitution(op: OpId, values: &[Value], value: &Value) -> Value
-    ensures { result ≡ put_for op values.now value.now }
+    ensures { result ≡ argument_replacement op values.now value.now }
 {
     let Value::Arg(owner, region, number) = *value else {
         return *value;

@@ -17,7 +17,7 @@ use Rattle.patterns_base.specs.declared.rule.Rule.TheVariants.{OpenBranch, OpenL
 use Rattle.patterns_matchers.specs.Reads.{head_at}
 use Rattle.patterns_plans.specs.RegionRules.{open_branch_at, open_loop_at, stop_loop_at}
 use Rattle.patterns_reasons.specs.declared.reason.Reason.TheVariants.{HasEffects, NoDefiningOp, Used}
-use Rattle.patterns_reasons.specs.Conditions.{first_failed_condition}
+use Rattle.patterns_reasons.specs.Conditions.{first_failed_test}
 use Rattle.patterns_reasons.specs.Tests.{erase_dead, index_tests, unrealized_tests}
 
 mapped_some : {X Y : Type 0} (f : X → Y) (p : Option X) → is_some p ≡ is_some (option_map f p)
@@ -58,13 +58,13 @@ unused_shown x t h b c e u is = ap (λ y. is_unused y t) (shown_of x t h e).3 �
 
 -- ---- dead operations
 module _ (t : Operation) (h : Header) where
-  pub used_told : (a : Bool) → is_unused h.id t ≡ false → Some Used ≡ first_failed_condition (erase_dead t h a)
+  pub used_told : (a : Bool) → is_unused h.id t ≡ false → Some Used ≡ first_failed_test (erase_dead t h a)
   used_told a u = rw u refl
 
-  pub effects_told : (a : Bool) → is_unused h.id t ≡ true → a ≡ false → Some HasEffects ≡ first_failed_condition (erase_dead t h a)
+  pub effects_told : (a : Bool) → is_unused h.id t ≡ true → a ≡ false → Some HasEffects ≡ first_failed_test (erase_dead t h a)
   effects_told a u f = rw (u, f) refl
 
-  pub dead_told : (a : Bool) → is_unused h.id t ≡ true → a ≡ true → None ≡ first_failed_condition (erase_dead t h a)
+  pub dead_told : (a : Bool) → is_unused h.id t ≡ true → a ≡ true → None ≡ first_failed_test (erase_dead t h a)
   dead_told a u f = rw (u, f) refl
 
 -- ---- casts whose operand isn't a cast's result
@@ -72,8 +72,8 @@ module _ (t : Operation) (p : One) (s : Option Header) (h : Header) (e : s ≡ s
   none_inside : given (source t p.name p.first) one ≡ None
   none_inside = ap (λ q. given q one) (sym e ∙ is) ∙ sym none
 
-  pub no_index_cast : Some NoDefiningOp ≡ first_failed_condition (index_tests t p)
+  pub no_index_cast : Some NoDefiningOp ≡ first_failed_test (index_tests t p)
   no_index_cast = rw none_inside refl
 
-  pub no_unrealized_cast : (b : Bool) → b ≡ is_of_type t p.ty p.first → b ≡ false → Some NoDefiningOp ≡ first_failed_condition (unrealized_tests t p)
+  pub no_unrealized_cast : (b : Bool) → b ≡ is_of_type t p.ty p.first → b ≡ false → Some NoDefiningOp ≡ first_failed_test (unrealized_tests t p)
   no_unrealized_cast b i f = rw (none_inside, sym i ∙ f) refl

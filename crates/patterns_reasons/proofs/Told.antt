@@ -17,27 +17,27 @@ use Rattle.patterns_base.proofs.Dispatch.{only_listed}
 use Rattle.patterns_base.specs.declared.rule.Rule.{Rule}
 use Rattle.patterns_reasons.specs.declared.reason.Reason.{Reason}
 use Rattle.patterns_reasons.specs.declared.reason.Reason.TheVariants.{IsRoot, NotVerified, WrongOperation}
-use Rattle.patterns_reasons.specs.Conditions.{Test, all_hold, asks, first_failed_condition, unless_holds}
+use Rattle.patterns_reasons.specs.Conditions.{Test, all_hold, asks, first_failed_test, unless_holds}
 use Rattle.patterns_reasons.specs.Tests.{tests}
 use Rattle.patterns_reasons.specs.Reasons.{applies, conditions, reason_of, ReportedReasonsHold, NoReasonWhereRulesApply}
 use Rattle.patterns_reasons.proofs.Passing.{passes}
 
 -- no condition fails exactly if all hold
-none_of : (b : Bool) (c : Reason) (ts : List Test) → is_none (first_failed_condition ts) ≡ all_hold ts → is_none (unless_holds b c (first_failed_condition ts)) ≡ (b && all_hold ts)
+none_of : (b : Bool) (c : Reason) (ts : List Test) → is_none (first_failed_test ts) ≡ all_hold ts → is_none (unless_holds b c (first_failed_test ts)) ≡ (b && all_hold ts)
 none_of true c ts h = h
 none_of false c ts h = refl
 
-none_fails : (ts : List Test) → is_none (first_failed_condition ts) ≡ all_hold ts
+none_fails : (ts : List Test) → is_none (first_failed_test ts) ≡ all_hold ts
 none_fails [] = refl
 none_fails (t ∷ ts) = none_of t.holds t.condition ts (none_fails ts)
 
 -- a failed condition is in the list, and doesn't hold
-one_of : (b : Bool) (k : Reason) (ts : List Test) (c : Reason) → (first_failed_condition ts ≡ Some c → In (asks c false) ts) → unless_holds b k (first_failed_condition ts) ≡ Some c
+one_of : (b : Bool) (k : Reason) (ts : List Test) (c : Reason) → (first_failed_test ts ≡ Some c → In (asks c false) ts) → unless_holds b k (first_failed_test ts) ≡ Some c
     → In (asks c false) (asks k b ∷ ts)
 one_of true k ts c later e = inr (later e)
 one_of false k ts c later e = inl (ap (λ (d : Reason). asks d false) (sym (same_Some k c e)))
 
-failing_in : (ts : List Test) (c : Reason) → first_failed_condition ts ≡ Some c → In (asks c false) ts
+failing_in : (ts : List Test) (c : Reason) → first_failed_test ts ≡ Some c → In (asks c false) ts
 failing_in [] c h = absurd cc
 failing_in (t ∷ ts) c h = one_of t.holds t.condition ts c (failing_in ts c) h
 
@@ -60,7 +60,7 @@ told_where_rules_apply r m x o e = at_find (find x m.tree) e
     requested : Bool → Operation → List Test
     requested b o = asks IsRoot (is_some (insertion_of x m.tree)) ∷ asks NotVerified (eligible r m.tree (head o)) ∷ asks WrongOperation (has_rule r (head o).name) ∷ tests r m.tree o b
 
-    at_find : (q : Option Operation) → q ≡ Some o → is_none (given q (λ o. first_failed_condition (requested (is_some (edits q)) o))) ≡ is_some (edits q)
+    at_find : (q : Option Operation) → q ≡ Some o → is_none (given q (λ o. first_failed_test (requested (is_some (edits q)) o))) ≡ is_some (edits q)
     at_find q is =
         rw is (none_fails (requested (is_some (edits (Some o))) o)
         ∙ split (insertion_of x m.tree) (eligible r m.tree (head o)) (has_rule r (head o).name) (λ insertion. rule r m.tree m.next insertion o) (λ b. all_hold (tests r m.tree o b))
@@ -70,6 +70,6 @@ pub told_conditions_fail : ReportedReasonsHold
 unfolding reason_of
 told_conditions_fail r m x c h = at_find (find x m.tree) refl h
   where
-    at_find : (q : Option Operation) → find x m.tree ≡ q → given q (λ o. first_failed_condition (conditions r m x o)) ≡ Some c → (o : Operation) × (find x m.tree ≡ Some o) × In (asks c false) (conditions r m x o)
+    at_find : (q : Option Operation) → find x m.tree ≡ q → given q (λ o. first_failed_test (conditions r m x o)) ≡ Some c → (o : Operation) × (find x m.tree ≡ Some o) × In (asks c false) (conditions r m x o)
     at_find None e f = absurd cc
     at_find (Some o) e f = (o, e, failing_in (conditions r m x o) c f)

@@ -57,9 +57,9 @@ unless_holds true c others = others
 unless_holds false c others = Some c
 
 -- the first condition of a list that doesn't hold
-abbrev pub first_failed_condition : List Test → Option Reason
-first_failed_condition [] = None
-first_failed_condition (t ∷ ts) = unless_holds t.holds t.condition (first_failed_condition ts)
+abbrev pub first_failed_test : List Test → Option Reason
+first_failed_test [] = None
+first_failed_test (t ∷ ts) = unless_holds t.holds t.condition (first_failed_test ts)
 
 -- whether all conditions of a list hold
 abbrev pub all_hold : List Test → Bool

@@ -13,7 +13,7 @@ use Rattle.patterns_base.specs.Rules.{has_rule, rule, rules_for}
 use Rattle.patterns_base.specs.declared.rule.Rule.{Rule}
 use Rattle.patterns_reasons.specs.declared.reason.Reason.{Reason}
 use Rattle.patterns_reasons.specs.declared.reason.Reason.TheVariants.{IsRoot, NotVerified, WrongOperation}
-use Rattle.patterns_reasons.specs.Conditions.{Test, asks, first_failed_condition}
+use Rattle.patterns_reasons.specs.Conditions.{Test, asks, first_failed_test}
 use Rattle.patterns_reasons.specs.Tests.{tests}
 
 -- the rules that the table lists for the name of an optional operation, by ascending number
@@ -39,7 +39,7 @@ conditions r m x o =
 
 -- the first condition that doesn't hold, if the operation is in the module
 unfoldable pub reason_of : Rule → Module → ℕ → Option Reason
-reason_of r m x = given (find x m.tree) (λ o. first_failed_condition (conditions r m x o))
+reason_of r m x = given (find x m.tree) (λ o. first_failed_test (conditions r m x o))
 
 -- there is no reason exactly if the rule applies
 abbrev pub NoReasonWhereRulesApply : Type 0

@@ -3,7 +3,7 @@ ghost use Rattle.std.specs.Prelude.{◌≡◌, IfOk, Some, ◌∷◌, []};
 ghost use Rattle.ir_event.specs.types.Things.{IsName, IsType};
 ghost use Rattle.ir_event.specs.Modules.{NodeIsOf, module_in};
 ghost use Rattle.patterns_matchers.specs.Reads.{header_of_node, one_in};
-ghost use Rattle.patterns_reasons.specs.Conditions.{first_failed_condition};
+ghost use Rattle.patterns_reasons.specs.Conditions.{first_failed_test};
 ghost use Rattle.patterns_reasons.specs.Tests.{cast_back, cut_cast, extend_extension, index_tests, unrealized_tests};
 
 use crate::reason::Reason;
@@ -24,7 +24,7 @@ pub(crate) fn extend_extension(
     node: &Node<'_>,
 ) -> Result<Option<Reason>, AllocError>
     requires of { NodeIsOf world.now.ctx node.now }
-    ensures { IfOk result (λ c. c ≡ first_failed_condition
+    ensures { IfOk result (λ c. c ≡ first_failed_test
         (extend_extension (module_in world.now).tree (header_of_node world.now.ctx node.now))) }
 {
     let Some(p) = unary_op(node) else {
@@ -51,7 +51,7 @@ pub(crate) fn cut_cast(
     node: &Node<'_>,
 ) -> Result<Option<Reason>, AllocError>
     requires of { NodeIsOf world.now.ctx node.now }
-    ensures { IfOk result (λ c. c ≡ first_failed_condition
+    ensures { IfOk result (λ c. c ≡ first_failed_test
         (cut_cast (module_in world.now).tree (header_of_node world.now.ctx node.now))) }
 {
     let Some(p) = unary_op(node) else {
@@ -79,7 +79,7 @@ pub(crate) fn cut_cast(
 fn unrealized(alloc: Global, world: &World, p: &UnaryOp) -> Result<Option<Reason>, AllocError>
     requires name { IsName world.now.ctx p.now.name }
     requires ty { IsType world.now.ctx p.now.ty }
-    ensures { IfOk result (λ c. c ≡ first_failed_condition
+    ensures { IfOk result (λ c. c ≡ first_failed_test
         (unrealized_tests (module_in world.now).tree (one_in world.now.ctx p.now))) }
 {
     if is_of_type(world, p.ty, p.first) {
@@ -101,7 +101,7 @@ fn unrealized(alloc: Global, world: &World, p: &UnaryOp) -> Result<Option<Reason
 fn through_index(alloc: Global, world: &World, p: &UnaryOp) -> Result<Option<Reason>, AllocError>
     requires name { IsName world.now.ctx p.now.name }
     requires ty { IsType world.now.ctx p.now.ty }
-    ensures { IfOk result (λ c. c ≡ first_failed_condition
+    ensures { IfOk result (λ c. c ≡ first_failed_test
         (index_tests (module_in world.now).tree (one_in world.now.ctx p.now))) }
 {
     let Some(inside) = defining_op_named(alloc, world, p.name, &p.first)? else {
@@ -125,7 +125,7 @@ pub(crate) fn cast_back(
     node: &Node<'_>,
 ) -> Result<Option<Reason>, AllocError>
     requires of { NodeIsOf world.now.ctx node.now }
-    ensures { IfOk result (λ c. c ≡ first_failed_condition
+    ensures { IfOk result (λ c. c ≡ first_failed_test
         (cast_back (module_in world.now).tree (header_of_node world.now.ctx node.now))) }
 {
     let Some(p) = unary_op(node) else {

@@ -2,7 +2,7 @@
 ghost use Rattle.std.specs.Prelude.{◌≡◌, IfOk};
 ghost use Rattle.ir_event.specs.Modules.{NodeIsOf, module_in};
 ghost use Rattle.patterns_matchers.specs.Reads.{header_of_node};
-ghost use Rattle.patterns_reasons.specs.Conditions.{first_failed_condition};
+ghost use Rattle.patterns_reasons.specs.Conditions.{first_failed_test};
 ghost use Rattle.patterns_reasons.specs.Tests.{choose_known, choose_opposite, choose_same, choose_truth};
 
 use crate::reason::Reason;
@@ -16,7 +16,7 @@ use patterns_matchers::types::is_boolean;
 use std::alloc::{AllocError, Global};
 
 pub(crate) fn choose_same(world: &World, node: &Node<'_>) -> Option<Reason>
-    ensures { result ≡ first_failed_condition
+    ensures { result ≡ first_failed_test
         (choose_same (module_in world.now).tree (header_of_node world.now.ctx node.now)) }
 {
     let Some(p) = ternary_op(node) else {
@@ -36,7 +36,7 @@ pub(crate) fn choose_known(
     world: &World,
     node: &Node<'_>,
 ) -> Result<Option<Reason>, AllocError>
-    ensures { IfOk result (λ c. c ≡ first_failed_condition
+    ensures { IfOk result (λ c. c ≡ first_failed_test
         (choose_known (module_in world.now).tree (header_of_node world.now.ctx node.now))) }
 {
     let Some(p) = ternary_op(node) else {
@@ -57,7 +57,7 @@ pub(crate) fn choose_truth(
     node: &Node<'_>,
 ) -> Result<Option<Reason>, AllocError>
     requires of { NodeIsOf world.now.ctx node.now }
-    ensures { IfOk result (λ c. c ≡ first_failed_condition
+    ensures { IfOk result (λ c. c ≡ first_failed_test
         (choose_truth (module_in world.now).tree (header_of_node world.now.ctx node.now))) }
 {
     let Some(p) = ternary_op(node) else {
@@ -86,7 +86,7 @@ pub(crate) fn choose_opposite(
     world: &World,
     node: &Node<'_>,
 ) -> Result<Option<Reason>, AllocError>
-    ensures { IfOk result (λ c. c ≡ first_failed_condition
+    ensures { IfOk result (λ c. c ≡ first_failed_test
         (choose_opposite (module_in world.now).tree (header_of_node world.now.ctx node.now))) }
 {
     let Some(p) = ternary_op(node) else {

@@ -4,7 +4,7 @@ ghost use Rattle.std.specs.List.{list_all};
 ghost use Rattle.ir_event.specs.Modules.{NodeIsOf, module_in};
 ghost use Rattle.patterns_base.specs.Looks.{is_known};
 ghost use Rattle.patterns_matchers.specs.Reads.{head_at, header_of_node};
-ghost use Rattle.patterns_reasons.specs.Conditions.{first_failed_condition};
+ghost use Rattle.patterns_reasons.specs.Conditions.{first_failed_test};
 ghost use Rattle.patterns_reasons.specs.Tests.{erase_dead, fold_to_constant, is_readable, regroup_constants};
 
 use crate::reason::Reason;
@@ -23,7 +23,7 @@ use std::alloc::{AllocError, Global};
 
 pub(crate) fn erase_dead(world: &World, op: OpId, node: &Node<'_>, applies: bool) -> Option<Reason>
     requires shown { Some (header_of_node world.now.ctx node.now) ≡ head_at op (module_in world.now).tree }
-    ensures { result ≡ first_failed_condition
+    ensures { result ≡ first_failed_test
         (erase_dead (module_in world.now).tree (header_of_node world.now.ctx node.now) applies) }
 {
     if !is_unused(world, op) {
@@ -79,7 +79,7 @@ pub(crate) fn fold_to_constant(
     node: &Node<'_>,
     applies: bool,
 ) -> Result<Option<Reason>, AllocError>
-    ensures { IfOk result (λ c. c ≡ first_failed_condition
+    ensures { IfOk result (λ c. c ≡ first_failed_test
         (fold_to_constant (module_in world.now).tree (header_of_node world.now.ctx node.now) applies)) }
 {
     if world.ctx.is_word(node.name(), Word::ArithConstant) {
@@ -104,7 +104,7 @@ pub(crate) fn regroup_constants(
     applies: bool,
 ) -> Result<Option<Reason>, AllocError>
     requires of { NodeIsOf world.now.ctx node.now }
-    ensures { IfOk result (λ c. c ≡ first_failed_condition
+    ensures { IfOk result (λ c. c ≡ first_failed_test
         (regroup_constants (module_in world.now).tree (header_of_node world.now.ctx node.now) applies)) }
 {
     let Some(p) = binary_op(node) else {

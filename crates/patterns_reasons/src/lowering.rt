@@ -6,7 +6,7 @@ ghost use Rattle.ir_event.specs.types.Terms.{type_term};
 ghost use Rattle.ir_event.specs.Modules.{NodeIsOf, module_in};
 ghost use Rattle.patterns_base.specs.Looks.{is_index, is_index_value};
 ghost use Rattle.patterns_matchers.specs.Reads.{header_of_node};
-ghost use Rattle.patterns_reasons.specs.Conditions.{first_failed_condition};
+ghost use Rattle.patterns_reasons.specs.Conditions.{first_failed_test};
 ghost use Rattle.patterns_reasons.specs.Tests.{lower_choice, lower_index, lower_loop};
 
 use crate::reason::Reason;
@@ -67,14 +67,14 @@ fn any_index_value(world: &World, values: &[Value]) -> bool
 }
 
 pub(crate) fn lower_index(world: &World, node: &Node<'_>, applies: bool) -> Option<Reason>
-    ensures { result ≡ first_failed_condition
+    ensures { result ≡ first_failed_test
         (lower_index (module_in world.now).tree (header_of_node world.now.ctx node.now) applies) }
 {
     if applies { None } else { Some(Reason::NoIndex) }
 }
 
 pub(crate) fn lower_loop(world: &World, node: &Node<'_>, applies: bool) -> Option<Reason>
-    ensures { result ≡ first_failed_condition
+    ensures { result ≡ first_failed_test
         (lower_loop (module_in world.now).tree (header_of_node world.now.ctx node.now) applies) }
 {
     if !world.ctx.is_word(node.name(), Word::ScfFor) {
@@ -91,7 +91,7 @@ pub(crate) fn lower_loop(world: &World, node: &Node<'_>, applies: bool) -> Optio
 
 pub(crate) fn lower_choice(world: &World, node: &Node<'_>, applies: bool) -> Option<Reason>
     requires of { NodeIsOf world.now.ctx node.now }
-    ensures { result ≡ first_failed_condition
+    ensures { result ≡ first_failed_test
         (lower_choice (module_in world.now).tree (header_of_node world.now.ctx node.now) applies) }
 {
     if !world.ctx.is_word(node.name(), Word::ScfIf) {

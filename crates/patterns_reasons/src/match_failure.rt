@@ -8,7 +8,7 @@ ghost use Rattle.ir_event.specs.Modules.{NodeIsOf, module_in};
 ghost use Rattle.patterns_base.specs.RuleNames.{same_rule};
 ghost use Rattle.patterns_base.specs.Rules.{has_rule};
 ghost use Rattle.patterns_matchers.specs.Reads.{head_at, header_of_node};
-ghost use Rattle.patterns_reasons.specs.Conditions.{first_failed_condition};
+ghost use Rattle.patterns_reasons.specs.Conditions.{first_failed_test};
 ghost use Rattle.patterns_reasons.specs.Reasons.{reason_of};
 ghost use Rattle.patterns_reasons.specs.Tests.{asks_block, header_tests, tests};
 
@@ -58,7 +58,7 @@ fn of_header(
 ) -> Result<Option<Reason>, AllocError>
     requires shown { Some (header_of_node world.now.ctx node.now) ≡ head_at op (module_in world.now).tree }
     requires of { NodeIsOf world.now.ctx node.now }
-    ensures { IfOk result (λ c. c ≡ first_failed_condition
+    ensures { IfOk result (λ c. c ≡ first_failed_test
         (header_tests rule (module_in world.now).tree (header_of_node world.now.ctx node.now) applies)) }
 {
     match rule {
@@ -119,7 +119,7 @@ fn tested(
     requires shown { Some (header_of_node world.now.ctx node.now) ≡ head_at op (module_in world.now).tree }
     requires of { NodeIsOf world.now.ctx node.now }
     ensures { IfOk result (λ c. (o : Operation) → find op (module_in world.now).tree ≡ Some o
-        → c ≡ first_failed_condition (tests rule (module_in world.now).tree o applies)) }
+        → c ≡ first_failed_test (tests rule (module_in world.now).tree o applies)) }
 {
     if asks_block(rule) {
         return regions::of_block(alloc, world, rule, op, node, applies);

@@ -3,7 +3,7 @@ ghost use Rattle.std.specs.Prelude.{◌≡◌, [], ◌∷◌, IfOk, true, false,
 ghost use Rattle.ir_event.specs.Modules.{NodeIsOf, module_in};
 ghost use Rattle.patterns_base.specs.Looks.{is_known, is_number};
 ghost use Rattle.patterns_matchers.specs.Reads.{header_of_node};
-ghost use Rattle.patterns_reasons.specs.Conditions.{asks, first_failed_condition};
+ghost use Rattle.patterns_reasons.specs.Conditions.{asks, first_failed_test};
 ghost use Rattle.patterns_reasons.specs.declared.reason.Reason.TheVariants.{SecondNotConstant};
 ghost use Rattle.patterns_reasons.specs.Tests.{add_negative, cancel_itself, compare_itself, compare_zero, drop_all_ones};
 ghost use Rattle.patterns_reasons.specs.Tests.{drop_one, drop_zero, expand_difference, expand_min_max};
@@ -36,7 +36,7 @@ fn second_is(
     number: u128,
     other: Reason,
 ) -> Result<Option<Reason>, AllocError>
-    ensures { IfOk result (λ c. c ≡ first_failed_condition
+    ensures { IfOk result (λ c. c ≡ first_failed_test
         (asks SecondNotConstant (is_known (module_in world.now).tree value.now)
         ∷ asks other (is_number (module_in world.now).tree number value.now) ∷ [])) }
 {
@@ -57,7 +57,7 @@ pub(crate) fn swap_constant(
     world: &World,
     node: &Node<'_>,
 ) -> Result<Option<Reason>, AllocError>
-    ensures { IfOk result (λ c. c ≡ first_failed_condition
+    ensures { IfOk result (λ c. c ≡ first_failed_test
         (swap_constant (module_in world.now).tree (header_of_node world.now.ctx node.now))) }
 {
     let Some(p) = binary_op(node) else {
@@ -80,7 +80,7 @@ pub(crate) fn drop_zero(
     world: &World,
     node: &Node<'_>,
 ) -> Result<Option<Reason>, AllocError>
-    ensures { IfOk result (λ c. c ≡ first_failed_condition
+    ensures { IfOk result (λ c. c ≡ first_failed_test
         (drop_zero (module_in world.now).tree (header_of_node world.now.ctx node.now))) }
 {
     let Some(p) = binary_op(node) else {
@@ -97,7 +97,7 @@ pub(crate) fn drop_one(
     world: &World,
     node: &Node<'_>,
 ) -> Result<Option<Reason>, AllocError>
-    ensures { IfOk result (λ c. c ≡ first_failed_condition
+    ensures { IfOk result (λ c. c ≡ first_failed_test
         (drop_one (module_in world.now).tree (header_of_node world.now.ctx node.now))) }
 {
     let Some(p) = binary_op(node) else {
@@ -115,7 +115,7 @@ pub(crate) fn drop_all_ones(
     node: &Node<'_>,
 ) -> Result<Option<Reason>, AllocError>
     requires of { NodeIsOf world.now.ctx node.now }
-    ensures { IfOk result (λ c. c ≡ first_failed_condition
+    ensures { IfOk result (λ c. c ≡ first_failed_test
         (drop_all_ones (module_in world.now).tree (header_of_node world.now.ctx node.now))) }
 {
     let Some(p) = binary_op(node) else {
@@ -134,7 +134,7 @@ pub(crate) fn drop_all_ones(
 }
 
 pub(crate) fn cancel_itself(world: &World, node: &Node<'_>) -> Option<Reason>
-    ensures { result ≡ first_failed_condition
+    ensures { result ≡ first_failed_test
         (cancel_itself (module_in world.now).tree (header_of_node world.now.ctx node.now)) }
 {
     let Some(p) = binary_op(node) else {
@@ -150,7 +150,7 @@ pub(crate) fn cancel_itself(world: &World, node: &Node<'_>) -> Option<Reason>
 }
 
 pub(crate) fn keep_itself(world: &World, node: &Node<'_>) -> Option<Reason>
-    ensures { result ≡ first_failed_condition
+    ensures { result ≡ first_failed_test
         (keep_itself (module_in world.now).tree (header_of_node world.now.ctx node.now)) }
 {
     let Some(p) = binary_op(node) else {
@@ -170,7 +170,7 @@ pub(crate) fn zero_remainder(
     world: &World,
     node: &Node<'_>,
 ) -> Result<Option<Reason>, AllocError>
-    ensures { IfOk result (λ c. c ≡ first_failed_condition
+    ensures { IfOk result (λ c. c ≡ first_failed_test
         (zero_remainder (module_in world.now).tree (header_of_node world.now.ctx node.now))) }
 {
     let Some(p) = binary_op(node) else {
@@ -187,7 +187,7 @@ pub(crate) fn add_negative(
     world: &World,
     node: &Node<'_>,
 ) -> Result<Option<Reason>, AllocError>
-    ensures { IfOk result (λ c. c ≡ first_failed_condition
+    ensures { IfOk result (λ c. c ≡ first_failed_test
         (add_negative (module_in world.now).tree (header_of_node world.now.ctx node.now))) }
 {
     let Some(p) = binary_op(node) else {
@@ -204,7 +204,7 @@ pub(crate) fn add_negative(
 
 pub(crate) fn compare_itself(world: &World, node: &Node<'_>) -> Option<Reason>
     requires of { NodeIsOf world.now.ctx node.now }
-    ensures { result ≡ first_failed_condition
+    ensures { result ≡ first_failed_test
         (compare_itself (module_in world.now).tree (header_of_node world.now.ctx node.now)) }
 {
     let Some(p) = binary_op(node) else {
@@ -228,7 +228,7 @@ pub(crate) fn mirror_comparison(
     node: &Node<'_>,
 ) -> Result<Option<Reason>, AllocError>
     requires of { NodeIsOf world.now.ctx node.now }
-    ensures { IfOk result (λ c. c ≡ first_failed_condition
+    ensures { IfOk result (λ c. c ≡ first_failed_test
         (mirror_comparison (module_in world.now).tree (header_of_node world.now.ctx node.now))) }
 {
     let Some(p) = binary_op(node) else {
@@ -262,7 +262,7 @@ pub(crate) fn compare_zero(
     node: &Node<'_>,
 ) -> Result<Option<Reason>, AllocError>
     requires of { NodeIsOf world.now.ctx node.now }
-    ensures { IfOk result (λ c. c ≡ first_failed_condition
+    ensures { IfOk result (λ c. c ≡ first_failed_test
         (compare_zero (module_in world.now).tree (header_of_node world.now.ctx node.now))) }
 {
     let Some(p) = binary_op(node) else {
@@ -287,7 +287,7 @@ pub(crate) fn compare_zero(
 }
 
 pub(crate) fn expand_min_max(world: &World, node: &Node<'_>) -> Option<Reason>
-    ensures { result ≡ first_failed_condition
+    ensures { result ≡ first_failed_test
         (expand_min_max (module_in world.now).tree (header_of_node world.now.ctx node.now)) }
 {
     let Some(p) = binary_op(node) else {
@@ -300,7 +300,7 @@ pub(crate) fn expand_min_max(world: &World, node: &Node<'_>) -> Option<Reason>
 }
 
 pub(crate) fn expand_difference(world: &World, node: &Node<'_>) -> Option<Reason>
-    ensures { result ≡ first_failed_condition
+    ensures { result ≡ first_failed_test
         (expand_difference (module_in world.now).tree (header_of_node world.now.ctx node.now)) }
 {
     let Some(p) = binary_op(node) else {
@@ -313,7 +313,7 @@ pub(crate) fn expand_difference(world: &World, node: &Node<'_>) -> Option<Reason
 }
 
 pub(crate) fn expand_remainder(world: &World, node: &Node<'_>) -> Option<Reason>
-    ensures { result ≡ first_failed_condition
+    ensures { result ≡ first_failed_test
         (expand_remainder (module_in world.now).tree (header_of_node world.now.ctx node.now)) }
 {
     let Some(p) = binary_op(node) else {

@@ -5,7 +5,7 @@ ghost use Rattle.ir_event.specs.trees.Meaning.{Operation};
 ghost use Rattle.ir_event.specs.Modules.{NodeIsOf, module_in};
 ghost use Rattle.patterns_base.specs.Looks.{body};
 ghost use Rattle.patterns_matchers.specs.Reads.{head_at, header_of_node};
-ghost use Rattle.patterns_reasons.specs.Conditions.{first_failed_condition};
+ghost use Rattle.patterns_reasons.specs.Conditions.{first_failed_test};
 ghost use Rattle.patterns_reasons.specs.Tests.{block_tests, is_below, open_branch, open_loop, stop_loop};
 
 use crate::reason::Reason;
@@ -25,7 +25,7 @@ pub(crate) fn open_branch(
     node: &Node<'_>,
     applies: bool,
 ) -> Result<Option<Reason>, AllocError>
-    ensures { IfOk result (λ c. c ≡ first_failed_condition
+    ensures { IfOk result (λ c. c ≡ first_failed_test
         (open_branch (module_in world.now).tree (header_of_node world.now.ctx node.now) applies)) }
 {
     if !world.ctx.is_word(node.name(), Word::ScfIf) {
@@ -78,7 +78,7 @@ fn open_loop(
 ) -> Result<Option<Reason>, AllocError>
     requires shown { Some (header_of_node world.now.ctx node.now) ≡ head_at op (module_in world.now).tree }
     ensures { IfOk result (λ c. (o : Operation) → find op (module_in world.now).tree ≡ Some o
-        → c ≡ first_failed_condition (open_loop (module_in world.now).tree o applies)) }
+        → c ≡ first_failed_test (open_loop (module_in world.now).tree o applies)) }
 {
     if !world.ctx.is_word(node.name(), Word::ScfFor) {
         return Ok(Some(Reason::WrongOperation));
@@ -112,7 +112,7 @@ fn stop_loop(
 ) -> Result<Option<Reason>, AllocError>
     requires shown { Some (header_of_node world.now.ctx node.now) ≡ head_at op (module_in world.now).tree }
     ensures { IfOk result (λ c. (o : Operation) → find op (module_in world.now).tree ≡ Some o
-        → c ≡ first_failed_condition (stop_loop (module_in world.now).tree o applies)) }
+        → c ≡ first_failed_test (stop_loop (module_in world.now).tree o applies)) }
 {
     if !world.ctx.is_word(node.name(), Word::ScfWhile) {
         return Ok(Some(Reason::WrongOperation));
@@ -137,7 +137,7 @@ pub(crate) fn of_block(
 ) -> Result<Option<Reason>, AllocError>
     requires shown { Some (header_of_node world.now.ctx node.now) ≡ head_at op (module_in world.now).tree }
     ensures { IfOk result (λ c. (o : Operation) → find op (module_in world.now).tree ≡ Some o
-        → c ≡ first_failed_condition (block_tests rule (module_in world.now).tree o applies)) }
+        → c ≡ first_failed_test (block_tests rule (module_in world.now).tree o applies)) }
 {
     match rule {
         Rule::OpenLoop => open_loop(alloc, world, op, node, applies),

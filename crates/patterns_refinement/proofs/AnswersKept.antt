@@ -7,7 +7,7 @@ use Rattle.patterns_base.specs.Canonicalization.{Canonical, End, canonicalizatio
 use Rattle.greedy.specs.Changes.{canonicalizing, rewriting}
 use Rattle.greedy.specs.Changes as changes
 use Rattle.greedy.specs.Rewriting.{rewriting_of}
-use Rattle.greedy.specs.PatternSet.{by_attempts}
+use Rattle.greedy.specs.PatternSet.{pattern_set_from}
 use Rattle.patterns_refinement.specs.Keeping.{IsReady}
 use Rattle.patterns_refinement.specs.Canonical.{CanonicalizationKeeps, IsPlain}
 use Rattle.patterns_refinement.specs.Refining.{CanonRefines}
@@ -62,18 +62,18 @@ run_made (stopped r) n o i = absurd (never_ok _ (o, n) _ (Ok (o, n)) refl refl i
 
 -- ---- the laws
 pub rewrite_answer_refines : NotedRewriteRefines → RewriteAnswerRefines
-rewrite_answer_refines refines b reached ts are limit s t reply shows ready range a = elim (answers_held (rewriting (by_attempts ts) limit) s t reply shows a) [
+rewrite_answer_refines refines b reached ts are limit s t reply shows ready range a = elim (answers_held (rewriting (pattern_set_from ts) limit) s t reply shows a) [
   | inl e ↦ still s.held t.held ready range e
   | inr made ↦
-      let r = run_made (rewriting_of (by_attempts ts) limit s.held) t.held made.0 made.1 in
+      let r = run_made (rewriting_of (pattern_set_from ts) limit s.held) t.held made.0 made.1 in
       refines b reached ts are limit s.held t.held r.count r.end ready range r.is
 ]
 
 pub canon_list_answer_refines : NotedCanonListsRefine → CanonListAnswerRefines
-canon_list_answer_refines refines b reached ts are limit s t reply shows ready plain range a = elim (answers_held (rewriting (by_attempts ts) limit) s t reply shows a) [
+canon_list_answer_refines refines b reached ts are limit s t reply shows ready plain range a = elim (answers_held (rewriting (pattern_set_from ts) limit) s t reply shows a) [
   | inl e ↦ (still s.held t.held ready range e, subst IsPlain (sym e) plain)
   | inr made ↦
-      let r = run_made (rewriting_of (by_attempts ts) limit s.held) t.held made.0 made.1 in
+      let r = run_made (rewriting_of (pattern_set_from ts) limit s.held) t.held made.0 made.1 in
       let k = refines b reached ts are limit s.held t.held r.count r.end ready plain range r.is in
       ((k.0, k.2, k.3), k.1)
 ]

@@ -24,7 +24,7 @@ use Rattle.user_patterns_check.specs.Checks.{AlwaysKeeps}
 use Rattle.user_patterns_data.specs.Shapes.{PatternModel}
 use Rattle.user_patterns_build.specs.CanBuild.{can_build}
 use Rattle.user_patterns_apply.specs.Built.{plan_of}
-use Rattle.user_patterns_apply.specs.Own.{edits_for, is_one, own_edits, own_rewrite}
+use Rattle.user_patterns_apply.specs.Own.{edits_for, is_one, user_pattern_edits, user_pattern_rewrite}
 use Rattle.user_patterns_apply.proofs.FoundBuilt.{when_is}
 use Rattle.patterns_refinement.specs.After.{rewritten, with_made}
 use Rattle.patterns_refinement.specs.Applying.{CheckedKeepsThere}
@@ -66,7 +66,7 @@ module _ (p : PatternModel) (m n : Module) (x : ℕ) where
     pub made : List Operation
     pub value : Value
     pub plan : planned m.tree (is_verified m.tree) m.next p x ≡ Some (made, value)
-    pub edits : own_edits p m x ≡ Some (map (λ o. Make insertion o) made ++ give x value)
+    pub edits : user_pattern_edits p m x ≡ Some (map (λ o. Make insertion o) made ++ give x value)
     pub becomes_it : carried_out (map (λ o. Make insertion o) made ++ give x value) m ≡ becomes n
     pub module_is : all_edited (map (λ o. Make insertion o) made ++ give x value) m ≡ n
     pub is : n.tree ≡ rewritten insertion m.next made x value m.tree
@@ -75,9 +75,9 @@ module _ (p : PatternModel) (m n : Module) (x : ℕ) where
   planned_edits insertion None es e = absurd (none-some es e)
   planned_edits insertion (Some plan) es e = (plan, refl, same_Some _ _ e)
 
-  edits_parts : (es : List Edit) → own_edits p m x ≡ Some es
+  edits_parts : (es : List Edit) → user_pattern_edits p m x ≡ Some es
       → (insertion : Place) × (plan : Plan) × (planned m.tree (is_verified m.tree) m.next p x ≡ Some plan) × (map (λ o. Make insertion o) plan.0 ++ give x plan.1 ≡ es)
-  unfolding own_edits
+  unfolding user_pattern_edits
   edits_parts es e =
       let g = given_some (find x m.tree) (λ o. given (insertion_of x m.tree) (λ insertion. looks.when (is_one (head o).results) (edits_for insertion x (plan_of m.tree (is_verified m.tree) m.next p x)))) es e in
       let h = given_some (insertion_of x m.tree) (λ insertion. looks.when (is_one (head g.0).results) (edits_for insertion x (plan_of m.tree (is_verified m.tree) m.next p x))) es g.2 in
@@ -86,10 +86,10 @@ module _ (p : PatternModel) (m n : Module) (x : ℕ) where
       let s = when_is (can_build p) (planned m.tree (is_verified m.tree) m.next p x) q.0 q.1 in
       (h.0, q.0, s.1, q.2)
 
-  pub applies : own_rewrite p m x ≡ becomes n → Applies
-  unfolding own_rewrite
+  pub applies : user_pattern_rewrite p m x ≡ becomes n → Applies
+  unfolding user_pattern_rewrite
   applies e =
-      let r = some_edits m n (own_edits p m x) e in
+      let r = some_edits m n (user_pattern_edits p m x) e in
       let q = edits_parts r.0 r.1 in
       record {
         insertion = q.0;

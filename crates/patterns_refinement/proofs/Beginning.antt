@@ -20,13 +20,13 @@ use Rattle.user_patterns_check.proofs.Keeping.{one_known}
 use Rattle.patterns_laws.proofs.KnownFolds.{given_some, given_at}
 use Rattle.user_patterns_data.specs.declared.pattern.ExtraConstant.{ExtraConstant}
 use Rattle.user_patterns_data.specs.Fitting.{kind_at}
-use Rattle.user_patterns_data.specs.Matching.{Header, Standing, known, standing}
-use Rattle.user_patterns_data.specs.Planning.{are_same, constants_known, extra_known, kind_standing, known_at, outcomes}
+use Rattle.user_patterns_data.specs.Matching.{Header, BoundValues, known, binding_at}
+use Rattle.user_patterns_data.specs.Planning.{are_same, constants_known, extra_known, bound_type, known_at, outcomes}
 use Rattle.user_patterns_data.specs.Shapes.{PatternModel}
 use Rattle.user_patterns_data.specs.WellFormed.{is_variable}
 use Rattle.ir_tree_laws.proofs.Reasoned.{some_there}
 use Rattle.patterns_refinement.specs.Meaning.{Assignment, IsOfType}
-use Rattle.patterns_refinement.proofs.Standing.{AllTyped, Stands, one_stands, standing_stands, stands_standing}
+use Rattle.patterns_refinement.proofs.BoundValues.{AllTyped, Stands, one_stands, standing_stands, stands_standing}
 use Rattle.patterns_refinement.proofs.Trees.{TypesFound}
 use Rattle.patterns_refinement.proofs.Steps.{push_last, push_other}
 use Rattle.patterns_refinement.proofs.Forms.{FitThere, constant_there, kind_is}
@@ -38,19 +38,19 @@ bits_below k n e = let h = and_parts (is_width (width_of k)) (nat_lt n (2 ^ widt
 bits_are : (k : BitsKind) (n : ℕ) → is_bits k n ≡ true → bits_of k n ≡ Some (k, n)
 bits_are k n e = ap (λ b. if b then Some (k, n) else None) e
 
-module _ (t : Operation) (verified : Header → Bool) (a : Assignment) (b : Standing Value) (ts : Standing TypeTerm) where
+module _ (t : Operation) (verified : Header → Bool) (a : Assignment) (b : BoundValues Value) (ts : BoundValues TypeTerm) where
   -- ---- the variables' values, from a place on
   pub record Begins (k : ℕ) (tys : List ℕ) (preceding : List Outcome) : Type 0 where
     pub values : List ℕ
-    pub below : AreBelow (map (λ k. 2 ^ width_of k) (map (kind_at (map kind_standing ts)) tys)) values
+    pub below : AreBelow (map (λ k. 2 ^ width_of k) (map (kind_at (map bound_type ts)) tys)) values
     pub env : List Outcome
-    pub are : bound (map (kind_at (map kind_standing ts)) tys) values preceding ≡ Some env
+    pub are : bound (map (kind_at (map bound_type ts)) tys) values preceding ≡ Some env
     pub long : length env ≡ k + length tys
     pub stays : (j : ℕ) (o : Outcome) → slice_get preceding j ≡ Some o → slice_get env j ≡ Some o
     pub shows : (j : ℕ) (v : Value) → k ≤ j → j < k + length tys → Stands j v b → slice_get env j ≡ Some (a v)
 
   pub begins : TypesFound a t → (k : ℕ) (tys : List ℕ) (preceding : List Outcome) → length preceding ≡ k → AllTyped t verified k tys b ts
-      → ((i : ℕ) (v : Value) → i < k + length tys → standing i b ≡ Some v → is_some (a v) ≡ true) → Begins k tys preceding
+      → ((i : ℕ) (v : Value) → i < k + length tys → binding_at i b ≡ Some v → is_some (a v) ≡ true) → Begins k tys preceding
   begins of k [] preceding l r known = record {
     values = [];
     below = tt;
@@ -64,15 +64,15 @@ module _ (t : Operation) (verified : Header → Bool) (a : Assignment) (b : Stan
       let q = r.0 in
       let x = some_there (a q.value) (known k q.value (omega arith) (stands_standing k q.value b q.stands)) in
       let typed : IsOfType q.term (Some x.0) = subst (λ o. IsOfType q.term o) x.1 (of q.value q.term q.of_value) in
-      let at : kind_at (map kind_standing ts) ty ≡ x.0.0 = kind_is ts ty q.term x.0.0 q.type_stands typed.0 in
-      let bits : bits_of (kind_at (map kind_standing ts) ty) x.0.1 ≡ Some x.0 = ap (λ k. bits_of k x.0.1) at ∙ bits_are x.0.0 x.0.1 typed.1 in
+      let at : kind_at (map bound_type ts) ty ≡ x.0.0 = kind_is ts ty q.term x.0.0 q.type_stands typed.0 in
+      let bits : bits_of (kind_at (map bound_type ts) ty) x.0.1 ≡ Some x.0 = ap (λ k. bits_of k x.0.1) at ∙ bits_are x.0.0 x.0.1 typed.1 in
       let ih = begins of (k + 1) tys (preceding ++ (Some x.0 ∷ [])) (length_push preceding (Some x.0) ∙ ap (λ n. n + 1) l) r.1 (λ i v m s. known i v (omega (arith, m)) s) in
       record {
         values = x.0.1 ∷ ih.values;
         below = (subst (λ k. x.0.1 < 2 ^ width_of k) (sym at) (bits_below x.0.0 x.0.1 typed.1), ih.below);
         env = ih.env;
         are =
-            given_at (bits_of (kind_at (map kind_standing ts) ty) x.0.1) x.0 (λ y. bound (map (kind_at (map kind_standing ts)) tys) ih.values (preceding ++ (Some y ∷ []))) (Some ih.env) bits ih.are;
+            given_at (bits_of (kind_at (map bound_type ts) ty) x.0.1) x.0 (λ y. bound (map (kind_at (map bound_type ts)) tys) ih.values (preceding ++ (Some y ∷ []))) (Some ih.env) bits ih.are;
         long = omega (arith, ih.long);
         stays = λ j o h. ih.stays j o (push_other preceding (Some x.0) j o h);
         shows = λ j v low high s. elim (cases_eq j k) [
@@ -93,7 +93,7 @@ module _ (t : Operation) (verified : Header → Bool) (a : Assignment) (b : Stan
 
   pub known_there : AreKnown → (n : ℕ) (p : PatternModel) (k : ℕ) (v : Value) (x : Known) → known_at t verified n p b k ≡ Some x → Stands k v b → a v ≡ Some x
   known_there knows n p k v x e s =
-      let g = given_some (standing k b) (known t verified) x e in
+      let g = given_some (binding_at k b) (known t verified) x e in
       knows k v x s (ap (known t verified) (one_stands k v g.0 b s (standing_stands k g.0 b g.1)) ∙ g.2)
 
   module _ (n : ℕ) (p : PatternModel) where
@@ -145,7 +145,7 @@ module _ (t : Operation) (verified : Header → Bool) (a : Assignment) (b : Stan
         | inl c ↦
             let l = constants_below p.constants below k c in
             let x = some_there (known_at t verified n p b k) (constants_are p.constants all k c) in
-            let g = given_some (standing k b) (known t verified) x.0 x.1 in
+            let g = given_some (binding_at k b) (known t verified) x.0 x.1 in
             let s_at = standing_stands k g.0 b g.1 in
             outcomes_at 0 p.values k l ∙ ap (λ j. Some (outcome_at j)) (no_more k) ∙ ap (λ c. Some (if c then known_at t verified n p b k else None)) c ∙ ap (λ o. Some o) x.1
             ∙ sym (shows k g.0 l s_at ∙ ap (λ o. Some o) (known_there knows n p k g.0 x.0 x.1 s_at))

@@ -11,7 +11,7 @@ use Rattle.ir_tree.specs.declared.place.Place.{Place}
 use Rattle.ir_tree.specs.Tree.{regions, no_regions}
 use Rattle.ir_tree.specs.WellFormed.{IsWellFormed}
 use Rattle.ir_tree.specs.Meaning.{Operation}
-use Rattle.ir_tree_laws.specs.Reasons.{hold_none, unless, users_see}
+use Rattle.ir_tree_laws.specs.Reasons.{hold_none, unless, is_visible_to_users}
 use Rattle.ir_tree_laws.specs.Values.{has_value, type_of_value}
 use Rattle.ir_tree_laws.proofs.HeadForm.{replaced_keeps, set_operand_keeps}
 use Rattle.ir_tree_laws.proofs.Reasoned.{no_unless}
@@ -46,9 +46,9 @@ four_hold a b c d p q r s e =
     (f.0, g.0, h.0, (no_unless d s None h.1).0)
 
 pub replaced_parts : (old new : Value) (m : Module) → edit_reason (Replace old new) m ≡ None
-    → (has_value old m.tree ≡ true) × (has_value new m.tree ≡ true) × (option_eq same_type (type_of_value old m.tree) (type_of_value new m.tree) ≡ true) × (users_see is_isolated old new m.tree ≡ true)
+    → (has_value old m.tree ≡ true) × (has_value new m.tree ≡ true) × (option_eq same_type (type_of_value old m.tree) (type_of_value new m.tree) ≡ true) × (is_visible_to_users is_isolated old new m.tree ≡ true)
 replaced_parts old new m r =
-    four_hold (has_value old m.tree) (has_value new m.tree) (option_eq same_type (type_of_value old m.tree) (type_of_value new m.tree)) (users_see is_isolated old new m.tree) NoSuchValue NoSuchValue TypeDiffers NotVisible r
+    four_hold (has_value old m.tree) (has_value new m.tree) (option_eq same_type (type_of_value old m.tree) (type_of_value new m.tree)) (is_visible_to_users is_isolated old new m.tree) NoSuchValue NoSuchValue TypeDiffers NotVisible r
 
 one_wellformed : (e : Edit) (m : Module) → IsPlain e → IsWellFormed is_isolated m → edit_reason e m ≡ None → IsWellFormed is_isolated (edited e m)
 one_wellformed (Make place o) m p w r = put_keeps is_isolated place o m w (ap hold_none p) r

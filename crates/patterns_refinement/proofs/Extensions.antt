@@ -15,7 +15,7 @@ use Rattle.ir_tree.specs.Tree.{head}
 use Rattle.ir_tree.specs.Ids.{HasDistinctIds, find}
 use Rattle.ir_tree.specs.Meaning.{Operation}
 use Rattle.ir_tree_laws.specs.Members.{In}
-use Rattle.ir_tree_laws.specs.Stands.{StandOf, stand_of, stands}
+use Rattle.ir_tree_laws.specs.Stands.{OpWithPathOf, op_with_path, stands}
 use Rattle.ir_tree_laws.specs.Values.{type_of_value}
 use Rattle.ir_tree_laws.proofs.Members.{found_stands, stand, stand_of_member}
 use Rattle.op_registry.specs.Rows.{Row, TypesRow, rows}
@@ -32,7 +32,7 @@ use Rattle.patterns_laws.specs.Keeps.{Each}
 use Rattle.patterns_laws.specs.Words.{among, extensions}
 use Rattle.patterns_base.specs.Diagnostics.{broken_at}
 use Rattle.patterns_base.specs.Looks.{Header, breaks_none, is_verified}
-use Rattle.patterns_base.specs.verify.Breaks.{broken, numbers_from, broken_rules_in, told_of}
+use Rattle.patterns_base.specs.verify.Breaks.{broken, numbers_from, broken_rules_in, counted_rules}
 use Rattle.patterns_base.proofs.Dispatch.{of_among}
 use Rattle.patterns_soundness.proofs.Unbroken.{verified_unbroken, spoken}
 use Rattle.patterns_soundness.proofs.Typed.{pair, typed, types_at}
@@ -40,8 +40,8 @@ use Rattle.user_patterns_check.specs.Outcomes.{given}
 use Rattle.patterns_refinement.proofs.Verified.{integer_is, no_rules}
 use Rattle.patterns_refinement.specs.Better.{kind_in}
 
-abbrev Stand : Type 0
-Stand = StandOf (List ℕ) TypeTerm AttrTerm
+abbrev OpWithPath : Type 0
+OpWithPath = OpWithPathOf (List ℕ) TypeTerm AttrTerm
 
 -- ---- a verified operation breaks no rule
 abbrev AllFalse : List Bool → Type 0
@@ -53,7 +53,7 @@ all_false n [] e = tt
 all_false n (true ∷ bs) e = absurd cc
 all_false n (false ∷ bs) e = (refl, all_false (n + 1) bs e)
 
-none_told : (t : Operation) (z : Stand) (row : Row) → is_verified t (head z.here) ≡ true → stand_of (head z.here).id t ≡ Some z → row_of (head z.here).name ≡ Some row → AllFalse (told_of row (surround t z))
+none_told : (t : Operation) (z : OpWithPath) (row : Row) → is_verified t (head z.here) ≡ true → op_with_path (head z.here).id t ≡ Some z → row_of (head z.here).name ≡ Some row → AllFalse (counted_rules row (surround t z))
 unfolding is_verified
 none_told t z row e f g =
     let s = surround t z in
@@ -61,10 +61,10 @@ none_told t z row e f g =
     let verified = (and_parts (breaks_none (broken_at h.id t)) (list_all (λ (e : List ℕ × AttrTerm). is_inherent h.name e.0) h.properties) e).0 in
     let all : broken s ≡ [] = no_rules (broken s) (sym (ap (λ o. breaks_none (option_map broken (option_map (surround t) o))) f) ∙ verified) in
     let listed : row_of s.node.head.name ≡ Some row = ap (λ (h : Header). row_of h.name) (head_shown z.here) ∙ g in
-    all_false 1 (told_of row s) (sym (ap (λ r. numbers_from 1 (broken_rules_in r s)) listed) ∙ all)
+    all_false 1 (counted_rules row s) (sym (ap (λ r. numbers_from 1 (broken_rules_in r s)) listed) ∙ all)
 
 -- the rule on widths
-pub widths_right : (t : Operation) (z : Stand) (row : Row) → is_verified t (head z.here) ≡ true → stand_of (head z.here).id t ≡ Some z → row_of (head z.here).name ≡ Some row → breaks_18 (surround t z) ≡ false
+pub widths_right : (t : Operation) (z : OpWithPath) (row : Row) → is_verified t (head z.here) ≡ true → op_with_path (head z.here).id t ≡ Some z → row_of (head z.here).name ≡ Some row → breaks_18 (surround t z) ≡ false
 widths_right t z row e f g =
     let s = surround t z in
     let u = verified_unbroken t z row e f g in
@@ -109,7 +109,7 @@ module _ (t o : Operation) (u : Value) (ty : TypeTerm) (d : HasDistinctIds t) (f
       → isnt_greater (type_of_value u t ∷ []) (ty ∷ []) ≡ false
   at_stand cuts extends row listed = go (found_stands (head o).id t o found)
     where
-      go : (s : Stand) × In s (stands [] t) × ((head s.here).id ≡ (head o).id) × (s.here ≡ o) → isnt_greater (type_of_value u t ∷ []) (ty ∷ []) ≡ false
+      go : (s : OpWithPath) × In s (stands [] t) × ((head s.here).id ≡ (head o).id) × (s.here ≡ o) → isnt_greater (type_of_value u t ∷ []) (ty ∷ []) ≡ false
       go w =
           let here : In (stand o w.0.path) (stands [] t) = subst (λ (z : Operation). In (stand z w.0.path) (stands [] t)) w.3 w.1 in
           let s = surround t (stand o w.0.path) in

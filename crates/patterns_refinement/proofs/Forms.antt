@@ -28,15 +28,15 @@ use Rattle.user_patterns_data.specs.declared.pattern.Expression.{Expression}
 use Rattle.user_patterns_data.specs.declared.pattern.Expression.TheVariants as form
 use Rattle.user_patterns_data.specs.Fitting.{form_step, kind_at}
 use Rattle.user_patterns_data.specs.Names.{name_of, operands_of, predicate_number, predicate_of}
-use Rattle.user_patterns_data.specs.Matching.{Header, Standing, defining_op_head, known, predicate_is, when}
-use Rattle.user_patterns_data.specs.Planning.{kind_standing}
+use Rattle.user_patterns_data.specs.Matching.{Header, BoundValues, defining_op_head, known, predicate_is, when}
+use Rattle.user_patterns_data.specs.Planning.{bound_type}
 use Rattle.user_patterns_data.proofs.Named.{names_fold}
 use Rattle.user_patterns_build.specs.CanBuild.{has_name}
 use Rattle.user_patterns_apply.proofs.FoundBuilt.{when_is}
 use Rattle.patterns_refinement.proofs.Flags.{broken_flagged}
 use Rattle.patterns_refinement.specs.Meaning.{Assignment, is_arithmetic, makes, makes_by, of_one, of_three, of_two, owner, result_kind, Obeys}
 use Rattle.patterns_refinement.specs.Applied.{AreDone, AreUnbroken}
-use Rattle.patterns_refinement.proofs.Standing.{stands_standing, Stands}
+use Rattle.patterns_refinement.proofs.BoundValues.{stands_standing, Stands}
 use Rattle.patterns_refinement.proofs.Trees.{FoundFit}
 
 -- ---- the environment has the outcomes of the operands at their places
@@ -203,11 +203,11 @@ module _ (t : Operation) (verified : Header → Bool) where
     MakesIt v h = is_arithmetic h ≡ true → makes h (map a h.operands) ≡ Some (a v)
 
     -- the defining operations of the bound values fit
-    abbrev pub FitThere : Standing Value → Type 0
+    abbrev pub FitThere : BoundValues Value → Type 0
     FitThere b = (i : ℕ) (v : Value) (h : Header) → Stands i v b → defining_op_head t verified v ≡ Some h → MakesIt v h
 
     -- if they are executed
-    pub fit_there : (done : ℕ → Bool) → FoundFit a done t → (b : Standing Value) → AreDone t verified done b → AreUnbroken t verified a b → FitThere b
+    pub fit_there : (done : ℕ → Bool) → FoundFit a done t → (b : BoundValues Value) → AreDone t verified done b → AreUnbroken t verified a b → FitThere b
     fit_there done fits b are unbroken i v h s e arithmetic =
         let g = defining_op_of v h e in
         let is : done g.id ≡ true = sym (ap (λ w. done (owner w)) g.value) ∙ are i v h (stands_standing i v b s) e in
@@ -235,8 +235,8 @@ module _ (t : Operation) (verified : Header → Bool) where
         ∙ given_at (fold_of g.0.name g.0.properties [] g.0.results) x (λ x. Some (Some x)) (Some (Some x)) w.1 refl)
 
 -- ---- kinds of types
-pub kind_is : (ts : Standing TypeTerm) (ty : ℕ) (term : TypeTerm) (k : BitsKind) → Stands ty term ts → kind_of term ≡ Some k → kind_at (map kind_standing ts) ty ≡ k
-kind_is ts ty term k s e = get_or_from_slice_get (map kind_standing ts) ty (kind_standing (Some term)) (kind.Int 0) (slice_get-map kind_standing ts ty ∙ ap (option_map kind_standing) s) ∙ stands_as
+pub kind_is : (ts : BoundValues TypeTerm) (ty : ℕ) (term : TypeTerm) (k : BitsKind) → Stands ty term ts → kind_of term ≡ Some k → kind_at (map bound_type ts) ty ≡ k
+kind_is ts ty term k s e = get_or_from_slice_get (map bound_type ts) ty (bound_type (Some term)) (kind.Int 0) (slice_get-map bound_type ts ty ∙ ap (option_map bound_type) s) ∙ stands_as
   where
-    stands_as : kind_standing (Some term) ≡ k
+    stands_as : bound_type (Some term) ≡ k
     stands_as = rw e refl

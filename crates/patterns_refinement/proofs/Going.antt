@@ -22,10 +22,10 @@ use Rattle.user_patterns_check.specs.Outcomes.{Outcome, given, run}
 use Rattle.patterns_laws.proofs.KnownFolds.{given_at, given_some}
 use Rattle.user_patterns_data.specs.declared.pattern.PatternOp.{PatternOp}
 use Rattle.user_patterns_data.specs.Fitting.{content_with, fits, extra_step, kind_at, number_step, pattern_op_step}
-use Rattle.user_patterns_data.specs.Matching.{Header, Standing, bound, nothing, ops_match, placed, standing, types_at, written}
-use Rattle.user_patterns_data.specs.Planning.{Plan, all_made, constants_known, extra_known, extra_place, is_numeric, kind_standing, new_place, old_place, outcomes, places, planned, planned_by, planned_from, typed}
+use Rattle.user_patterns_data.specs.Matching.{Header, BoundValues, bound, nothing, ops_match, placed, binding_at, types_at, written}
+use Rattle.user_patterns_data.specs.Planning.{Plan, all_made, constants_known, extra_known, extra_place, is_numeric, bound_type, new_place, old_place, outcomes, places, planned, planned_by, planned_from, typed}
 use Rattle.user_patterns_data.specs.Shapes.{PatternModel}
-use Rattle.user_patterns_data.specs.WellFormed.{requested_stands, preceding_stands, extra_stands, is_new, is_type, is_variable, is_well_formed, kind_stands, new_begins, new_ends, news_stand, numbers_stand, old_begins, olds_stand, sides_stand}
+use Rattle.user_patterns_data.specs.WellFormed.{constraint_is_valid, preceding_is_valid, extra_is_valid, is_new, is_type, is_variable, is_well_formed, type_is_valid, new_begins, new_ends, news_are_valid, numbers_are_valid, old_begins, olds_are_valid, sides_are_valid}
 use Rattle.user_patterns_build.specs.CanBuild.{can_build, is_named, result_type, same_number, spares}
 use Rattle.ir_tree.proofs.Replaced.{same_value_true}
 use Rattle.user_patterns_check.proofs.Following.{run_after}
@@ -34,7 +34,7 @@ use Rattle.dialects_int.proofs.KnownOperands.{same_itself}
 use Rattle.user_patterns_apply.proofs.FoundBuilt.{when_is}
 use Rattle.patterns_refinement.specs.Meaning.{Assignment, FitsEach, IsOfType, TypedEach}
 use Rattle.patterns_refinement.specs.Applied.{Agree, CheckedPlansGo, Goes, IsBelow, IsFound, IsProper, PlansGo, all_named, extra_kind, is_typed, kinds_after, kinds_given, kinds_matched, matched}
-use Rattle.patterns_refinement.proofs.Standing.{AllHold, AllTyped, IsTyped, Stands, all_hold, all_typed, all_typed_still, bound_holds, one_stands, standing_stands}
+use Rattle.patterns_refinement.proofs.BoundValues.{AllHold, AllTyped, IsTyped, Stands, all_hold, all_typed, all_typed_still, bound_holds, one_stands, standing_stands}
 use Rattle.patterns_refinement.proofs.Trees.{FoundFit, TypesFound, found_fit, types_found, value_below}
 use Rattle.patterns_refinement.proofs.Steps.{Grows, run_grows}
 use Rattle.patterns_refinement.proofs.Forms.{FitThere, fit_there, kind_is}
@@ -68,26 +68,26 @@ kept_by s values env old k ran is = (defined.0, defined.1, defined.2, defined.3,
 
 -- ---- from a plan
 module _ (t : Operation) (verified : Header → Bool) (n : ℕ) (p : PatternModel) where
-  pub record IsPlanned (b : Standing Value) (ts : Standing TypeTerm) (os : List Operation) (v : Value) : Type 0 where
-    pub widths : fits (map kind_standing ts) p ≡ true
+  pub record IsPlanned (b : BoundValues Value) (ts : BoundValues TypeTerm) (os : List Operation) (v : Value) : Type 0 where
+    pub widths : fits (map bound_type ts) p ≡ true
     pub constants : constants_known t verified n p b ≡ true
     pub env : List Outcome
-    pub numbers : run (Content.given (content_with (map kind_standing ts) p)) (outcomes t verified n p 0 p.values b) ≡ Some env
+    pub numbers : run (Content.given (content_with (map bound_type ts) p)) (outcomes t verified n p 0 p.values b) ≡ Some env
     pub extra : extra_known t verified n p (extra_place p) p.extra b env ≡ true
-    pub last : Standing Value
+    pub last : BoundValues Value
     pub made : all_made ts env n (new_place p) p.new b ≡ Some (os, last)
-    pub result : standing p.result last ≡ Some v
+    pub result : binding_at p.result last ≡ Some v
 
-  plan_parts : (b : Standing Value) (ts : Standing TypeTerm) (os : List Operation) (v : Value) → planned_by t verified n p b ts ≡ Some (os, v) → IsPlanned b ts os v
+  plan_parts : (b : BoundValues Value) (ts : BoundValues TypeTerm) (os : List Operation) (v : Value) → planned_by t verified n p b ts ≡ Some (os, v) → IsPlanned b ts os v
   plan_parts b ts os v e =
-      let ks = map kind_standing ts in
+      let ks = map bound_type ts in
       let a = when_is (list_all is_numeric ts) _ (os, v) e in
       let w = when_is (fits ks p && constants_known t verified n p b) (given (run (Content.given (content_with ks p)) (outcomes t verified n p 0 p.values b)) (planned_from t verified n p b ts)) (os, v) a.1 in
       let parts = and_parts (fits ks p) (constants_known t verified n p b) w.0 in
       let g = given_some (run (Content.given (content_with ks p)) (outcomes t verified n p 0 p.values b)) (planned_from t verified n p b ts) (os, v) w.1 in
-      let f = when_is (extra_known t verified n p (extra_place p) p.extra b g.0) (given (all_made ts g.0 n (new_place p) p.new b) (λ (r : List Operation × Standing Value). given (standing p.result r.1) (λ v. Some (r.0, v)))) (os, v) g.2 in
-      let r = given_some (all_made ts g.0 n (new_place p) p.new b) (λ (r : List Operation × Standing Value). given (standing p.result r.1) (λ v. Some (r.0, v))) (os, v) f.1 in
-      let s = given_some (standing p.result r.0.1) (λ v. Some (r.0.0, v)) (os, v) r.2 in
+      let f = when_is (extra_known t verified n p (extra_place p) p.extra b g.0) (given (all_made ts g.0 n (new_place p) p.new b) (λ (r : List Operation × BoundValues Value). given (binding_at p.result r.1) (λ v. Some (r.0, v)))) (os, v) g.2 in
+      let r = given_some (all_made ts g.0 n (new_place p) p.new b) (λ (r : List Operation × BoundValues Value). given (binding_at p.result r.1) (λ v. Some (r.0, v))) (os, v) f.1 in
+      let s = given_some (binding_at p.result r.0.1) (λ v. Some (r.0.0, v)) (os, v) r.2 in
       let same : (r.0.0, s.0) ≡ (os, v) = same_Some _ _ s.2 in
       record {
         widths = parts.0;
@@ -101,41 +101,41 @@ module _ (t : Operation) (verified : Header → Bool) (n : ℕ) (p : PatternMode
       }
 
   module _ (x : ℕ) where
-    abbrev root_bound : Option (Standing Value)
+    abbrev root_bound : Option (BoundValues Value)
     root_bound = bound same_value p.root (Result x 0) (nothing (places p))
 
     pub planned_as : planned t verified n p x ≡ given (matched t verified p x) (λ c. given (typed t verified n p c) (planned_by t verified n p c))
     unfolding planned
     planned_as = go root_bound
       where
-        go : (o : Option (Standing Value)) → given o (λ b. given (ops_match t verified (placed (old_place p) p.old) b) (λ c. given (typed t verified n p c) (planned_by t verified n p c)))
+        go : (o : Option (BoundValues Value)) → given o (λ b. given (ops_match t verified (placed (old_place p) p.old) b) (λ c. given (typed t verified n p c) (planned_by t verified n p c)))
             ≡ given (given o (λ b. ops_match t verified (placed (old_place p) p.old) b)) (λ c. given (typed t verified n p c) (planned_by t verified n p c))
         go None = refl
         go (Some b) = refl
 
-    pub planned_there : (b : Standing Value) (ts : Standing TypeTerm) (os : List Operation) (v : Value) → matched t verified p x ≡ Some b → typed t verified n p b ≡ Some ts → planned t verified n p x ≡ Some (os, v) → IsPlanned b ts os v
+    pub planned_there : (b : BoundValues Value) (ts : BoundValues TypeTerm) (os : List Operation) (v : Value) → matched t verified p x ≡ Some b → typed t verified n p b ≡ Some ts → planned t verified n p x ≡ Some (os, v) → IsPlanned b ts os v
     planned_there b ts os v m y e =
         plan_parts b ts os v
         (sym (planned_as ∙ given_at (matched t verified p x) b (λ c. given (typed t verified n p c) (planned_by t verified n p c)) (planned_by t verified n p b ts) m
         (given_at (typed t verified n p b) ts (planned_by t verified n p b) (planned_by t verified n p b ts) y refl)) ∙ e)
 
     -- the matched operations
-    pub record IsMatched (b : Standing Value) : Type 0 where
+    pub record IsMatched (b : BoundValues Value) : Type 0 where
       pub pattern_ops : AllHold t verified (old_place p) p.old b
       pub root : Stands p.root (Result x 0) b
 
-    pub matched_parts : (b : Standing Value) → matched t verified p x ≡ Some b → IsMatched b
+    pub matched_parts : (b : BoundValues Value) → matched t verified p x ≡ Some b → IsMatched b
     matched_parts b e =
         let g = given_some root_bound (λ b. ops_match t verified (placed (old_place p) p.old) b) b e in
         let r = bound_holds same_value same_value_true p.root (Result x 0) (nothing (places p)) g.0 g.1 in
         let h = all_hold t verified (old_place p) p.old g.0 b g.2 in
         record { pattern_ops = h.0; root = h.1 p.root (Result x 0) r.0 }
 
-  pub record AreTyped (b : Standing Value) (ts : Standing TypeTerm) : Type 0 where
+  pub record AreTyped (b : BoundValues Value) (ts : BoundValues TypeTerm) : Type 0 where
     pub variables : AllTyped t verified 0 p.values b ts
     pub pattern_ops : AllTyped t verified (old_place p) (map PatternOp.ty p.old) b ts
 
-  pub typed_parts : (b : Standing Value) (ts : Standing TypeTerm) → typed t verified n p b ≡ Some ts → AreTyped b ts
+  pub typed_parts : (b : BoundValues Value) (ts : BoundValues TypeTerm) → typed t verified n p b ≡ Some ts → AreTyped b ts
   typed_parts b ts e =
       let g = given_some (types_at t verified 0 p.values b (map written p.value_types)) (types_at t verified (old_place p) (map PatternOp.ty p.old) b) ts e in
       let r = all_typed t verified 0 p.values b (map written p.value_types) g.0 g.1 in
@@ -146,24 +146,24 @@ module _ (t : Operation) (verified : Header → Bool) (n : ℕ) (p : PatternMode
 module _ (p : PatternModel) where
   pub record IsWellformed : Type 0 where
     pub constants : list_all (is_variable p) p.constants ≡ true
-    pub extra : list_all (extra_stands p) p.extra ≡ true
-    pub numbers : numbers_stand p (old_begins p) p.given ≡ true
+    pub extra : list_all (extra_is_valid p) p.extra ≡ true
+    pub numbers : numbers_are_valid p (old_begins p) p.given ≡ true
     pub root : p.root + 1 ≡ new_begins p
-    pub olds : olds_stand p (new_begins p) p.old ≡ true
-    pub news : news_stand p (new_ends p) p.new ≡ true
+    pub olds : olds_are_valid p (new_begins p) p.old ≡ true
+    pub news : news_are_valid p (new_ends p) p.new ≡ true
     pub result : is_new p (new_ends p) p.result ≡ true
 
   pub wellformed_parts : is_well_formed p ≡ true → IsWellformed
   wellformed_parts e =
-      let a = and_parts (preceding_stands p) (sides_stand p) e in
-      let b = and_parts (list_all (kind_stands p) p.value_types) _ a.0 in
+      let a = and_parts (preceding_is_valid p) (sides_are_valid p) e in
+      let b = and_parts (list_all (type_is_valid p) p.value_types) _ a.0 in
       let c = and_parts (list_all (is_type p) p.values) _ b.1 in
       let d = and_parts (list_all (is_variable p) p.constants) _ c.1 in
-      let f = and_parts (list_all (extra_stands p) p.extra) _ d.1 in
-      let g = and_parts (list_all (requested_stands p) p.type_constraints) _ f.1 in
+      let f = and_parts (list_all (extra_is_valid p) p.extra) _ d.1 in
+      let g = and_parts (list_all (constraint_is_valid p) p.type_constraints) _ f.1 in
       let h = and_parts (eqb (p.root + 1) (new_begins p)) _ a.1 in
-      let i = and_parts (olds_stand p (new_begins p) p.old) _ h.1 in
-      let j = and_parts (news_stand p (new_ends p) p.new) _ i.1 in
+      let i = and_parts (olds_are_valid p (new_begins p) p.old) _ h.1 in
+      let j = and_parts (news_are_valid p (new_ends p) p.new) _ i.1 in
       record {
         constants = d.0;
         extra = f.0;
@@ -193,7 +193,7 @@ module _ (p : PatternModel) where
       above (Some r) false i e = absurd (true≢false (sym e))
 
 -- ---- put together
-pub typed_at : (t : Operation) (verified : Header → Bool) (k : ℕ) (tys : List ℕ) (b : Standing Value) (ts : Standing TypeTerm) → AllTyped t verified k tys b ts → (i : ℕ) → i < length tys → (ty : ℕ) × (slice_get tys i ≡ Some ty) × IsTyped t verified (k + i) ty b ts
+pub typed_at : (t : Operation) (verified : Header → Bool) (k : ℕ) (tys : List ℕ) (b : BoundValues Value) (ts : BoundValues TypeTerm) → AllTyped t verified k tys b ts → (i : ℕ) → i < length tys → (ty : ℕ) × (slice_get tys i ≡ Some ty) × IsTyped t verified (k + i) ty b ts
 typed_at t verified k [] b ts h i l = absurd (omega (arith, l))
 typed_at t verified k (ty ∷ tys) b ts h zero l = (ty, refl, subst (λ j. IsTyped t verified j ty b ts) (same k) h.0)
   where
@@ -206,7 +206,7 @@ typed_at t verified k (ty ∷ tys) b ts h (suc i) l =
     same : (k i : ℕ) → k + 1 + i ≡ k + suc i
     same k i = omega arith
 
-pub has_type : (t : Operation) (verified : Header → Bool) (k : ℕ) (tys : List ℕ) (b : Standing Value) (ts : Standing TypeTerm) → AllTyped t verified k tys b ts → (j : ℕ) (v : Value) → k ≤ j → j < k + length tys → Stands j v b → has_value v t ≡ true
+pub has_type : (t : Operation) (verified : Header → Bool) (k : ℕ) (tys : List ℕ) (b : BoundValues Value) (ts : BoundValues TypeTerm) → AllTyped t verified k tys b ts → (j : ℕ) (v : Value) → k ≤ j → j < k + length tys → Stands j v b → has_value v t ≡ true
 has_type t verified k [] b ts h j v low high s = absurd (omega (arith, low, high))
 has_type t verified k (ty ∷ tys) b ts h j v low high s = elim (cases_eq j k) [
   | inl e ↦ ap (λ w. has_value w t) (one_stands k v h.0.value b (subst (λ z. Stands z v b) e s) h.0.stands) ∙ ap is_some h.0.of_value
@@ -214,16 +214,16 @@ has_type t verified k (ty ∷ tys) b ts h j v low high s = elim (cases_eq j k) [
 ]
 
 module _ (t : Operation) (verified : Header → Bool) (n : ℕ) (p : PatternModel) (x : ℕ) (a : Assignment) (done : ℕ → Bool) (f : IsWellformed p) (m : IsMade p) (named : all_named p ≡ true) (below : IsBelow n t) (found_fits : FoundFit a done t) (of : TypesFound a t)
-    (kept : IsFound t verified n p x a done) (types : is_typed (map kind_standing kept.types) p ≡ true) (always : AlwaysKeeps (content_with (map kind_standing kept.types) p))
+    (kept : IsFound t verified n p x a done) (types : is_typed (map bound_type kept.types) p ≡ true) (always : AlwaysKeeps (content_with (map bound_type kept.types) p))
     (os : List Operation) (v : Value) (q : IsPlanned t verified n p kept.here kept.types os v) where
-  abbrev b : Standing Value
+  abbrev b : BoundValues Value
   b = kept.here
 
-  abbrev ts : Standing TypeTerm
+  abbrev ts : BoundValues TypeTerm
   ts = kept.types
 
   abbrev ks : List BitsKind
-  ks = map kind_standing ts
+  ks = map bound_type ts
 
   abbrev steps : Content
   steps = content_with ks p

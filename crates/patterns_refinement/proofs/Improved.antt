@@ -32,11 +32,11 @@ use Rattle.user_patterns_data.specs.declared.pattern.Expression.{Expression}
 use Rattle.user_patterns_data.specs.declared.pattern.Expression.TheVariants as form
 use Rattle.user_patterns_data.specs.declared.pattern.NewValue.{NewValue}
 use Rattle.user_patterns_data.specs.declared.pattern.NewValue.TheVariants as new
-use Rattle.user_patterns_data.specs.Matching.{Header, Standing, bound, standing}
+use Rattle.user_patterns_data.specs.Matching.{Header, BoundValues, bound, binding_at}
 use Rattle.user_patterns_data.specs.Names.{name_of, operands_of, predicate_of}
 use Rattle.user_patterns_data.specs.Planning.{all_made, entries_by, made_as, values_at}
 use Rattle.user_patterns_build.specs.CanBuild.{has_name, is_named}
-use Rattle.user_patterns_apply.specs.Own.{OwnAreAccepted}
+use Rattle.user_patterns_apply.specs.Own.{UserPatternsAreAccepted}
 use Rattle.patterns_refinement.proofs.Flags.{AreUnflagged, unflagged}
 use Rattle.patterns_refinement.specs.Meaning.{AreOfTypes, Assignment, Each, FitsAll, FitsEach, is_arithmetic}
 use Rattle.patterns_refinement.specs.Applied.{Agree, Computes}
@@ -85,22 +85,22 @@ abbrev pub AreNoQuotients : List Operation → Type 0
 AreNoQuotients [] = Unit {0}
 AreNoQuotients (o ∷ os) = IsNoQuotient o × AreNoQuotients os
 
-module _ (ts : Standing TypeTerm) (env : List Outcome) where
-  no_quotient : (w : NewValue) (b : Standing Value) (o : Operation) → is_named w ≡ true → makes_no_quotient w ≡ true → made_as b ts env w ≡ Some o → IsNoQuotient o
+module _ (ts : BoundValues TypeTerm) (env : List Outcome) where
+  no_quotient : (w : NewValue) (b : BoundValues Value) (o : Operation) → is_named w ≡ true → makes_no_quotient w ≡ true → made_as b ts env w ≡ Some o → IsNoQuotient o
   no_quotient (new.Operation p) b o n q e =
-      let g = given_some (values_at (operands_of p.form) b) (λ vs. given (standing p.ty ts) (λ term. Some (made (name_of p.form) vs term (entries_by (predicate_of p.form) (name_of p.form))))) o e in
-      let l = given_some (standing p.ty ts) (λ term. Some (made (name_of p.form) g.0 term (entries_by (predicate_of p.form) (name_of p.form)))) o g.2 in
+      let g = given_some (values_at (operands_of p.form) b) (λ vs. given (binding_at p.ty ts) (λ term. Some (made (name_of p.form) vs term (entries_by (predicate_of p.form) (name_of p.form))))) o e in
+      let l = given_some (binding_at p.ty ts) (λ term. Some (made (name_of p.form) g.0 term (entries_by (predicate_of p.form) (name_of p.form)))) o g.2 in
       subst IsNoQuotient (same_Some _ _ l.2) (form_quotient p.form n q)
   no_quotient (new.Constant i t) b o n q e =
-      let g = given_some (given (slice_get env i) (λ x. x)) (λ (x : Known). given (standing t ts) (λ term. Some (constant term x.1))) o e in
-      let l = given_some (standing t ts) (λ term. Some (constant term g.0.1)) o g.2 in
+      let g = given_some (given (slice_get env i) (λ x. x)) (λ (x : Known). given (binding_at t ts) (λ term. Some (constant term x.1))) o e in
+      let l = given_some (binding_at t ts) (λ term. Some (constant term g.0.1)) o g.2 in
       subst IsNoQuotient (same_Some _ _ l.2) (ap is_signed_quotient by_constant)
 
-  pub no_quotients : (n k : ℕ) (ws : List NewValue) (b d : Standing Value) (os : List Operation) → list_all is_named ws ≡ true → list_all makes_no_quotient ws ≡ true → all_made ts env n k ws b ≡ Some (os, d) → AreNoQuotients os
-  no_quotients n k [] b d os s q e = let s : ([], b) ≡ (os, d) = same_Some _ _ e in subst AreNoQuotients (ap (λ (r : List Operation × Standing Value). r.0) s) tt
+  pub no_quotients : (n k : ℕ) (ws : List NewValue) (b d : BoundValues Value) (os : List Operation) → list_all is_named ws ≡ true → list_all makes_no_quotient ws ≡ true → all_made ts env n k ws b ≡ Some (os, d) → AreNoQuotients os
+  no_quotients n k [] b d os s q e = let s : ([], b) ≡ (os, d) = same_Some _ _ e in subst AreNoQuotients (ap (λ (r : List Operation × BoundValues Value). r.0) s) tt
   no_quotients n k (w ∷ ws) b d os s q e =
-      let g = given_some (made_as b ts env w) (λ o. given (bound same_value k (Result n 0) b) (λ c. option_map (λ (r : List Operation × Standing Value). (o ∷ r.0, r.1)) (all_made ts env (n + 1) (k + 1) ws c))) (os, d) e in
-      let h = given_some (bound same_value k (Result n 0) b) (λ c. option_map (λ (r : List Operation × Standing Value). (g.0 ∷ r.0, r.1)) (all_made ts env (n + 1) (k + 1) ws c)) (os, d) g.2 in
+      let g = given_some (made_as b ts env w) (λ o. given (bound same_value k (Result n 0) b) (λ c. option_map (λ (r : List Operation × BoundValues Value). (o ∷ r.0, r.1)) (all_made ts env (n + 1) (k + 1) ws c))) (os, d) e in
+      let h = given_some (bound same_value k (Result n 0) b) (λ c. option_map (λ (r : List Operation × BoundValues Value). (g.0 ∷ r.0, r.1)) (all_made ts env (n + 1) (k + 1) ws c)) (os, d) g.2 in
       let m = more_made g.0 (all_made ts env (n + 1) (k + 1) ws h.0) os d h.2 in
       let a = and_parts (is_named w) (list_all is_named ws) s in
       let f = and_parts (makes_no_quotient w) (list_all makes_no_quotient ws) q in
@@ -149,7 +149,7 @@ module _ (m : Module) (x : ℕ) (a : Assignment) (done later : ℕ → Bool) (we
       }
 
 -- ---- the laws
-pub rewrites_compute_better : OwnAreAccepted → RewritesComputeBetter
+pub rewrites_compute_better : UserPatternsAreAccepted → RewritesComputeBetter
 rewrites_compute_better accepted p m n x a done wellformed proper free fits of sure found keeps kinded e =
     let r = applies p m n x e in
     let below = is_below m.next m.tree wellformed.below in

@@ -23,13 +23,13 @@ use Rattle.patterns_base.specs.Rules.{OnlyListed}
 use Rattle.patterns_soundness.specs.Accepted.{AreAccepted}
 use Rattle.user_patterns_check.specs.Outcomes.{given}
 use Rattle.user_patterns_data.specs.Fitting.{kind_at}
-use Rattle.user_patterns_data.specs.Planning.{kind_standing}
+use Rattle.user_patterns_data.specs.Planning.{bound_type}
 use Rattle.user_patterns_data.specs.Shapes.{PatternModel}
 use Rattle.user_patterns_build.specs.CanBuild.{new_type}
 use Rattle.user_patterns_widths.specs.Lasting.{HoldsAtAllWidths, PolynomialsKeep}
-use Rattle.user_patterns_apply.specs.Own.{OwnAreAccepted, own_rewrite}
+use Rattle.user_patterns_apply.specs.Own.{UserPatternsAreAccepted, user_pattern_rewrite}
 use Rattle.greedy.specs.Rewriting.{IsOfItsRules}
-use Rattle.greedy.specs.PatternSet.{RuleOrPatternModel, OfOwn, OfRule, attempted}
+use Rattle.greedy.specs.PatternSet.{RuleOrPatternModel, OfUserPattern, OfRule, rewrite_by_entry}
 use Rattle.patterns_refinement.specs.Applied.{IsProper, all_named}
 use Rattle.patterns_refinement.specs.Better.{kind_in, takes, takes_its}
 use Rattle.patterns_refinement.specs.Improving.{is_without_quotients}
@@ -79,26 +79,26 @@ has_kind t v k i = go (type_of_value v t) i
     go None i = absurd (none-some k i)
     go (Some ty) i = refl
 
-module _ (accepted : OwnAreAccepted) (p : PatternModel) (proper : IsProper p) (m n : Module) (x : ℕ) (ready : IsReady m) (range : IsInRange m) (rewrites : own_rewrite p m x ≡ becomes n) where
+module _ (accepted : UserPatternsAreAccepted) (p : PatternModel) (proper : IsProper p) (m n : Module) (x : ℕ) (ready : IsReady m) (range : IsInRange m) (rewrites : user_pattern_rewrite p m x ≡ becomes n) where
   abbrev its_site : Site accepted p proper m n x ready rewrites
   its_site = site_of accepted p proper m n x ready rewrites
 
   abbrev here_at : FoundAt p m x
   here_at = record { here = its_site.here.here; is_matched = its_site.here.is_matched; types = its_site.here.types; are_types = its_site.here.are_types }
 
-  own_range : is_kinded_at (map kind_standing its_site.here.types) p ≡ true → IsInRange n
+  own_range : is_kinded_at (map bound_type its_site.here.types) p ≡ true → IsInRange n
   own_range kinded v k i = by_value v (sym (passing_kinds accepted p proper m n x ready rewrites its_site kinded v (has_kind n.tree v k i)) ∙ i)
     where
-      wide : list_all (λ k. is_width (width_of k)) (map (λ w. kind_at (map kind_standing its_site.here.types) (new_type w)) p.new) ≡ true
+      wide : list_all (λ k. is_width (width_of k)) (map (λ w. kind_at (map bound_type its_site.here.types) (new_type w)) p.new) ≡ true
       wide = made_wide _ its_site.applied.made _ (its_made m p x proper ready its_site.applied.made its_site.applied.value its_site.applied.plan its_site.here kinded)
 
-      by_value : (v : Value) → with_all (kind_in m.tree) m.next None (map (λ k. Some k) (map (λ w. kind_at (map kind_standing its_site.here.types) (new_type w)) p.new)) v ≡ Some k → is_width (width_of k) ≡ true
+      by_value : (v : Value) → with_all (kind_in m.tree) m.next None (map (λ k. Some k) (map (λ w. kind_at (map bound_type its_site.here.types) (new_type w)) p.new)) v ≡ Some k → is_width (width_of k) ≡ true
       by_value (Arg y r j) e = range (Arg y r j) k e
       by_value (Result y j) e = go (nat_lt y m.next) e
         where
-          go : (b : Bool) → (if b then kind_in m.tree (Result y j) else get_or (map (λ k. Some k) (map (λ w. kind_at (map kind_standing its_site.here.types) (new_type w)) p.new)) (y - m.next) None) ≡ Some k → is_width (width_of k) ≡ true
+          go : (b : Bool) → (if b then kind_in m.tree (Result y j) else get_or (map (λ k. Some k) (map (λ w. kind_at (map bound_type its_site.here.types) (new_type w)) p.new)) (y - m.next) None) ≡ Some k → is_width (width_of k) ≡ true
           go true e = range (Result y j) k e
-          go false e = some_wide (map (λ w. kind_at (map kind_standing its_site.here.types) (new_type w)) p.new) wide (y - m.next) k e
+          go false e = some_wide (map (λ w. kind_at (map bound_type its_site.here.types) (new_type w)) p.new) wide (y - m.next) k e
 
 -- ---- patterns that hold for all outcomes
 pub record SoundForm (p : PatternModel) : Type 0 where
@@ -116,7 +116,7 @@ sound_parts p e =
     let d = and_parts (uses_only (is_had p) p) (is_kinded_by_form (numbered p)) c.1 in
     record { named = a.0; quotients = b.0; widths = c.0; uses = d.0; kinded = d.1 }
 
-pub outcomes_keep : OwnAreAccepted → OutcomesKeep
+pub outcomes_keep : UserPatternsAreAccepted → OutcomesKeep
 outcomes_keep accepted p m n x h ready range e =
     let f = sound_parts p h.form in
     let proper : IsProper p = record { wellformed = h.wellformed; buildable = h.buildable; named = f.named } in
@@ -131,7 +131,7 @@ outcomes_keep accepted p m n x h ready range e =
     )
 
 -- ---- patterns that hold by the form of both sides
-pub patterns_stay_in_range : OwnAreAccepted → PolynomialsKeep → HoldsAtAllWidths → PatternsStayInRange
+pub patterns_stay_in_range : UserPatternsAreAccepted → PolynomialsKeep → HoldsAtAllWidths → PatternsStayInRange
 patterns_stay_in_range accepted polynomials holds p m n x h ready range e =
     let u = holding_uniform polynomials holds p h.for_all_widths h.proper h.most h.some h.holds in
     own_range accepted p h.proper m n x ready range e (uniform_at accepted p u h.proper m n x ready e (here_at accepted p h.proper m n x ready range e)).0
@@ -140,7 +140,7 @@ pub rules_stay_in_range : AreAccepted → RulesStayInRange
 rules_stay_in_range accepted r i m n x ready range e = rules_keep_kinds accepted (λ k. is_width (width_of k)) refl r i m n x ready range e
 
 -- ---- rules and patterns, and runs of them
-module _ (rules : AreAccepted) (accepted : OwnAreAccepted) (kept : KeptAreKept) (holding : HoldingKeep) (polynomials : PolynomialsKeep) (holds : HoldsAtAllWidths) where
+module _ (rules : AreAccepted) (accepted : UserPatternsAreAccepted) (kept : KeptAreKept) (holding : HoldingKeep) (polynomials : PolynomialsKeep) (holds : HoldsAtAllWidths) where
   pub applied_keeps : (t : RuleOrPatternModel) → IsProved t → (m n : Module) (x : ℕ) → IsInRange m → IsReady m → applied t m x ≡ becomes n → IsInRange n × KeptAt m n x
   applied_keeps (OfRule r) i m n x range ready e =
       let k = kept (r ∷ []) only r (inl refl) in
@@ -149,19 +149,19 @@ module _ (rules : AreAccepted) (accepted : OwnAreAccepted) (kept : KeptAreKept) 
       only : (o : Rule) → In o (r ∷ []) → In o kept_rules
       only o (inl e) = subst (λ o. In o kept_rules) (sym e) i
       only o (inr n) = absurd n
-  applied_keeps (OfOwn p) (inl h) m n x range ready e =
+  applied_keeps (OfUserPattern p) (inl h) m n x range ready e =
       let k = holding p h.for_all_widths h.proper h.most h.some h.holds in
       (patterns_stay_in_range accepted polynomials holds p m n x h ready range e, (k.0 m n x ready e, (λ a done c. k.1 m n x a done ready c e)))
-  applied_keeps (OfOwn p) (inr h) m n x range ready e = outcomes_keep accepted p m n x h ready range e
+  applied_keeps (OfUserPattern p) (inr h) m n x range ready e = outcomes_keep accepted p m n x h ready range e
 
-  applied_of : (t : RuleOrPatternModel) (m n : Module) (x : ℕ) → attempted t m x ≡ becomes n → applied t m x ≡ becomes n
+  applied_of : (t : RuleOrPatternModel) (m n : Module) (x : ℕ) → rewrite_by_entry t m x ≡ becomes n → applied t m x ≡ becomes n
   applied_of (OfRule r) m n x e = e
-  applied_of (OfOwn p) m n x e = own_of p m n x e
+  applied_of (OfUserPattern p) m n x e = own_of p m n x e
 
   -- free ids are used up
   applied_grows : (t : RuleOrPatternModel) (m n : Module) (x : ℕ) → applied t m x ≡ becomes n → m.next ≤ n.next
   applied_grows (OfRule r) m n x e = rewrite_grows r m n x e
-  applied_grows (OfOwn p) m n x e = own_grows p m n x e
+  applied_grows (OfUserPattern p) m n x e = own_grows p m n x e
 
   pub proved_apply_refines : ProvedApplyRefines
   proved_apply_refines t is m n x ready range e =

@@ -1,4 +1,4 @@
-pub mod Standing
+pub mod BoundValues
 pub mod Trees
 pub mod Steps
 pub mod Flags

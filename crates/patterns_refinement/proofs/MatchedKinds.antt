@@ -27,8 +27,8 @@ use Rattle.user_patterns_data.specs.declared.pattern.NewValue.{NewValue}
 use Rattle.user_patterns_data.specs.declared.pattern.NewValue.TheVariants as new
 use Rattle.user_patterns_data.specs.declared.pattern.PatternOp.{PatternOp}
 use Rattle.user_patterns_data.specs.Fitting.{kind_at}
-use Rattle.user_patterns_data.specs.Matching.{Standing, standing, types_at, written}
-use Rattle.user_patterns_data.specs.Planning.{kind_standing, new_place, old_place, planned}
+use Rattle.user_patterns_data.specs.Matching.{BoundValues, binding_at, types_at, written}
+use Rattle.user_patterns_data.specs.Planning.{bound_type, new_place, old_place, planned}
 use Rattle.user_patterns_data.specs.Shapes.{PatternModel}
 use Rattle.user_patterns_build.specs.CanBuild.{new_type}
 use Rattle.user_patterns_build.specs.Unified as united
@@ -45,7 +45,7 @@ use Rattle.patterns_refinement.proofs.MatchedTypes.{any_at, written_is}
 use Rattle.patterns_refinement.proofs.NarrowTypes.{content_same, fits_same, kinded_same}
 use Rattle.patterns_refinement.proofs.PassingMade.{AreBuilt, all_builds}
 use Rattle.patterns_refinement.proofs.PassingMatched.{Here, types_from}
-use Rattle.patterns_refinement.proofs.Standing.{IsTyped, Stands, standing_stands, stands_standing}
+use Rattle.patterns_refinement.proofs.BoundValues.{IsTyped, Stands, standing_stands, stands_standing}
 
 -- ---- types by number
 module _ (at : ℕ → BitsKind) where
@@ -93,11 +93,11 @@ filled_same : (k : BitsKind) → is_width (width_of k) ≡ true → filled k ≡
 filled_same k e = ap (λ b. if b then k else kind.Int 1) e
 
 -- ---- the types of new values are bound
-module _ (ts : Standing TypeTerm) (env : List Outcome) (d : Standing Value) where
+module _ (ts : BoundValues TypeTerm) (env : List Outcome) (d : BoundValues Value) where
   built_types : (ws : List NewValue) (os : List Operation) → AreBuilt ts env d ws os → (t : ℕ) → list_any (eqb t) (map new_type ws) ≡ true → (term : TypeTerm) × Stands t term ts
   built_types ws os built t e = let r = any_at t (map new_type ws) e in one ws os built r.0 t r.1
     where
-      its : (w : NewValue) (o : Operation) → (term : TypeTerm) → standing (new_type w) ts ≡ Some term → (t : ℕ) → Some (new_type w) ≡ Some t → (term : TypeTerm) × Stands t term ts
+      its : (w : NewValue) (o : Operation) → (term : TypeTerm) → binding_at (new_type w) ts ≡ Some term → (t : ℕ) → Some (new_type w) ≡ Some t → (term : TypeTerm) × Stands t term ts
       its w o term s t i = (term, subst (λ z. Stands z term ts) (same_Some _ _ i) (standing_stands (new_type w) term ts s))
 
       one : (ws : List NewValue) (os : List Operation) → AreBuilt ts env d ws os → (i t : ℕ) → slice_get (map new_type ws) i ≡ Some t → (term : TypeTerm) × Stands t term ts
@@ -112,10 +112,10 @@ module _ (ts : Standing TypeTerm) (env : List Outcome) (d : Standing Value) wher
 module _ (p : PatternModel) (m : Module) (x : ℕ) (proper : IsProper p) (ready : IsReady m) (range : IsInRange m) (os : List Operation) (value : Value) (plan : planned m.tree (is_verified m.tree) m.next p x ≡ Some (os, value))
     (q : Here m p x proper ready os value plan) (widths : list_all has_width p.value_types ≡ true) where
   abbrev ks : List BitsKind
-  ks = map kind_standing q.types
+  ks = map bound_type q.types
 
   abbrev good : ℕ → Bool
-  good t = is_width (width_of (kind_at (map kind_standing q.types) t))
+  good t = is_width (width_of (kind_at (map bound_type q.types) t))
 
   -- ---- bound types
   written_wide : (ss : List PatternType) → list_all has_width ss ≡ true → (j : ℕ) (term : TypeTerm) (k : BitsKind) → Stands j term (map written ss) → kind_of term ≡ Some k → is_width (width_of k) ≡ true
@@ -130,7 +130,7 @@ module _ (p : PatternModel) (m : Module) (x : ℕ) (proper : IsProper p) (ready 
   of_value : (term : TypeTerm) (k : BitsKind) → (i : ℕ) × (v : Value) × Stands i v q.here × (type_of_value v m.tree ≡ Some term) → kind_of term ≡ Some k → is_width (width_of k) ≡ true
   of_value term k h e = range h.1 k (ap (λ o. given o kind_of) h.3 ∙ e)
 
-  bound_wide : (j : ℕ) (term : TypeTerm) → Stands j term q.types → is_width (width_of (kind_at (map kind_standing q.types) j)) ≡ true
+  bound_wide : (j : ℕ) (term : TypeTerm) → Stands j term q.types → is_width (width_of (kind_at (map bound_type q.types) j)) ≡ true
   bound_wide j term s =
       let k = some_there (kind_of term) (q.value_types j term (stands_standing j term q.types s)) in
       let g = given_some (types_at m.tree (is_verified m.tree) 0 p.values q.here (map written p.value_types)) (types_at m.tree (is_verified m.tree) (old_place p) (map PatternOp.ty p.old) q.here) q.types q.are_types in
@@ -189,12 +189,12 @@ module _ (p : PatternModel) (m : Module) (x : ℕ) (proper : IsProper p) (ready 
 
   -- ---- kinds of all types
   abbrev kind_for : ℕ → BitsKind
-  kind_for v = filled (kind_at (map kind_standing q.types) v)
+  kind_for v = filled (kind_at (map bound_type q.types) v)
 
   abbrev all_kinds : List BitsKind
   all_kinds = numbered_kinds kind_for 0 p.value_types
 
-  had_same : (t : ℕ) → is_had p t ≡ true → kind_at (map kind_standing q.types) t ≡ kind_at all_kinds t
+  had_same : (t : ℕ) → is_had p t ≡ true → kind_at (map bound_type q.types) t ≡ kind_at all_kinds t
   had_same t e =
       let l = ltb-true t (length p.value_types) (and_parts (nat_lt t (length p.value_types)) _ e).0 in
       go (united.kind_in p.value_types t) refl ∙ sym (numbered_at kind_for 0 p.value_types t l)
@@ -208,7 +208,7 @@ module _ (p : PatternModel) (m : Module) (x : ℕ) (proper : IsProper p) (ready 
 
   module _ (uses : uses_only (is_had p) p ≡ true) where
     -- outcomes at equal kinds
-    still : (tys : List ℕ) (i : ℕ) (outs : List Outcome) → list_all (is_had p) tys ≡ true → AreOutcomes p (map kind_standing q.types) i tys outs → AreOutcomes p all_kinds i tys outs
+    still : (tys : List ℕ) (i : ℕ) (outs : List Outcome) → list_all (is_had p) tys ≡ true → AreOutcomes p (map bound_type q.types) i tys outs → AreOutcomes p all_kinds i tys outs
     still [] i [] u h = tt
     still [] i (o ∷ outs) u h = absurd h
     still (ty ∷ tys) i [] u h = absurd h
@@ -216,13 +216,13 @@ module _ (p : PatternModel) (m : Module) (x : ℕ) (proper : IsProper p) (ready 
         let r = and_parts (is_had p ty) (list_all (is_had p) tys) u in
         (subst (λ k. IsOutcome k o) (had_same ty r.0) h.0, h.1, still tys (i + 1) outs r.1 h.2)
 
-    pub keeps_for : HoldsAtAllWidths p → KeepsForOutcomes p (map kind_standing q.types)
+    pub keeps_for : HoldsAtAllWidths p → KeepsForOutcomes p (map bound_type q.types)
     keeps_for holds outs are =
         ap (λ s. keeps_outcomes s outs) (content_same (is_had p) p ks all_kinds had_same uses)
         ∙ holds all_kinds (kinds_wide kind_for (λ v. filled_wide (kind_at ks v)) 0 p.value_types widths) (kinds_of kind_for 0 p.value_types) outs
         (still p.values 0 outs (and_parts (list_all (is_had p) p.values) _ uses).0 are)
 
-    pub kinded_there : is_kinded_by_form (numbered p) ≡ true → is_kinded_at (map kind_standing q.types) p ≡ true
+    pub kinded_there : is_kinded_by_form (numbered p) ≡ true → is_kinded_at (map bound_type q.types) p ≡ true
     kinded_there form =
         kinded_same (is_had p) p ks all_kinds had_same uses
         ∙ kinded_by_kinds (numbered p) form kind_for (λ v l. filled_wide (kind_at ks v)) (sym (fits_same (is_had p) p ks all_kinds had_same uses) ∙ q.parts.widths)

@@ -18,14 +18,14 @@ use Rattle.user_patterns_data.specs.declared.pattern.PatternType.TheVariants as 
 use Rattle.user_patterns_data.specs.declared.pattern.PatternOp.{PatternOp}
 use Rattle.user_patterns_data.specs.Fitting.{kind_at}
 use Rattle.user_patterns_data.specs.Matching.{types_at, written}
-use Rattle.user_patterns_data.specs.Planning.{kind_standing, old_place, planned}
+use Rattle.user_patterns_data.specs.Planning.{bound_type, old_place, planned}
 use Rattle.user_patterns_data.specs.Shapes.{PatternModel}
 use Rattle.user_patterns_build.specs.Unified as united
 use Rattle.user_patterns_apply.proofs.FoundBuilt.{types_keep}
 use Rattle.patterns_refinement.specs.Applied.{IsProper}
 use Rattle.patterns_refinement.specs.Keeping.{IsReady}
 use Rattle.patterns_refinement.proofs.Forms.{kind_is}
-use Rattle.patterns_refinement.proofs.Standing.{Stands}
+use Rattle.patterns_refinement.proofs.BoundValues.{Stands}
 use Rattle.patterns_refinement.proofs.PassingMatched.{Here}
 
 pub any_at : (t : ℕ) (xs : List ℕ) → list_any (eqb t) xs ≡ true → (i : ℕ) × (slice_get xs i ≡ Some t)
@@ -43,7 +43,7 @@ mapped_at f ks t l =
 module _ (p : PatternModel) (m : Module) (x : ℕ) (proper : IsProper p) (ready : IsReady m) (os : List Operation) (value : Value) (plan : planned m.tree (is_verified m.tree) m.next p x ≡ Some (os, value))
     (q : Here m p x proper ready os value plan) where
   abbrev ks : List BitsKind
-  ks = map kind_standing q.types
+  ks = map bound_type q.types
 
   -- concrete types are bound
   written_stands : (t : ℕ) (k : BitsKind) → t < length p.value_types → united.kind_in p.value_types t ≡ sort.Concrete k → Stands t (type_of k) q.types
@@ -53,5 +53,5 @@ module _ (p : PatternModel) (m : Module) (x : ℕ) (proper : IsProper p) (ready 
       types_keep type_is m.tree (is_verified m.tree) (old_place p) (map PatternOp.ty p.old) q.here g.0 q.types g.2 t (type_of k)
       (types_keep type_is m.tree (is_verified m.tree) 0 p.values q.here (map written p.value_types) g.0 g.1 t (type_of k) (slice_get-map written p.value_types t ∙ ap (option_map written) at))
 
-  pub written_is : (t : ℕ) (k : BitsKind) → t < length p.value_types → united.kind_in p.value_types t ≡ sort.Concrete k → kind_at (map kind_standing q.types) t ≡ k
+  pub written_is : (t : ℕ) (k : BitsKind) → t < length p.value_types → united.kind_in p.value_types t ≡ sort.Concrete k → kind_at (map bound_type q.types) t ≡ k
   written_is t k l e = kind_is q.types t (type_of k) k (written_stands t k l e) (kind_back k)

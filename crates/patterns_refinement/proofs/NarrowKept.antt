@@ -32,14 +32,14 @@ use Rattle.user_patterns_data.specs.declared.pattern.PatternType.TheVariants as 
 use Rattle.user_patterns_data.specs.declared.pattern.NewValue.{NewValue}
 use Rattle.user_patterns_data.specs.declared.pattern.PatternOp.{PatternOp}
 use Rattle.user_patterns_data.specs.Fitting.{content_with, kind_at, kind_with, kinds_with}
-use Rattle.user_patterns_data.specs.Planning.{kind_standing, old_place, planned}
+use Rattle.user_patterns_data.specs.Planning.{bound_type, old_place, planned}
 use Rattle.user_patterns_data.specs.Shapes.{PatternModel}
-use Rattle.user_patterns_data.specs.WellFormed.{preceding_stands, kind_stands, sides_stand}
+use Rattle.user_patterns_data.specs.WellFormed.{preceding_is_valid, type_is_valid, sides_are_valid}
 use Rattle.user_patterns_build.specs.CanBuild.{new_type}
 use Rattle.user_patterns_build.specs.Unified.{first_same}
 use Rattle.user_patterns_build.specs.Unified as united
-use Rattle.user_patterns_apply.specs.Own.{OwnAreAccepted}
-use Rattle.greedy.specs.PatternSet.{RuleOrPatternModel, OfOwn, OfRule, attempted}
+use Rattle.user_patterns_apply.specs.Own.{UserPatternsAreAccepted}
+use Rattle.greedy.specs.PatternSet.{RuleOrPatternModel, OfUserPattern, OfRule, rewrite_by_entry}
 use Rattle.patterns_refinement.specs.Better.{kind_in}
 use Rattle.patterns_refinement.specs.Keeping.{IsReady}
 use Rattle.patterns_refinement.specs.Runs.{KeptAreKept, kept_rules}
@@ -50,7 +50,7 @@ use Rattle.patterns_refinement.proofs.Forms.{kind_is}
 use Rattle.patterns_refinement.proofs.Going.{typed_at, typed_parts}
 use Rattle.patterns_refinement.proofs.RuleListRunning.{led}
 use Rattle.patterns_refinement.proofs.Running.{own_of, runs_under}
-use Rattle.patterns_refinement.proofs.Standing.{IsTyped, stands_standing}
+use Rattle.patterns_refinement.proofs.BoundValues.{IsTyped, stands_standing}
 use Rattle.patterns_refinement.proofs.PassingMatched.{Here}
 use Rattle.patterns_refinement.proofs.PassingMade.{all_kinds}
 use Rattle.patterns_refinement.proofs.MatchedTypes.{any_at, mapped_at, written_is}
@@ -94,7 +94,7 @@ some_narrow most (j ∷ ks) e (suc i) k h = some_narrow most ks (and_parts (is_n
 module _ (most : ℕ) (p : PatternModel) (m : Module) (x : ℕ) (h : HoldsNarrow most p) (ready : IsReady m) (narrow : IsNarrow most m) (os : List Operation) (value : Value) (plan : planned m.tree (is_verified m.tree) m.next p x ≡ Some (os, value))
     (q : Here m p x h.proper ready os value plan) where
   abbrev ks : List BitsKind
-  ks = map kind_standing q.types
+  ks = map bound_type q.types
 
   -- the type of a value is narrow
   typed_narrow : (i t : ℕ) → IsTyped m.tree (is_verified m.tree) i t q.here q.types → is_narrow most (kind_at ks t) ≡ true
@@ -139,9 +139,9 @@ module _ (most : ℕ) (p : PatternModel) (m : Module) (x : ℕ) (h : HoldsNarrow
 
   variable_within : (t v : ℕ) → t < length p.value_types → united.kind_in p.value_types t ≡ sort.Variable v → v < p.types
   variable_within t v l e =
-      let a = and_parts (preceding_stands p) (sides_stand p) h.proper.wellformed in
-      let b = and_parts (list_all (kind_stands p) p.value_types) _ a.0 in
-      ltb-true v p.types (all_at (kind_stands p) p.value_types t (sort.Variable v) b.0 (slice_get-get_or p.value_types t (sort.Concrete kind.Index) l ∙ ap (λ z. Some z) e))
+      let a = and_parts (preceding_is_valid p) (sides_are_valid p) h.proper.wellformed in
+      let b = and_parts (list_all (type_is_valid p) p.value_types) _ a.0 in
+      ltb-true v p.types (all_at (type_is_valid p) p.value_types t (sort.Variable v) b.0 (slice_get-get_or p.value_types t (sort.Concrete kind.Index) l ∙ ap (λ z. Some z) e))
 
   settled_same : (t : ℕ) → is_settled most p t ≡ true → kind_at ks t ≡ kind_at (kinds_with widths p.value_types) t
   settled_same t e = go (united.kind_in p.value_types t) refl e
@@ -158,32 +158,32 @@ module _ (most : ℕ) (p : PatternModel) (m : Module) (x : ℕ) (h : HoldsNarrow
   widths_are : AreWidths p.types most widths
   widths_are = are_widths most width_for (λ v. chosen_within most (kind_at ks (first_same (sort.Variable v) p.value_types)) h.some) 0 p.types
 
-  pub keeps_here : AlwaysKeeps (content_with (map kind_standing q.types) p)
+  pub keeps_here : AlwaysKeeps (content_with (map bound_type q.types) p)
   keeps_here = subst AlwaysKeeps (sym (content_same (is_settled most p) p ks (kinds_with widths p.value_types) settled_same h.settled)) (h.holds.0 widths widths_are)
 
-  pub kinded_here : is_kinded_at (map kind_standing q.types) p ≡ true
+  pub kinded_here : is_kinded_at (map bound_type q.types) p ≡ true
   kinded_here =
       kinded_same (is_settled most p) p ks (kinds_with widths p.value_types) settled_same h.settled
       ∙ h.kinded widths widths_are (sym (fits_same (is_settled most p) p ks (kinds_with widths p.value_types) settled_same h.settled) ∙ q.parts.widths)
 
   -- new values are narrow
-  news_narrow : (ws : List NewValue) → list_all (new_uses (is_settled most p)) ws ≡ true → list_all (is_narrow most) (map (λ w. kind_at (map kind_standing q.types) (new_type w)) ws) ≡ true
+  news_narrow : (ws : List NewValue) → list_all (new_uses (is_settled most p)) ws ≡ true → list_all (is_narrow most) (map (λ w. kind_at (map bound_type q.types) (new_type w)) ws) ≡ true
   news_narrow [] e = refl
   news_narrow (w ∷ ws) e = let r = and_parts (new_uses (is_settled most p) w) (list_all (new_uses (is_settled most p)) ws) e in (λ i. settled_narrow (new_type w) r.0 i && news_narrow ws r.1 i)
 
-  pub kinds_narrow : (kinded : is_kinded_at (map kind_standing q.types) p ≡ true) (v : Value) (k : BitsKind) → all_kinds m p x h.proper ready os value plan q kinded v ≡ Some k → is_narrow most k ≡ true
+  pub kinds_narrow : (kinded : is_kinded_at (map bound_type q.types) p ≡ true) (v : Value) (k : BitsKind) → all_kinds m p x h.proper ready os value plan q kinded v ≡ Some k → is_narrow most k ≡ true
   kinds_narrow kinded (Arg y r j) k e = narrow (Arg y r j) k e
   kinds_narrow kinded (Result y j) k e = go (nat_lt y m.next) e
     where
       last : list_all (new_uses (is_settled most p)) p.new ≡ true
       last = (all_parts (is_settled most p) p h.settled).news
 
-      go : (b : Bool) → (if b then kind_in m.tree (Result y j) else get_or (map (λ k. Some k) (map (λ w. kind_at (map kind_standing q.types) (new_type w)) p.new)) (y - m.next) None) ≡ Some k → is_narrow most k ≡ true
+      go : (b : Bool) → (if b then kind_in m.tree (Result y j) else get_or (map (λ k. Some k) (map (λ w. kind_at (map bound_type q.types) (new_type w)) p.new)) (y - m.next) None) ≡ Some k → is_narrow most k ≡ true
       go true e = narrow (Result y j) k e
-      go false e = some_narrow most (map (λ w. kind_at (map kind_standing q.types) (new_type w)) p.new) (news_narrow p.new last) (y - m.next) k e
+      go false e = some_narrow most (map (λ w. kind_at (map bound_type q.types) (new_type w)) p.new) (news_narrow p.new last) (y - m.next) k e
 
 -- ---- the laws
-pub narrow_keep : OwnAreAccepted → NarrowKeep
+pub narrow_keep : UserPatternsAreAccepted → NarrowKeep
 narrow_keep accepted most p m n x h ready narrow e =
     let t = and_parts (list_all pattern_op_passes p.old) (list_all new_is_defined p.new) h.passing in
     let s = site_of accepted p h.proper m n x ready e in
@@ -203,11 +203,11 @@ narrow_keep accepted most p m n x h ready narrow e =
         go None i = absurd (none-some k i)
         go (Some ty) i = refl
 
-pub narrow_rewriting_keeps : AreAccepted → KeptAreKept → OwnAreAccepted → NarrowRewritingKeeps
+pub narrow_rewriting_keeps : AreAccepted → KeptAreKept → UserPatternsAreAccepted → NarrowRewritingKeeps
 narrow_rewriting_keeps rules kept accepted most some ts holds limit m n k e ready narrow i = let l = led ts limit k m n e i in runs_under (IsNarrow most) ts (λ t i. one t (holds t i)) l.0 m n narrow ready l.1
   where
-    one : (t : RuleOrPatternModel) → IsNarrowly most t → (m n : Module) (x : ℕ) → IsNarrow most m → IsReady m → attempted t m x ≡ becomes n → IsNarrow most n × KeptAt m n x
-    one (OfOwn p) h m n x narrow ready e = narrow_keep accepted most p m n x h ready narrow (own_of p m n x e)
+    one : (t : RuleOrPatternModel) → IsNarrowly most t → (m n : Module) (x : ℕ) → IsNarrow most m → IsReady m → rewrite_by_entry t m x ≡ becomes n → IsNarrow most n × KeptAt m n x
+    one (OfUserPattern p) h m n x narrow ready e = narrow_keep accepted most p m n x h ready narrow (own_of p m n x e)
     one (OfRule r) i m n x narrow ready e =
         let k = kept (r ∷ []) only r (inl refl) in
         (narrow_rules_keep rules most some r i m n x ready narrow e, (k.0 m n x ready e, (λ a done c. k.1 m n x a done ready c e)))

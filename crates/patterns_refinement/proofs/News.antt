@@ -30,16 +30,16 @@ use Rattle.user_patterns_data.specs.declared.pattern.NewValue.{NewValue}
 use Rattle.user_patterns_data.specs.declared.pattern.NewValue.TheVariants as new
 use Rattle.user_patterns_data.specs.Fitting.{again_step, kind_at, new_step}
 use Rattle.user_patterns_data.specs.Names.{name_of, operands_of, predicate_number, predicate_of}
-use Rattle.user_patterns_data.specs.Matching.{Header, Standing, bound, standing}
-use Rattle.user_patterns_data.specs.Planning.{all_made, and_more, entries_by, kind_standing, made_as, values_at}
+use Rattle.user_patterns_data.specs.Matching.{Header, BoundValues, bound, binding_at}
+use Rattle.user_patterns_data.specs.Planning.{all_made, and_more, entries_by, bound_type, made_as, values_at}
 use Rattle.user_patterns_data.specs.Shapes.{PatternModel}
-use Rattle.user_patterns_data.specs.WellFormed.{form_stands, is_new, is_number, is_type, is_variable, is_within, new_begins, new_stands, news_stand, old_begins}
+use Rattle.user_patterns_data.specs.WellFormed.{form_is_valid, is_new, is_number, is_type, is_variable, is_within, new_begins, new_is_valid, news_are_valid, old_begins}
 use Rattle.user_patterns_build.specs.CanBuild.{is_named, new_type}
 use Rattle.ir_tree.proofs.Replaced.{same_value_true}
 use Rattle.ir_tree_laws.proofs.Reasoned.{some_there}
 use Rattle.patterns_refinement.specs.Meaning.{Assignment, FitsEach, IsOfType, TypedEach, makes}
 use Rattle.patterns_refinement.specs.Applied.{Agree, AreOfKinds, new_fits, news_fit}
-use Rattle.patterns_refinement.proofs.Standing.{Stands, ValuesStand, bound_elsewhere, bound_holds, one_stands, standing_stands}
+use Rattle.patterns_refinement.proofs.BoundValues.{Stands, ValuesStand, bound_elsewhere, bound_holds, one_stands, standing_stands}
 use Rattle.patterns_refinement.proofs.Steps.{push_last, push_other, run_grows}
 use Rattle.patterns_refinement.proofs.OfKinds.{IsKind, OfKinds, new_kind, push_kinds}
 use Rattle.patterns_refinement.proofs.OfBits.{AllOfBits, IsOfBits, push_bits, step_bits}
@@ -48,10 +48,10 @@ use Rattle.patterns_refinement.proofs.Numbers.{within_parts}
 use Rattle.patterns_refinement.proofs.Olds.{form_places, operands_show}
 
 -- a list of new operations with one more at the front
-pub more_made : (o : Operation) (r : Option (List Operation × Standing Value)) (os : List Operation) (d : Standing Value) → option_map {U = List Operation × Standing Value} (λ (r : List Operation × Standing Value). (o ∷ r.0, r.1)) r ≡ Some (os, d)
+pub more_made : (o : Operation) (r : Option (List Operation × BoundValues Value)) (os : List Operation) (d : BoundValues Value) → option_map {U = List Operation × BoundValues Value} (λ (r : List Operation × BoundValues Value). (o ∷ r.0, r.1)) r ≡ Some (os, d)
     → (us : List Operation) × (r ≡ Some (us, d)) × (o ∷ us ≡ os)
 more_made o None os d e = absurd (none-some (os, d) e)
-more_made o (Some r) os d e = let s : (o ∷ r.0, r.1) ≡ (os, d) = same_Some _ _ e in (r.0, (λ i. Some (r.0, (s i).1)), ap (λ (r : List Operation × Standing Value). r.0) s)
+more_made o (Some r) os d e = let s : (o ∷ r.0, r.1) ≡ (os, d) = same_Some _ _ e in (r.0, (λ i. Some (r.0, (s i).1)), ap (λ (r : List Operation × BoundValues Value). r.0) s)
 
 -- ---- an assignment extended by the outcomes of new results: those from place k on, for the ids from n on
 abbrev pub extended : Assignment → ℕ → ℕ → List Outcome → Assignment
@@ -77,10 +77,10 @@ pub more_there : (v : Value) (o : Option (List Value)) (vs : List Value) → and
 more_there v None vs e = absurd (none-some vs e)
 more_there v (Some us) vs e = (us, refl, same_Some _ _ e)
 
-pub values_stand : (ks : List ℕ) (b : Standing Value) (vs : List Value) → values_at ks b ≡ Some vs → ValuesStand ks vs b
+pub values_stand : (ks : List ℕ) (b : BoundValues Value) (vs : List Value) → values_at ks b ≡ Some vs → ValuesStand ks vs b
 values_stand [] b vs e = subst (λ vs. ValuesStand [] vs b) (same_Some _ _ e) tt
 values_stand (k ∷ ks) b vs e =
-    let g = given_some (standing k b) (λ v. and_more v (values_at ks b)) vs e in
+    let g = given_some (binding_at k b) (λ v. and_more v (values_at ks b)) vs e in
     let m = more_there g.0 (values_at ks b) vs g.2 in
     subst (λ vs. ValuesStand (k ∷ ks) vs b) m.2 (standing_stands k g.0 b g.1, values_stand ks b m.0 m.1)
 
@@ -116,15 +116,15 @@ again_gives env i x e =
     given_at (slice_get env i) (Some x) (λ y. given (slice_get env i) (λ z. pair_outcome op.And y z)) (Some (Some x)) e
     (given_at (slice_get env i) (Some x) (λ z. pair_outcome op.And (Some x) z) (Some (Some x)) e (again_same x))
 
-module _ (ts : Standing TypeTerm) (value_types : AreOfKinds ts) (p : PatternModel) (envp : List Outcome) (c : Assignment) where
+module _ (ts : BoundValues TypeTerm) (value_types : AreOfKinds ts) (p : PatternModel) (envp : List Outcome) (c : Assignment) where
   abbrev ks : List BitsKind
-  ks = map kind_standing ts
+  ks = map bound_type ts
 
   -- the place of a variable or of a new value
   abbrev pub IsNewPlace : ℕ → Type 0
   IsNewPlace j = (j < length p.values) ⊎ (new_begins p ≤ j)
 
-  abbrev pub ShowsNew : ℕ → List Outcome → Standing Value → Type 0
+  abbrev pub ShowsNew : ℕ → List Outcome → BoundValues Value → Type 0
   ShowsNew k env b = (j : ℕ) (v : Value) → IsNewPlace j → j < k → Stands j v b → slice_get env j ≡ Some (c v)
 
   -- the environment has the computed numbers of the plan
@@ -137,32 +137,32 @@ module _ (ts : Standing TypeTerm) (value_types : AreOfKinds ts) (p : PatternMode
     | inr h ↦ let l = within_parts (new_begins p) k i h in (inr l.0, l.1)
   ]
 
-  new_shown : (k : ℕ) (env : List Outcome) (b : Standing Value) → length p.values ≤ k → ShowsNew k env b → (i : ℕ) (v : Value) → is_new p k i ≡ true → Stands i v b → slice_get env i ≡ Some (c v)
+  new_shown : (k : ℕ) (env : List Outcome) (b : BoundValues Value) → length p.values ≤ k → ShowsNew k env b → (i : ℕ) (v : Value) → is_new p k i ≡ true → Stands i v b → slice_get env i ≡ Some (c v)
   new_shown k env b low shows i v e s = let h = new_place_of k i low e in shows i v h.0 h.1 s
 
   -- the kind of a bound type
-  pub kind_there : (ty : ℕ) (term : TypeTerm) → standing ty ts ≡ Some term → kind_of term ≡ Some (kind_at ks ty)
+  pub kind_there : (ty : ℕ) (term : TypeTerm) → binding_at ty ts ≡ Some term → kind_of term ≡ Some (kind_at ks ty)
   kind_there ty term e =
       let k = some_there (kind_of term) (value_types ty term e) in
       k.1 ∙ ap (λ k. Some k) (sym (kind_is ts ty term k.0 (standing_stands ty term ts e) k.1))
 
   -- a new value has the outcome of its step
-  made_gives : (k : ℕ) (w : NewValue) (es : List BitsKind) (env : List Outcome) (b : Standing Value) (o : Operation) (x : Outcome) → length p.values ≤ k → new_stands p k w ≡ true → is_named w ≡ true
+  made_gives : (k : ℕ) (w : NewValue) (es : List BitsKind) (env : List Outcome) (b : BoundValues Value) (o : Operation) (x : Outcome) → length p.values ≤ k → new_is_valid p k w ≡ true → is_named w ≡ true
       → OfKinds es env → new_fits ks es w ≡ true
       → made_as b ts envp w ≡ Some o → ShowsNew k env b → HasNumbers env → step_of (new_step ks w) env ≡ Some x → makes (head o) (map c (head o).operands) ≡ Some x
   made_gives k (new.Operation q) es env b o x low st named of fit e shows numbers s =
-      let g = given_some (values_at (operands_of q.form) b) (λ vs. given (standing q.ty ts) (λ term. Some (made (name_of q.form) vs term (entries_by (predicate_of q.form) (name_of q.form))))) o e in
-      let l = given_some (standing q.ty ts) (λ term. Some (made (name_of q.form) g.0 term (entries_by (predicate_of q.form) (name_of q.form)))) o g.2 in
-      let places = form_places p (is_new p k) q.form (and_parts (is_type p q.ty) (form_stands p (is_new p k) q.form) st).1 in
+      let g = given_some (values_at (operands_of q.form) b) (λ vs. given (binding_at q.ty ts) (λ term. Some (made (name_of q.form) vs term (entries_by (predicate_of q.form) (name_of q.form))))) o e in
+      let l = given_some (binding_at q.ty ts) (λ term. Some (made (name_of q.form) g.0 term (entries_by (predicate_of q.form) (name_of q.form)))) o g.2 in
+      let places = form_places p (is_new p k) q.form (and_parts (is_type p q.ty) (form_is_valid p (is_new p k) q.form) st).1 in
       let m = made (name_of q.form) g.0 l.0 (entries_by (predicate_of q.form) (name_of q.form)) in
       subst (λ (o : Operation). makes (head o) (map c (head o).operands) ≡ Some x) (same_Some _ _ l.2)
       (form_makes c env (head m) (kind_at ks q.ty) q.form named refl (kind_there q.ty l.0 l.1) (made_asks q.form)
       (operands_show (is_new p k) c env b (new_shown k env b low shows) (operands_of q.form) g.0 places (values_stand (operands_of q.form) b g.0 g.1)) ∙ s)
   made_gives k (new.Constant i t) es env b o x low st named of fit e shows numbers s =
-      let g = given_some (given (slice_get envp i) (λ x. x)) (λ (x : Known). given (standing t ts) (λ term. Some (constant term x.1))) o e in
+      let g = given_some (given (slice_get envp i) (λ x. x)) (λ (x : Known). given (binding_at t ts) (λ term. Some (constant term x.1))) o e in
       let h = given_some (slice_get envp i) (λ x. x) g.0 g.1 in
       let at : slice_get envp i ≡ Some (Some g.0) = h.1 ∙ ap (λ z. Some z) h.2 in
-      let l = given_some (standing t ts) (λ term. Some (constant term g.0.1)) o g.2 in
+      let l = given_some (binding_at t ts) (λ term. Some (constant term g.0.1)) o g.2 in
       let number = (and_parts (is_type p t) (is_number p (old_begins p) i) st).1 in
       let there = numbers i g.0 number at in
       let is : Some g.0 ≡ x = same_Some _ _ (sym (again_gives env i g.0 there) ∙ s) in
@@ -181,17 +181,17 @@ module _ (ts : Standing TypeTerm) (value_types : AreOfKinds ts) (p : PatternMode
   alone_typed n term x is h zero ty e = subst (λ ty. IsOfType ty (c (Result n 0))) (same_Some _ _ e) (subst (IsOfType term) (sym is) h)
   alone_typed n term x is h (suc k) ty e = absurd (none-some ty e)
 
-  made_typed : (w : NewValue) (b : Standing Value) (o : Operation) → made_as b ts envp w ≡ Some o → (n : ℕ) (x : Outcome) → c (Result n 0) ≡ x → IsKind (kind_at ks (new_type w)) x → IsOfBits x → TypedAs (head o) n
+  made_typed : (w : NewValue) (b : BoundValues Value) (o : Operation) → made_as b ts envp w ≡ Some o → (n : ℕ) (x : Outcome) → c (Result n 0) ≡ x → IsKind (kind_at ks (new_type w)) x → IsOfBits x → TypedAs (head o) n
   made_typed (new.Operation q) b o e n x is h i =
-      let g = given_some (values_at (operands_of q.form) b) (λ vs. given (standing q.ty ts) (λ term. Some (made (name_of q.form) vs term (entries_by (predicate_of q.form) (name_of q.form))))) o e in
-      let l = given_some (standing q.ty ts) (λ term. Some (made (name_of q.form) g.0 term (entries_by (predicate_of q.form) (name_of q.form)))) o g.2 in
+      let g = given_some (values_at (operands_of q.form) b) (λ vs. given (binding_at q.ty ts) (λ term. Some (made (name_of q.form) vs term (entries_by (predicate_of q.form) (name_of q.form))))) o e in
+      let l = given_some (binding_at q.ty ts) (λ term. Some (made (name_of q.form) g.0 term (entries_by (predicate_of q.form) (name_of q.form)))) o g.2 in
       subst (λ (o : Operation). TypedAs (head o) n) (same_Some _ _ l.2) (alone_typed n l.0 x is (one_typed l.0 (kind_at ks q.ty) x (kind_there q.ty l.0 l.1) h i))
   made_typed (new.Constant j t) b o e n x is h i =
-      let g = given_some (given (slice_get envp j) (λ x. x)) (λ (x : Known). given (standing t ts) (λ term. Some (constant term x.1))) o e in
-      let l = given_some (standing t ts) (λ term. Some (constant term g.0.1)) o g.2 in
+      let g = given_some (given (slice_get envp j) (λ x. x)) (λ (x : Known). given (binding_at t ts) (λ term. Some (constant term x.1))) o e in
+      let l = given_some (binding_at t ts) (λ term. Some (constant term g.0.1)) o g.2 in
       subst (λ (o : Operation). TypedAs (head o) n) (same_Some _ _ l.2) (alone_typed n l.0 x is (one_typed l.0 (kind_at ks t) x (kind_there t l.0 l.1) h i))
 
-  shows_more : (k n : ℕ) (env : List Outcome) (b b1 : Standing Value) (x : Outcome) → length env ≡ k → bound same_value k (Result n 0) b ≡ Some b1 → c (Result n 0) ≡ x → ShowsNew k env b → ShowsNew (k + 1) (env ++ (x ∷ [])) b1
+  shows_more : (k n : ℕ) (env : List Outcome) (b b1 : BoundValues Value) (x : Outcome) → length env ≡ k → bound same_value k (Result n 0) b ≡ Some b1 → c (Result n 0) ≡ x → ShowsNew k env b → ShowsNew (k + 1) (env ++ (x ∷ [])) b1
   shows_more k n env b b1 x l e is shows j v o m s = elim (cases_eq j k) [
     | inl i ↦
         let at = (bound_holds same_value same_value_true k (Result n 0) b b1 e).0 in
@@ -199,32 +199,32 @@ module _ (ts : Standing TypeTerm) (value_types : AreOfKinds ts) (p : PatternMode
     | inr i ↦ push_other env x j (c v) (shows j v o (omega (arith, m, i)) (bound_elsewhere same_value same_value_true k (Result n 0) b b1 e j v i s))
   ]
 
-  pub news_run : (end k n : ℕ) (ws : List NewValue) (es : List BitsKind) (env whole : List Outcome) (b d : Standing Value) (os : List Operation) → run (map (new_step ks) ws) env ≡ Some whole → all_made ts envp n k ws b ≡ Some (os, d)
-      → length env ≡ k → k + length ws ≡ end → length p.values ≤ k → news_stand p end ws ≡ true → list_all is_named ws ≡ true → OfKinds es env → AllOfBits env → news_fit ks es ws ≡ true
+  pub news_run : (end k n : ℕ) (ws : List NewValue) (es : List BitsKind) (env whole : List Outcome) (b d : BoundValues Value) (os : List Operation) → run (map (new_step ks) ws) env ≡ Some whole → all_made ts envp n k ws b ≡ Some (os, d)
+      → length env ≡ k → k + length ws ≡ end → length p.values ≤ k → news_are_valid p end ws ≡ true → list_all is_named ws ≡ true → OfKinds es env → AllOfBits env → news_fit ks es ws ≡ true
       → Later c n k whole → ShowsNew k env b → HasNumbers env → FitsEach c n os × ShowsNew (k + length ws) whole d × TypedEach c n os
   news_run end k n [] es env whole b d os ran all l sum low st named of bits fit later shows numbers =
       let s : ([], b) ≡ (os, d) = same_Some _ _ all in
       let w : env ≡ whole = same_Some _ _ ran in (
-        subst (λ os. FitsEach c n os) (ap (λ (r : List Operation × Standing Value). r.0) s) tt,
-        (λ j v o m h. subst (λ z. slice_get z j ≡ Some (c v)) w (shows j v o (no_more m) (subst (λ z. Stands j v z) (ap (λ (r : List Operation × Standing Value). r.1) (sym s)) h))),
-        subst (λ os. TypedEach c n os) (ap (λ (r : List Operation × Standing Value). r.0) s) tt,
+        subst (λ os. FitsEach c n os) (ap (λ (r : List Operation × BoundValues Value). r.0) s) tt,
+        (λ j v o m h. subst (λ z. slice_get z j ≡ Some (c v)) w (shows j v o (no_more m) (subst (λ z. Stands j v z) (ap (λ (r : List Operation × BoundValues Value). r.1) (sym s)) h))),
+        subst (λ os. TypedEach c n os) (ap (λ (r : List Operation × BoundValues Value). r.0) s) tt,
       )
     where
       no_more : {j : ℕ} → j < k + 0 → j < k
       no_more m = omega (arith, m)
   news_run end k n (w ∷ ws) es env whole b d os ran all l sum low st named of bits fit later shows numbers =
       let x = given_some (step_of (new_step ks w) env) (λ x. run (map (new_step ks) ws) (env ++ (x ∷ []))) whole ran in
-      let g = given_some (made_as b ts envp w) (λ o. given (bound same_value k (Result n 0) b) (λ c. option_map (λ (r : List Operation × Standing Value). (o ∷ r.0, r.1)) (all_made ts envp (n + 1) (k + 1) ws c))) (os, d) all in
-      let h = given_some (bound same_value k (Result n 0) b) (λ c. option_map (λ (r : List Operation × Standing Value). (g.0 ∷ r.0, r.1)) (all_made ts envp (n + 1) (k + 1) ws c)) (os, d) g.2 in
+      let g = given_some (made_as b ts envp w) (λ o. given (bound same_value k (Result n 0) b) (λ c. option_map (λ (r : List Operation × BoundValues Value). (o ∷ r.0, r.1)) (all_made ts envp (n + 1) (k + 1) ws c))) (os, d) all in
+      let h = given_some (bound same_value k (Result n 0) b) (λ c. option_map (λ (r : List Operation × BoundValues Value). (g.0 ∷ r.0, r.1)) (all_made ts envp (n + 1) (k + 1) ws c)) (os, d) g.2 in
       let m = more_made g.0 (all_made ts envp (n + 1) (k + 1) ws h.0) os d h.2 in
-      let parts = and_parts (new_stands p (end - length (w ∷ ws)) w) (news_stand p end ws) st in
+      let parts = and_parts (new_is_valid p (end - length (w ∷ ws)) w) (news_are_valid p end ws) st in
       let names = and_parts (is_named w) (list_all is_named ws) named in
       let at : end - length (w ∷ ws) ≡ k = omega (arith, sum) in
       let grown = run_grows (map (new_step ks) ws) (env ++ (x.0 ∷ [])) whole x.2 in
       let there : slice_get whole k ≡ Some x.0 = grown.stays k x.0 (ap (slice_get (env ++ (x.0 ∷ []))) (sym l) ∙ push_last env x.0) in
       let is : c (Result n 0) ≡ x.0 = later k n x.0 there (omega arith) (omega arith) in
       let typed = and_parts (new_fits ks es w) (news_fit ks (es ++ (kind_at ks (new_type w) ∷ [])) ws) fit in
-      let gives = made_gives k w es env b g.0 x.0 low (subst (λ z. new_stands p z w ≡ true) at parts.0) names.0 of typed.0 g.1 shows numbers x.1 in
+      let gives = made_gives k w es env b g.0 x.0 low (subst (λ z. new_is_valid p z w ≡ true) at parts.0) names.0 of typed.0 g.1 shows numbers x.1 in
       let its_kind = new_kind es env of ks w x.0 typed.0 x.1 in
       let its_bits = step_bits env bits (new_step ks w) x.0 x.1 in
       let ih =

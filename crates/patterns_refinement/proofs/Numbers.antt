@@ -17,7 +17,7 @@ use Rattle.user_patterns_data.specs.declared.pattern.ConstantExpression.{Constan
 use Rattle.user_patterns_data.specs.declared.pattern.ConstantExpression.TheVariants as number
 use Rattle.user_patterns_data.specs.Fitting.{extra_step, number_step}
 use Rattle.user_patterns_data.specs.Shapes.{PatternModel}
-use Rattle.user_patterns_data.specs.WellFormed.{extra_stands, is_constant, is_number, is_within, numbers_stand, number_stands}
+use Rattle.user_patterns_data.specs.WellFormed.{extra_is_valid, is_constant, is_number, is_within, numbers_are_valid, number_is_valid}
 use Rattle.patterns_refinement.proofs.Steps.{push_below, push_last, push_past}
 
 pub within_parts : (low end i : ℕ) → is_within low end i ≡ true → (low ≤ i) × (i < end)
@@ -94,22 +94,22 @@ module _ (p : PatternModel) where
   all_after [] rs s r = r
   all_after (x ∷ ss) rs s r = (s.0, all_after ss rs s.1 r)
 
-  extras_speak : (ks : List BitsKind) (fs : List ExtraConstant) → list_all (extra_stands p) fs ≡ true → AllSpeak (map (extra_step ks) fs)
+  extras_speak : (ks : List BitsKind) (fs : List ExtraConstant) → list_all (extra_is_valid p) fs ≡ true → AllSpeak (map (extra_step ks) fs)
   extras_speak ks [] e = tt
-  extras_speak ks (f ∷ fs) e = let h = and_parts (extra_stands p f) (list_all (extra_stands p) fs) e in (one f h.0, extras_speak ks fs h.1)
+  extras_speak ks (f ∷ fs) e = let h = and_parts (extra_is_valid p f) (list_all (extra_is_valid p) fs) e in (one f h.0, extras_speak ks fs h.1)
     where
-      one : (f : ExtraConstant) → extra_stands p f ≡ true → Speaks (extra_step ks f)
+      one : (f : ExtraConstant) → extra_is_valid p f ≡ true → Speaks (extra_step ks f)
       one (extra.Literal l) e = tt
       one (extra.SameAs i) e = (inl e, inl e)
 
-  numbers_speak : (ks : List BitsKind) (end : ℕ) (ns : List ConstantExpression) → numbers_stand p end ns ≡ true → AllSpeak (map (number_step ks) ns)
+  numbers_speak : (ks : List BitsKind) (end : ℕ) (ns : List ConstantExpression) → numbers_are_valid p end ns ≡ true → AllSpeak (map (number_step ks) ns)
   numbers_speak ks end [] e = tt
-  numbers_speak ks end (n ∷ ns) e = let h = and_parts (number_stands p (end - length (n ∷ ns)) n) (numbers_stand p end ns) e in (one (end - length (n ∷ ns)) n h.0, numbers_speak ks end ns h.1)
+  numbers_speak ks end (n ∷ ns) e = let h = and_parts (number_is_valid p (end - length (n ∷ ns)) n) (numbers_are_valid p end ns) e in (one (end - length (n ∷ ns)) n h.0, numbers_speak ks end ns h.1)
     where
       two : (k i j : ℕ) → (is_number p k i && is_number p k j) ≡ true → IsFixed i × IsFixed j
       two k i j e = let h = and_parts (is_number p k i) (is_number p k j) e in (number_fixed k i h.0, number_fixed k j h.1)
 
-      one : (k : ℕ) (n : ConstantExpression) → number_stands p k n ≡ true → Speaks (number_step ks n)
+      one : (k : ℕ) (n : ConstantExpression) → number_is_valid p k n ≡ true → Speaks (number_step ks n)
       one k (number.Literal l) e = tt
       one k (number.Width t) e = tt
       one k (number.Binary o i j) e = two k i j e
@@ -117,6 +117,6 @@ module _ (p : PatternModel) where
       one k (number.Log2 i) e = number_fixed k i e
       one k (number.Require i) e = number_fixed k i e
 
-  pub given_speak : (ks : List BitsKind) (end : ℕ) → list_all (extra_stands p) p.extra ≡ true → numbers_stand p end p.given ≡ true
+  pub given_speak : (ks : List BitsKind) (end : ℕ) → list_all (extra_is_valid p) p.extra ≡ true → numbers_are_valid p end p.given ≡ true
       → AllSpeak (map (extra_step ks) p.extra ++ map (number_step ks) p.given)
   given_speak ks end f n = all_after (map (extra_step ks) p.extra) (map (number_step ks) p.given) (extras_speak ks p.extra f) (numbers_speak ks end p.given n)

@@ -20,10 +20,10 @@ use Rattle.user_patterns_data.specs.declared.pattern.Expression.TheVariants as f
 use Rattle.user_patterns_data.specs.declared.pattern.PatternOp.{PatternOp}
 use Rattle.user_patterns_data.specs.Fitting.{form_step, kind_at, pattern_op_step}
 use Rattle.user_patterns_data.specs.Names.{name_of, operands_of}
-use Rattle.user_patterns_data.specs.Matching.{Header, Standing, defining_op_head}
-use Rattle.user_patterns_data.specs.Planning.{kind_standing}
+use Rattle.user_patterns_data.specs.Matching.{Header, BoundValues, defining_op_head}
+use Rattle.user_patterns_data.specs.Planning.{bound_type}
 use Rattle.user_patterns_data.specs.Shapes.{PatternModel}
-use Rattle.user_patterns_data.specs.WellFormed.{form_stands, is_old, is_type, is_within, old_begins, old_stands, olds_stand}
+use Rattle.user_patterns_data.specs.WellFormed.{form_is_valid, is_old, is_type, is_within, old_begins, old_is_valid, olds_are_valid}
 use Rattle.user_patterns_build.specs.CanBuild.{has_name}
 use Rattle.patterns_refinement.specs.Meaning.{Assignment, makes, makes_by, of_one, of_three, of_two, result_kind}
 use Rattle.patterns_refinement.specs.Applied.{AreOfKinds, kinds_after, pattern_op_kind}
@@ -35,7 +35,7 @@ use Rattle.patterns_refinement.proofs.Numbers.{within_parts}
 use Rattle.patterns_refinement.proofs.OfBits.{IsOfBits}
 use Rattle.patterns_refinement.proofs.OfKinds.{IsKind, OfKinds, push_kinds}
 use Rattle.patterns_refinement.proofs.Olds.{AllAre, form_places}
-use Rattle.patterns_refinement.proofs.Standing.{AllHold, AllTyped, Holds, IsTyped, Stands, ValuesStand, one_stands, stands_standing}
+use Rattle.patterns_refinement.proofs.BoundValues.{AllHold, AllTyped, Holds, IsTyped, Stands, ValuesStand, one_stands, stands_standing}
 use Rattle.patterns_refinement.proofs.Steps.{push_last, push_other}
 
 -- ---- the environment has outcomes at places
@@ -88,7 +88,7 @@ pub record Raised (t : Operation) (a : Assignment) (v : Value) (h : Header) : Ty
   pub is_made : makes h (map a h.operands) ≡ Some outcome
   pub better : refines (a v) outcome ≡ true
 
-module _ (t : Operation) (verified : Header → Bool) (a : Assignment) (b : Standing Value) (ts : Standing TypeTerm) (p : PatternModel) (value_types : AreOfKinds ts)
+module _ (t : Operation) (verified : Header → Bool) (a : Assignment) (b : BoundValues Value) (ts : BoundValues TypeTerm) (p : PatternModel) (value_types : AreOfKinds ts)
     (raised : (i : ℕ) (v : Value) (h : Header) (f : Expression) → Stands i v b → defining_op_head t verified v ≡ Some h → rule_of h.name ≡ Some (rule_for f) → Raised t a v h) where
   -- the place of a variable, an extra constant or a matched operation
   abbrev pub IsOldPlace : ℕ → Type 0
@@ -107,9 +107,9 @@ module _ (t : Operation) (verified : Header → Bool) (a : Assignment) (b : Stan
 
   pub record OldsRefine (k : ℕ) (ps : List PatternOp) (env : List Outcome) : Type 0 where
     pub new : List Outcome
-    pub ran : run (map (pattern_op_step (map kind_standing ts)) ps) env ≡ Some new
+    pub ran : run (map (pattern_op_step (map bound_type ts)) ps) env ≡ Some new
     pub shows : ShowsBetter (k + length ps) new
-    pub of_kinds : (es : List BitsKind) → OfKinds es env → OfKinds (kinds_after (pattern_op_kind (map kind_standing ts)) ps es) new
+    pub of_kinds : (es : List BitsKind) → OfKinds es env → OfKinds (kinds_after (pattern_op_kind (map bound_type ts)) ps es) new
 
   old_shown : (k : ℕ) (env : List Outcome) → old_begins p ≤ k → ShowsBetter k env → (i : ℕ) (v : Value) → is_old p k i ≡ true → Stands i v b → ShownAt env i v
   old_shown k env low shows i v e s = elim (or_cases (nat_lt i (length p.values + length p.extra)) (is_within (old_begins p) k i) e) [
@@ -143,20 +143,20 @@ module _ (t : Operation) (verified : Header → Bool) (a : Assignment) (b : Stan
   -- the step of a pattern op computes a refinement of the outcome of the value at its place
   record Given (k : ℕ) (o : PatternOp) (env : List Outcome) (v : Value) : Type 0 where
     pub outcome : Outcome
-    pub is : step_of (pattern_op_step (map kind_standing ts) o) env ≡ Some outcome
+    pub is : step_of (pattern_op_step (map bound_type ts) o) env ≡ Some outcome
     pub better : refines (a v) outcome ≡ true
-    pub of : IsKind (kind_at (map kind_standing ts) o.ty) outcome
+    pub of : IsKind (kind_at (map bound_type ts) o.ty) outcome
     pub in_tree : (k : BitsKind) → kind_in t v ≡ Some k → IsKind k outcome
     pub bits : IsOfBits outcome
 
-  pattern_op_given : (k : ℕ) (o : PatternOp) (env : List Outcome) → old_begins p ≤ k → old_stands p k o ≡ true → has_name o.form ≡ true → (r : Holds t verified k o b) → IsTyped t verified k o.ty b ts → ShowsBetter k env → Given k o env r.value
+  pattern_op_given : (k : ℕ) (o : PatternOp) (env : List Outcome) → old_begins p ≤ k → old_is_valid p k o ≡ true → has_name o.form ≡ true → (r : Holds t verified k o b) → IsTyped t verified k o.ty b ts → ShowsBetter k env → Given k o env r.value
   pattern_op_given k o env low st named r q shows =
-      let places = form_places p (is_old p k) o.form (and_parts (is_type p o.ty) (form_stands p (is_old p k) o.form) st).1 in
+      let places = form_places p (is_old p k) o.form (and_parts (is_type p o.ty) (form_is_valid p (is_old p k) o.form) st).1 in
       let same : r.value ≡ q.value = one_stands k r.value q.value b r.stands q.stands in
       let of_value : type_of_value r.value t ≡ Some q.term = ap (λ v. type_of_value v t) same ∙ q.of_value in
       let first = defining_op_type t verified r.value r.header q.term (defining_op_of t verified r.value r.header r.gives) of_value in
       let k_is = some_there (kind_of q.term) (value_types o.ty q.term (stands_standing o.ty q.term ts q.type_stands)) in
-      let at : kind_at (map kind_standing ts) o.ty ≡ k_is.0 = kind_is ts o.ty q.term k_is.0 q.type_stands k_is.1 in
+      let at : kind_at (map bound_type ts) o.ty ≡ k_is.0 = kind_is ts o.ty q.term k_is.0 q.type_stands k_is.1 in
       let kind : result_kind r.header ≡ Some k_is.0 = ap (λ o. given o kind_of) first ∙ k_is.1 in
       let name = ap rule_of (named_is (name_of o.form) r.header.name r.name) ∙ form_rule o.form named in
       let w = raised k r.value r.header o.form r.stands r.gives name in
@@ -188,18 +188,18 @@ module _ (t : Operation) (verified : Header → Bool) (a : Assignment) (b : Stan
         record { outcome = r.outcome; at = push_other env g.outcome j r.outcome r.at; better = r.better; of = r.of; bits = r.bits }
   ]
 
-  pub olds_refine : (end k : ℕ) (ps : List PatternOp) (env : List Outcome) → length env ≡ k → k + length ps ≡ end → old_begins p ≤ k → olds_stand p end ps ≡ true → list_all (λ (o : PatternOp). has_name o.form) ps ≡ true
+  pub olds_refine : (end k : ℕ) (ps : List PatternOp) (env : List Outcome) → length env ≡ k → k + length ps ≡ end → old_begins p ≤ k → olds_are_valid p end ps ≡ true → list_all (λ (o : PatternOp). has_name o.form) ps ≡ true
       → AllHold t verified k ps b → AllTyped t verified k (map PatternOp.ty ps) b ts → ShowsBetter k env → OldsRefine k ps env
   olds_refine end k [] env l sum low st named h q shows = record { new = env; ran = refl; shows = λ j v o m s. shows j v o (omega (arith, m)) s; of_kinds = λ es g. g }
   olds_refine end k (o ∷ ps) env l sum low st named h q shows =
-      let parts = and_parts (old_stands p (end - length (o ∷ ps)) o) (olds_stand p end ps) st in
+      let parts = and_parts (old_is_valid p (end - length (o ∷ ps)) o) (olds_are_valid p end ps) st in
       let names = and_parts (has_name o.form) (list_all (λ (o : PatternOp). has_name o.form) ps) named in
       let at : end - length (o ∷ ps) ≡ k = omega (arith, sum) in
-      let g = pattern_op_given k o env low (subst (λ z. old_stands p z o ≡ true) at parts.0) names.0 h.0 q.0 shows in
+      let g = pattern_op_given k o env low (subst (λ z. old_is_valid p z o ≡ true) at parts.0) names.0 h.0 q.0 shows in
       let ih = olds_refine end (k + 1) ps (env ++ (g.outcome ∷ [])) (length_push env g.outcome ∙ ap (λ n. n + 1) l) (omega (arith, sum)) (omega (arith, low)) parts.1 names.1 h.1 q.1 (shows_more k o env h.0.value g l h.0.stands shows) in
       record {
         new = ih.new;
-        ran = given_at (step_of (pattern_op_step (map kind_standing ts) o) env) g.outcome (λ x. run (map (pattern_op_step (map kind_standing ts)) ps) (env ++ (x ∷ []))) (Some ih.new) g.is ih.ran;
+        ran = given_at (step_of (pattern_op_step (map bound_type ts) o) env) g.outcome (λ x. run (map (pattern_op_step (map bound_type ts)) ps) (env ++ (x ∷ []))) (Some ih.new) g.is ih.ran;
         shows = λ j w o m s. ih.shows j w o (omega (arith, m)) s;
-        of_kinds = λ es f. ih.of_kinds (es ++ (kind_at (map kind_standing ts) o.ty ∷ [])) (push_kinds es env (kind_at (map kind_standing ts) o.ty) g.outcome f g.of);
+        of_kinds = λ es f. ih.of_kinds (es ++ (kind_at (map bound_type ts) o.ty ∷ [])) (push_kinds es env (kind_at (map bound_type ts) o.ty) g.outcome f g.of);
       }

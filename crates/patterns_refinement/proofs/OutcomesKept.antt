@@ -25,11 +25,11 @@ use Rattle.user_patterns_check.proofs.Following.{run_after}
 use Rattle.user_patterns_claims.specs.Outcomes.{AreOutcomes, IsNumberIf, IsOutcome, old_outcomes}
 use Rattle.user_patterns_data.specs.declared.pattern.Expression.{Expression}
 use Rattle.user_patterns_data.specs.Fitting.{content_with, extra_step, kind_at, number_step, pattern_op_step}
-use Rattle.user_patterns_data.specs.Matching.{Header, Standing, defining_op_head, known, standing}
-use Rattle.user_patterns_data.specs.Planning.{extra_place, kind_standing, known_at, new_place, old_place, outcomes, planned}
+use Rattle.user_patterns_data.specs.Matching.{Header, BoundValues, defining_op_head, known, binding_at}
+use Rattle.user_patterns_data.specs.Planning.{extra_place, bound_type, known_at, new_place, old_place, outcomes, planned}
 use Rattle.user_patterns_data.specs.Shapes.{PatternModel}
 use Rattle.user_patterns_data.specs.WellFormed.{new_begins, new_ends, old_begins}
-use Rattle.user_patterns_apply.specs.Own.{OwnAreAccepted}
+use Rattle.user_patterns_apply.specs.Own.{UserPatternsAreAccepted}
 use Rattle.patterns_refinement.specs.Meaning.{Assignment, IsOfType, Obeys, is_arithmetic, makes}
 use Rattle.patterns_refinement.specs.Applied.{IsProper, extra_kind, kinds_after, kinds_given, kinds_matched}
 use Rattle.patterns_refinement.specs.Better.{IsSure, kind_in, may_overflow}
@@ -53,7 +53,7 @@ use Rattle.patterns_refinement.proofs.PassingKept.{constant_is, fed, its_made, i
 use Rattle.patterns_refinement.proofs.PassingMade.{old_below, news_typed}
 use Rattle.patterns_refinement.proofs.PassingMatched.{Here, defining_op_kinded, defining_op_kinds}
 use Rattle.patterns_refinement.proofs.Settling.{typed_bits}
-use Rattle.patterns_refinement.proofs.Standing.{AllTyped, Stands, standing_stands, stands_standing}
+use Rattle.patterns_refinement.proofs.BoundValues.{AllTyped, Stands, standing_stands, stands_standing}
 use Rattle.patterns_refinement.proofs.Steps.{Grows, run_grows}
 use Rattle.patterns_refinement.proofs.Trees.{each_found, found_fit, types_found}
 
@@ -80,13 +80,13 @@ number_if true (Some y) h = tt
 number_if false o h = tt
 
 -- ---- the outcomes of the variables
-module _ (a : Assignment) (b : Standing Value) where
+module _ (a : Assignment) (b : BoundValues Value) where
   abbrev outcome_of : ℕ → Outcome
-  outcome_of k = given (standing k b) a
+  outcome_of k = given (binding_at k b) a
 
   abbrev pub firsts : ℕ → List ℕ → List Outcome
   firsts k [] = []
-  firsts k (ty ∷ tys) = given (standing k b) a ∷ firsts (k + 1) tys
+  firsts k (ty ∷ tys) = given (binding_at k b) a ∷ firsts (k + 1) tys
 
   firsts_long : (k : ℕ) (tys : List ℕ) → length (firsts k tys) ≡ length tys
   firsts_long k [] = refl
@@ -104,7 +104,7 @@ module _ (a : Assignment) (b : Standing Value) where
       same k i = omega arith
 
 module _ (m : Module) (p : PatternModel) (x : ℕ) (proper : IsProper p) (ready : IsReady m) (os : List Operation) (value : Value)
-    (plan : planned m.tree (is_verified m.tree) m.next p x ≡ Some (os, value)) (q : Here m p x proper ready os value plan) (kinded : is_kinded_at (map kind_standing q.types) p ≡ true)
+    (plan : planned m.tree (is_verified m.tree) m.next p x ≡ Some (os, value)) (q : Here m p x proper ready os value plan) (kinded : is_kinded_at (map bound_type q.types) p ≡ true)
     (a : Assignment) (done : ℕ → Bool) (computing : Computing a done m.tree) (d : done x ≡ true) where
   abbrev t : Operation
   t = m.tree
@@ -113,10 +113,10 @@ module _ (m : Module) (p : PatternModel) (x : ℕ) (proper : IsProper p) (ready 
   verified = is_verified m.tree
 
   abbrev ks : List BitsKind
-  ks = map kind_standing q.types
+  ks = map bound_type q.types
 
   abbrev steps : Content
-  steps = content_with (map kind_standing q.types) p
+  steps = content_with (map bound_type q.types) p
 
   abbrev variables : List Outcome
   variables = firsts a q.here 0 p.values
@@ -145,30 +145,30 @@ module _ (m : Module) (p : PatternModel) (x : ℕ) (proper : IsProper p) (ready 
 
   variable_at : (j : ℕ) (v : Value) → j < length p.values → Stands j v q.here → slice_get (firsts a q.here 0 p.values) j ≡ Some (a v)
   variable_at j v l s =
-      firsts_at a q.here 0 p.values j l ∙ ap (λ z. Some (given (standing z q.here) a)) (no_more j) ∙ ap (λ o. Some (given o a)) (stands_standing j v q.here s)
+      firsts_at a q.here 0 p.values j l ∙ ap (λ z. Some (given (binding_at z q.here) a)) (no_more j) ∙ ap (λ o. Some (given o a)) (stands_standing j v q.here s)
     where
       no_more : (k : ℕ) → 0 + k ≡ k
       no_more k = omega arith
 
   -- a constant has a number
-  constant_number : (k : ℕ) → list_any (eqb k) p.constants ≡ true → is_some (given (standing k q.here) a) ≡ true
+  constant_number : (k : ℕ) → list_any (eqb k) p.constants ≡ true → is_some (given (binding_at k q.here) a) ≡ true
   constant_number k c =
       let y = some_there (known_at t verified m.next p q.here k) (constants_are t verified a q.here q.types m.next p p.constants q.parts.constants k c) in
-      let g = given_some (standing k q.here) (known t verified) y.0 y.1 in
+      let g = given_some (binding_at k q.here) (known t verified) y.0 y.1 in
       ap (λ o. is_some (given o a)) g.1 ∙ ap is_some (knows k g.0 y.0 (standing_stands k g.0 q.here g.1) g.2)
 
   one_outcome : (term : TypeTerm) (k : BitsKind) (o : Outcome) → IsOfType term o → ((y : Known) → kind_of term ≡ Some y.0 → k ≡ y.0) → IsOutcome k o
   one_outcome term k None e same = tt
   one_outcome term k (Some y) e same = let s = same y e.0 in (sym s, subst (λ k. y.1 < 2 ^ width_of k) (sym s) (bits_below y.0 y.1 e.1))
 
-  are_outcomes : (k : ℕ) (tys : List ℕ) → AllTyped m.tree (is_verified m.tree) k tys q.here q.types → AreOutcomes p (map kind_standing q.types) k tys (firsts a q.here k tys)
+  are_outcomes : (k : ℕ) (tys : List ℕ) → AllTyped m.tree (is_verified m.tree) k tys q.here q.types → AreOutcomes p (map bound_type q.types) k tys (firsts a q.here k tys)
   are_outcomes k [] h = tt
   are_outcomes k (ty ∷ tys) h =
       let w = h.0 in
-      let is : given (standing k q.here) a ≡ a w.value = ap (λ o. given o a) (stands_standing k w.value q.here w.stands) in (
+      let is : given (binding_at k q.here) a ≡ a w.value = ap (λ o. given o a) (stands_standing k w.value q.here w.stands) in (
         subst (IsOutcome (kind_at ks ty)) (sym is)
             (one_outcome w.term (kind_at ks ty) (a w.value) (types_found a t computing.typed w.value w.term w.of_value) (λ y e. kind_is q.types ty w.term y.0 w.type_stands e)),
-        number_if (list_any (eqb k) p.constants) (given (standing k q.here) a) (λ c. constant_number k c),
+        number_if (list_any (eqb k) p.constants) (given (binding_at k q.here) a) (λ c. constant_number k c),
         are_outcomes (k + 1) tys h.1,
       )
 
@@ -254,8 +254,8 @@ module _ (m : Module) (p : PatternModel) (x : ℕ) (proper : IsProper p) (ready 
       let l = slice_get_within variables i (Some y) e in
       let n = variables_long in
       let within : i < length p.values = omega (arith, l, n) in
-      let at : given (standing (0 + i) q.here) a ≡ Some y = same_Some _ _ (sym (firsts_at a q.here 0 p.values i within) ∙ e) in
-      let g = given_some (standing (0 + i) q.here) a y at in
+      let at : given (binding_at (0 + i) q.here) a ≡ Some y = same_Some _ _ (sym (firsts_at a q.here 0 p.values i within) ∙ e) in
+      let g = given_some (binding_at (0 + i) q.here) a y at in
       record { its_value = g.0; within = within; stands = subst (λ z. Stands z g.0 q.here) (no_more i) (standing_stands (0 + i) g.0 q.here g.1); is = g.2 }
     where
       no_more : (k : ℕ) → 0 + k ≡ k
@@ -288,7 +288,7 @@ module _ (m : Module) (p : PatternModel) (x : ℕ) (proper : IsProper p) (ready 
   has_numbers i y fixed s = olds_grow.stays i (Some y) (sym (numbers.alike.same i (number_fixed p (old_begins p) i fixed)) ∙ s)
 
   -- ---- the new operations
-  module _ (keeps : KeepsForOutcomes p (map kind_standing q.types)) (none : list_all makes_no_quotient p.new ≡ true) where
+  module _ (keeps : KeepsForOutcomes p (map bound_type q.types)) (none : list_all makes_no_quotient p.new ≡ true) where
     new_side : Refines root_shown.outcome p.result (run steps.new olds.new)
     new_side =
         let r = root_shown in
@@ -332,15 +332,15 @@ module _ (m : Module) (p : PatternModel) (x : ℕ) (proper : IsProper p) (ready 
 
 -- ---- executed or not
 making_at : (m : Module) (p : PatternModel) (x : ℕ) (proper : IsProper p) (ready : IsReady m) (os : List Operation) (value : Value)
-    (plan : planned m.tree (is_verified m.tree) m.next p x ≡ Some (os, value)) (q : Here m p x proper ready os value plan) (kinded : is_kinded_at (map kind_standing q.types) p ≡ true)
-    → KeepsForOutcomes p (map kind_standing q.types) → list_all makes_no_quotient p.new ≡ true → (a : Assignment) (done : ℕ → Bool) → Computing a done m.tree → Making a m.next x done os value
+    (plan : planned m.tree (is_verified m.tree) m.next p x ≡ Some (os, value)) (q : Here m p x proper ready os value plan) (kinded : is_kinded_at (map bound_type q.types) p ≡ true)
+    → KeepsForOutcomes p (map bound_type q.types) → list_all makes_no_quotient p.new ≡ true → (a : Assignment) (done : ℕ → Bool) → Computing a done m.tree → Making a m.next x done os value
 making_at m p x proper ready os value plan q kinded keeps none a done computing = go (done x) refl
   where
     go : (b : Bool) → done x ≡ b → Making a m.next x done os value
     go true e = making_outcomes m p x proper ready os value plan q kinded a done computing e keeps none
     go false e = making_still m p x proper ready os value plan q kinded a done computing e
 
-pub outcomes_keep_there : OwnAreAccepted → OutcomesKeepThere
+pub outcomes_keep_there : UserPatternsAreAccepted → OutcomesKeepThere
 outcomes_keep_there accepted p m n x none proper ready e keeps =
     let s = site_of accepted p proper m n x ready e in
     let at : FoundAt p m x = record { here = s.here.here; is_matched = s.here.is_matched; types = s.here.types; are_types = s.here.are_types } in

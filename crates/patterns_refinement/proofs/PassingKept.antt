@@ -33,14 +33,14 @@ use Rattle.user_patterns_data.specs.declared.pattern.Expression.TheVariants as f
 use Rattle.user_patterns_data.specs.declared.pattern.NewValue.{NewValue}
 use Rattle.user_patterns_data.specs.declared.pattern.NewValue.TheVariants as new
 use Rattle.user_patterns_data.specs.Fitting.{content_with, kind_at}
-use Rattle.user_patterns_data.specs.Matching.{Header, defining_op_head, known, standing, when}
+use Rattle.user_patterns_data.specs.Matching.{Header, defining_op_head, known, binding_at, when}
 use Rattle.user_patterns_data.specs.Names.{operands_of}
-use Rattle.user_patterns_data.specs.Planning.{kind_standing, new_place, old_place, outcomes, planned, planned_by, typed}
+use Rattle.user_patterns_data.specs.Planning.{bound_type, new_place, old_place, outcomes, planned, planned_by, typed}
 use Rattle.user_patterns_data.specs.Shapes.{PatternModel}
-use Rattle.user_patterns_data.specs.WellFormed.{form_stands, is_new, is_type, new_ends, new_stands, news_stand}
+use Rattle.user_patterns_data.specs.WellFormed.{form_is_valid, is_new, is_type, new_ends, new_is_valid, news_are_valid}
 use Rattle.user_patterns_build.specs.CanBuild.{new_type}
 use Rattle.user_patterns_apply.proofs.FoundBuilt.{when_is}
-use Rattle.user_patterns_apply.specs.Own.{OwnAreAccepted, own_rewrite}
+use Rattle.user_patterns_apply.specs.Own.{UserPatternsAreAccepted, user_pattern_rewrite}
 use Rattle.patterns_refinement.proofs.Flags.{AreUnflagged}
 use Rattle.patterns_refinement.specs.Meaning.{Assignment, IsOfType, is_arithmetic, owner, makes, Obeys, breaks_by, breaks_flags, flags_of, result_kind}
 use Rattle.patterns_refinement.specs.Applied.{Goes, IsFound, IsProper, kinds_matched, matched}
@@ -61,7 +61,7 @@ use Rattle.patterns_refinement.proofs.OfKinds.{OfKinds}
 use Rattle.patterns_refinement.proofs.Olds.{AllAre, form_places}
 use Rattle.patterns_refinement.proofs.Rewritten.{AllPut, all_unflagged}
 use Rattle.patterns_refinement.proofs.Settling.{typed_bits}
-use Rattle.patterns_refinement.proofs.Standing.{Stands, ValuesStand, standing_stands, stands_standing}
+use Rattle.patterns_refinement.proofs.BoundValues.{Stands, ValuesStand, standing_stands, stands_standing}
 use Rattle.patterns_refinement.proofs.StaysReady.{stays_kinds, stays_ready}
 use Rattle.patterns_refinement.proofs.Steps.{run_grows}
 use Rattle.patterns_refinement.proofs.Trees.{each_found, found_fit, types_found, value_below}
@@ -102,20 +102,20 @@ none_divided (w ∷ ws) e =
     one (new.Constant i t) e = refl
 
 module _ (m : Module) (p : PatternModel) (x : ℕ) (proper : IsProper p) (ready : IsReady m) (os : List Operation) (value : Value)
-    (plan : planned m.tree (is_verified m.tree) m.next p x ≡ Some (os, value)) (q : Here m p x proper ready os value plan) (kinded : is_kinded_at (map kind_standing q.types) p ≡ true) where
+    (plan : planned m.tree (is_verified m.tree) m.next p x ≡ Some (os, value)) (q : Here m p x proper ready os value plan) (kinded : is_kinded_at (map bound_type q.types) p ≡ true) where
   abbrev t : Operation
   t = m.tree
 
   abbrev ks : List BitsKind
-  ks = map kind_standing q.types
+  ks = map bound_type q.types
 
   abbrev its_kinds : List BitsKind
-  its_kinds = map (λ w. kind_at (map kind_standing q.types) (new_type w)) p.new
+  its_kinds = map (λ w. kind_at (map bound_type q.types) (new_type w)) p.new
 
   abbrev all_kinds : Value → Option BitsKind
-  all_kinds = with_all (kind_in m.tree) m.next None (map (λ k. Some k) (map (λ w. kind_at (map kind_standing q.types) (new_type w)) p.new))
+  all_kinds = with_all (kind_in m.tree) m.next None (map (λ k. Some k) (map (λ w. kind_at (map bound_type q.types) (new_type w)) p.new))
 
-  pub its_made : AllMade (with_all (kind_in m.tree) m.next None (map (λ k. Some k) (map (λ w. kind_at (map kind_standing q.types) (new_type w)) p.new))) os (map (λ w. kind_at (map kind_standing q.types) (new_type w)) p.new)
+  pub its_made : AllMade (with_all (kind_in m.tree) m.next None (map (λ k. Some k) (map (λ w. kind_at (map bound_type q.types) (new_type w)) p.new))) os (map (λ w. kind_at (map bound_type q.types) (new_type w)) p.new)
   its_made = are_made m p x proper ready os value plan q kinded
 
   abbrev New_place : ℕ → Type 0
@@ -164,20 +164,20 @@ module _ (m : Module) (p : PatternModel) (x : ℕ) (proper : IsProper p) (ready 
         let l = r.1 in
         and_from (is_there later v) (list_all (is_there later) vs) (fine_there j v r.0 (omega (arith, l, high)) s.0 d) (operands_there n js vs low high s.1 are.1 d)
 
-    one_fed : (n : ℕ) (w : NewValue) (o : Operation) → length p.values ≤ n → n ≤ new_place p + length p.new → IsBuilt q.types q.parts.env q.parts.last w o → new_stands p n w ≡ true → done x ≡ true → list_all (is_there later) (head o).operands ≡ true
+    one_fed : (n : ℕ) (w : NewValue) (o : Operation) → length p.values ≤ n → n ≤ new_place p + length p.new → IsBuilt q.types q.parts.env q.parts.last w o → new_is_valid p n w ≡ true → done x ≡ true → list_all (is_there later) (head o).operands ≡ true
     one_fed n (new.Operation r) o low high built st d =
         subst (λ (o : Operation). list_all (is_there later) (head o).operands ≡ true) built.4
-        (operands_there n (operands_of r.form) built.0 low high built.2 (form_places p (is_new p n) r.form (and_parts (is_type p r.ty) (form_stands p (is_new p n) r.form) st).1) d)
+        (operands_there n (operands_of r.form) built.0 low high built.2 (form_places p (is_new p n) r.form (and_parts (is_type p r.ty) (form_is_valid p (is_new p n) r.form) st).1) d)
     one_fed n (new.Constant i v) o low high built st d = subst (λ (o : Operation). list_all (is_there later) (head o).operands ≡ true) built.4 refl
 
-    all_fed_so : (y n : ℕ) (ws : List NewValue) (us : List Operation) → m.next ≤ y → length p.values ≤ n → n + length ws ≡ new_ends p → AreBuilt q.types q.parts.env q.parts.last ws us → news_stand p (new_ends p) ws ≡ true → AllPut (IsFed later) y us
+    all_fed_so : (y n : ℕ) (ws : List NewValue) (us : List Operation) → m.next ≤ y → length p.values ≤ n → n + length ws ≡ new_ends p → AreBuilt q.types q.parts.env q.parts.last ws us → news_are_valid p (new_ends p) ws ≡ true → AllPut (IsFed later) y us
     all_fed_so y n [] [] above low sum built st = tt
     all_fed_so y n [] (o ∷ us) above low sum built st = absurd built
     all_fed_so y n (w ∷ ws) [] above low sum built st = absurd built
     all_fed_so y n (w ∷ ws) (o ∷ us) above low sum built st =
-        let r = and_parts (new_stands p (new_ends p - length (w ∷ ws)) w) (news_stand p (new_ends p) ws) st in
+        let r = and_parts (new_is_valid p (new_ends p - length (w ∷ ws)) w) (news_are_valid p (new_ends p) ws) st in
         let at : new_ends p - length (w ∷ ws) ≡ n = omega (arith, sum) in (
-          (λ i. one_fed n w o low (omega (arith, sum)) built.0 (subst (λ z. new_stands p z w ≡ true) at r.0) (sym (after_new m.next x done y above) ∙ i)),
+          (λ i. one_fed n w o low (omega (arith, sum)) built.0 (subst (λ z. new_is_valid p z w ≡ true) at r.0) (sym (after_new m.next x done y above) ∙ i)),
           all_fed_so (y + 1) (n + 1) ws us (omega (arith, above)) (omega (arith, low)) (omega (arith, sum)) built.1 r.1,
         )
 
@@ -240,7 +240,7 @@ module _ (m : Module) (p : PatternModel) (x : ℕ) (proper : IsProper p) (ready 
 
     -- the outcomes at all places: those of the variables, and the planned numbers
     abbrev outcome_at : ℕ → Outcome
-    outcome_at j = if nat_lt j (length p.values) then given (standing j q.here) a else get_or q.parts.env j None
+    outcome_at j = if nat_lt j (length p.values) then given (binding_at j q.here) a else get_or q.parts.env j None
 
     abbrev places : List Outcome
     places = map outcome_at (range_with_len 0 (new_place p))
@@ -260,11 +260,11 @@ module _ (m : Module) (p : PatternModel) (x : ℕ) (proper : IsProper p) (ready 
         let w : j < new_place p = omega (arith, l, n) in
         (w, same_Some _ _ (sym (at_place j w) ∙ e))
 
-    at_variable : (j : ℕ) → j < length p.values → outcome_at j ≡ given (standing j q.here) a
-    at_variable j l = ap (λ b. if b then given (standing j q.here) a else get_or q.parts.env j None) (lt-ltb j (length p.values) l)
+    at_variable : (j : ℕ) → j < length p.values → outcome_at j ≡ given (binding_at j q.here) a
+    at_variable j l = ap (λ b. if b then given (binding_at j q.here) a else get_or q.parts.env j None) (lt-ltb j (length p.values) l)
 
     at_number : (j : ℕ) → length p.values ≤ j → outcome_at j ≡ get_or q.parts.env j None
-    at_number j l = ap (λ b. if b then given (standing j q.here) a else get_or q.parts.env j None) (le-ltb j (length p.values) l)
+    at_number j l = ap (λ b. if b then given (binding_at j q.here) a else get_or q.parts.env j None) (le-ltb j (length p.values) l)
 
     variable_is : (j : ℕ) (v : Value) → j < length p.values → Stands j v q.here → slice_get places j ≡ Some (a v)
     variable_is j v l s = at_place j (omega (arith, l)) ∙ ap (λ z. Some z) (at_variable j l ∙ ap (λ o. given o a) (stands_standing j v q.here s))
@@ -291,7 +291,7 @@ module _ (m : Module) (p : PatternModel) (x : ℕ) (proper : IsProper p) (ready 
         let w = place_is j (Some y) e in
         elim (cases_lt j (length p.values)) [
           | inl l ↦
-              let g = given_some (standing j q.here) a y (sym (at_variable j l) ∙ w.1) in
+              let g = given_some (binding_at j q.here) a y (sym (at_variable j l) ∙ w.1) in
               inl (record { its_value = g.0; within = l; stands = standing_stands j g.0 q.here g.1; is = g.2 })
           | inr l ↦ inr (number j y (sym (at_number j l) ∙ w.1))
         ]
@@ -302,7 +302,7 @@ module _ (m : Module) (p : PatternModel) (x : ℕ) (proper : IsProper p) (ready 
           | inr l ↦ absurd (none-some y (sym (get_or_past q.parts.env j None l) ∙ e))
         ]
 
-    places_of_kinds : OfKinds (kinds_matched (map kind_standing q.types) p) places
+    places_of_kinds : OfKinds (kinds_matched (map bound_type q.types) p) places
     places_of_kinds = record {
       long = kinds_long ks p ∙ sym places_long;
       are = λ j y e. elim (known_at_place j y e) [
@@ -401,7 +401,7 @@ module _ (m : Module) (p : PatternModel) (x : ℕ) (proper : IsProper p) (ready 
       variables = λ i v l s. (known_all passing d k i v (standing_stands i v q.here s)).known;
     }
 
-    module _ (passing : list_all pattern_op_passes p.old ≡ true) (defined : list_all new_is_defined p.new ≡ true) (keeps : AlwaysKeeps (content_with (map kind_standing q.types) p)) where
+    module _ (passing : list_all pattern_op_passes p.old ≡ true) (defined : list_all new_is_defined p.new ≡ true) (keeps : AlwaysKeeps (content_with (map bound_type q.types) p)) where
       goes_there : done x ≡ true → is_some (a (Result x 0)) ≡ true → Goes m.tree (is_verified m.tree) m.next p x a done os value
       unfolding is_found
       goes_there d k =
@@ -435,7 +435,7 @@ module _ (m : Module) (p : PatternModel) (x : ℕ) (proper : IsProper p) (ready 
           go false e = making_still e
 
 -- ---- put together
-module _ (accepted : OwnAreAccepted) (p : PatternModel) (proper : IsProper p) (m n : Module) (x : ℕ) (ready : IsReady m) (rewrites : own_rewrite p m x ≡ becomes n) where
+module _ (accepted : UserPatternsAreAccepted) (p : PatternModel) (proper : IsProper p) (m n : Module) (x : ℕ) (ready : IsReady m) (rewrites : user_pattern_rewrite p m x ≡ becomes n) where
   -- a pattern at an operation of a ready module
   pub record Site : Type 0 where
     pub applied : Applies p m n x
@@ -447,12 +447,12 @@ module _ (accepted : OwnAreAccepted) (p : PatternModel) (proper : IsProper p) (m
       let r = applies p m n x rewrites in
       record { applied = r; here = found_here m p x proper ready r.made r.value r.plan; free = accepted p m x ready.wellformed _ n r.edits r.becomes_it }
 
-  module _ (s : Site) (kinded : is_kinded_at (map kind_standing s.here.types) p ≡ true) where
+  module _ (s : Site) (kinded : is_kinded_at (map bound_type s.here.types) p ≡ true) where
     pub passing_ready : IsReady n
     passing_ready =
         let r = s.applied in
         let q = s.here in
-        let ks = map (λ w. kind_at (map kind_standing q.types) (new_type w)) p.new in
+        let ks = map (λ w. kind_at (map bound_type q.types) (new_type w)) p.new in
         let f = with_all (kind_in m.tree) m.next None (map (λ k. Some k) ks) in
         let are = are_made m p x proper ready r.made r.value r.plan q kinded in
         let at = all_at (kind_in m.tree) m.next None (map (λ k. Some k) ks) in
@@ -460,11 +460,11 @@ module _ (accepted : OwnAreAccepted) (p : PatternModel) (proper : IsProper p) (m
         (all_bare f r.made ks are) (record { results = all_results f m.next r.made ks are at; take = all_take f m.next r.made ks are }) (all_risen f m.next r.made ks are)
 
     -- the kinds of the module's values
-    pub passing_kinds : (v : Value) → has_value v n.tree ≡ true → kind_in n.tree v ≡ with_all (kind_in m.tree) m.next None (map (λ k. Some k) (map (λ w. kind_at (map kind_standing s.here.types) (new_type w)) p.new)) v
+    pub passing_kinds : (v : Value) → has_value v n.tree ≡ true → kind_in n.tree v ≡ with_all (kind_in m.tree) m.next None (map (λ k. Some k) (map (λ w. kind_at (map bound_type s.here.types) (new_type w)) p.new)) v
     passing_kinds v e =
         let r = s.applied in
         let q = s.here in
-        let ks = map (λ w. kind_at (map kind_standing q.types) (new_type w)) p.new in
+        let ks = map (λ w. kind_at (map bound_type q.types) (new_type w)) p.new in
         let f = with_all (kind_in m.tree) m.next None (map (λ k. Some k) ks) in
         let are = are_made m p x proper ready r.made r.value r.plan q kinded in
         let at = all_at (kind_in m.tree) m.next None (map (λ k. Some k) ks) in
@@ -477,13 +477,13 @@ module _ (accepted : OwnAreAccepted) (p : PatternModel) (proper : IsProper p) (m
         let r = s.applied in
         given_improves m n x a done r.insertion r.made r.value ready.wellformed (root_within m p x proper ready r.made r.value r.plan s.here kinded) s.here.computed computing passing_ready.kinded making s.free r.module_is
 
-    pub passing_computing : list_all pattern_op_passes p.old ≡ true → list_all new_is_defined p.new ≡ true → AlwaysKeeps (content_with (map kind_standing s.here.types) p) → (a : Assignment) (done : ℕ → Bool) → Computing a done m.tree → Improves a done m (done_after m.next x done) n.tree
+    pub passing_computing : list_all pattern_op_passes p.old ≡ true → list_all new_is_defined p.new ≡ true → AlwaysKeeps (content_with (map bound_type s.here.types) p) → (a : Assignment) (done : ℕ → Bool) → Computing a done m.tree → Improves a done m (done_after m.next x done) n.tree
     passing_computing passing defined keeps a done computing =
         let r = s.applied in
         making_improves a done computing (making m p x proper ready r.made r.value r.plan s.here kinded a done computing passing defined keeps)
 
 -- ---- the laws
-pub passing_keep : OwnAreAccepted → PassingKeep
+pub passing_keep : UserPatternsAreAccepted → PassingKeep
 passing_keep accepted p m n x passing proper ready e keeps =
     let t = and_parts (list_all pattern_op_passes p.old) (list_all new_is_defined p.new) passing in
     let s = site_of accepted p proper m n x ready e in
@@ -491,7 +491,7 @@ passing_keep accepted p m n x passing proper ready e keeps =
     let k = keeps at in
     (passing_ready accepted p proper m n x ready e s k.0, passing_computing accepted p proper m n x ready e s k.0 t.0 t.1 k.1)
 
-pub checked_passing_keep : OwnAreAccepted → CheckedPassingKeep
+pub checked_passing_keep : UserPatternsAreAccepted → CheckedPassingKeep
 checked_passing_keep accepted p m n x passing proper ready e most holds within =
     passing_keep accepted p m n x passing proper ready e
     (λ at. let w = within at in (w.0, subst AlwaysKeeps (sym w.1.2) (holds.0 w.1.0 w.1.1)))
@@ -500,7 +500,7 @@ checked_passing_keep accepted p m n x passing proper ready e most holds within =
 pub one_way : (p : PatternModel) (m : Module) (x : ℕ) (at other : FoundAt p m x) → kinds_there p m x at ≡ kinds_there p m x other
 one_way p m x at other =
     let here : at.here ≡ other.here = same_Some _ _ (sym at.is_matched ∙ other.is_matched) in
-    ap (map kind_standing) (same_Some _ _ (sym at.are_types ∙ ap (typed m.tree (is_verified m.tree) m.next p) here ∙ other.are_types))
+    ap (map bound_type) (same_Some _ _ (sym at.are_types ∙ ap (typed m.tree (is_verified m.tree) m.next p) here ∙ other.are_types))
 
 pub applied_is_found : AppliedIsFound
 applied_is_found p m n x e =

@@ -34,11 +34,11 @@ use Rattle.user_patterns_data.specs.declared.pattern.Expression.TheVariants as f
 use Rattle.user_patterns_data.specs.declared.pattern.NewValue.{NewValue}
 use Rattle.user_patterns_data.specs.declared.pattern.NewValue.TheVariants as new
 use Rattle.user_patterns_data.specs.Fitting.{form_step, kind_at, new_step}
-use Rattle.user_patterns_data.specs.Matching.{Header, Standing, bound, standing}
+use Rattle.user_patterns_data.specs.Matching.{Header, BoundValues, bound, binding_at}
 use Rattle.user_patterns_data.specs.Names.{cast_name, index_cast_name, name_of, operands_of, pair_name, predicate_of}
-use Rattle.user_patterns_data.specs.Planning.{all_made, entries_by, kind_standing, made_as, new_place, old_place, planned, values_at}
+use Rattle.user_patterns_data.specs.Planning.{all_made, entries_by, bound_type, made_as, new_place, old_place, planned, values_at}
 use Rattle.user_patterns_data.specs.Shapes.{PatternModel}
-use Rattle.user_patterns_data.specs.WellFormed.{form_stands, is_new, is_number, is_type, new_ends, new_stands, news_stand, old_begins}
+use Rattle.user_patterns_data.specs.WellFormed.{form_is_valid, is_new, is_number, is_type, new_ends, new_is_valid, news_are_valid, old_begins}
 use Rattle.user_patterns_build.specs.CanBuild.{has_name, is_named, new_type}
 use Rattle.patterns_refinement.proofs.Flags.{entries_unset}
 use Rattle.patterns_refinement.specs.Meaning.{Assignment, owner}
@@ -57,7 +57,7 @@ use Rattle.patterns_refinement.proofs.OfKinds.{IsKind, OfKinds, new_kind, push_k
 use Rattle.patterns_refinement.proofs.Olds.{AllAre, form_places}
 use Rattle.patterns_refinement.proofs.Pairs.{constant_made, flags_rise}
 use Rattle.patterns_refinement.proofs.Readied.{Rises}
-use Rattle.patterns_refinement.proofs.Standing.{Keeps, Stands, ValuesStand, all_stay, bound_elsewhere, bound_holds, one_stands}
+use Rattle.patterns_refinement.proofs.BoundValues.{Keeps, Stands, ValuesStand, all_stay, bound_elsewhere, bound_holds, one_stands}
 use Rattle.patterns_refinement.proofs.Steps.{push_other}
 use Rattle.patterns_refinement.proofs.Trees.{value_below}
 use Rattle.patterns_refinement.proofs.PassingMatched.{Here, numbers_of_bits, numbers_of_kinds}
@@ -155,11 +155,11 @@ form_made g f vs term k es n of width t same =
     by_rule r = takes_its r (Some k) (head (made (name_of f) vs term (entries_by (predicate_of f) (name_of f)))) (map g vs)
 
 -- ---- each new value is built from the bound values
-module _ (ts : Standing TypeTerm) (env : List Outcome) (d : Standing Value) where
+module _ (ts : BoundValues TypeTerm) (env : List Outcome) (d : BoundValues Value) where
   abbrev pub IsBuilt : NewValue → Operation → Type 0
   IsBuilt (new.Operation r) o =
-      (vs : List Value) × (term : TypeTerm) × ValuesStand (operands_of r.form) vs d × (standing r.ty ts ≡ Some term) × (made (name_of r.form) vs term (entries_by (predicate_of r.form) (name_of r.form)) ≡ o)
-  IsBuilt (new.Constant i v) o = (y : Known) × (term : TypeTerm) × (slice_get env i ≡ Some (Some y)) × (standing v ts ≡ Some term) × (constant term y.1 ≡ o)
+      (vs : List Value) × (term : TypeTerm) × ValuesStand (operands_of r.form) vs d × (binding_at r.ty ts ≡ Some term) × (made (name_of r.form) vs term (entries_by (predicate_of r.form) (name_of r.form)) ≡ o)
+  IsBuilt (new.Constant i v) o = (y : Known) × (term : TypeTerm) × (slice_get env i ≡ Some (Some y)) × (binding_at v ts ≡ Some term) × (constant term y.1 ≡ o)
 
   abbrev pub AreBuilt : List NewValue → List Operation → Type 0
   AreBuilt [] [] = Unit {0}
@@ -167,19 +167,19 @@ module _ (ts : Standing TypeTerm) (env : List Outcome) (d : Standing Value) wher
   AreBuilt (w ∷ ws) [] = ⊥
   AreBuilt (w ∷ ws) (o ∷ os) = IsBuilt w o × AreBuilt ws os
 
-  one_built : (w : NewValue) (b : Standing Value) (o : Operation) → Keeps b d → made_as b ts env w ≡ Some o → IsBuilt w o
+  one_built : (w : NewValue) (b : BoundValues Value) (o : Operation) → Keeps b d → made_as b ts env w ≡ Some o → IsBuilt w o
   one_built (new.Operation r) b o keep e =
-      let g = given_some (values_at (operands_of r.form) b) (λ vs. given (standing r.ty ts) (λ term. Some (made (name_of r.form) vs term (entries_by (predicate_of r.form) (name_of r.form))))) o e in
-      let l = given_some (standing r.ty ts) (λ term. Some (made (name_of r.form) g.0 term (entries_by (predicate_of r.form) (name_of r.form)))) o g.2 in
+      let g = given_some (values_at (operands_of r.form) b) (λ vs. given (binding_at r.ty ts) (λ term. Some (made (name_of r.form) vs term (entries_by (predicate_of r.form) (name_of r.form))))) o e in
+      let l = given_some (binding_at r.ty ts) (λ term. Some (made (name_of r.form) g.0 term (entries_by (predicate_of r.form) (name_of r.form)))) o g.2 in
       (g.0, l.0, all_stay same_value same_value_true (operands_of r.form) g.0 b d keep (values_stand (operands_of r.form) b g.0 g.1), l.1, same_Some _ _ l.2)
   one_built (new.Constant i v) b o keep e =
-      let g = given_some (given (slice_get env i) (λ x. x)) (λ (x : Known). given (standing v ts) (λ term. Some (constant term x.1))) o e in
+      let g = given_some (given (slice_get env i) (λ x. x)) (λ (x : Known). given (binding_at v ts) (λ term. Some (constant term x.1))) o e in
       let h = given_some (slice_get env i) (λ x. x) g.0 g.1 in
-      let l = given_some (standing v ts) (λ term. Some (constant term g.0.1)) o g.2 in
+      let l = given_some (binding_at v ts) (λ term. Some (constant term g.0.1)) o g.2 in
       (g.0, l.0, h.1 ∙ ap (λ z. Some z) h.2, l.1, same_Some _ _ l.2)
 
   -- one new operation at each place
-  pub record Builds (y k : ℕ) (ws : List NewValue) (b : Standing Value) (os : List Operation) : Type 0 where
+  pub record Builds (y k : ℕ) (ws : List NewValue) (b : BoundValues Value) (os : List Operation) : Type 0 where
     pub built : AreBuilt ws os
     pub keep : Keeps b d
     pub later : (i : ℕ) → i < length ws → Stands (k + i) (Result (y + i) 0) d
@@ -195,19 +195,19 @@ module _ (ts : Standing TypeTerm) (env : List Outcome) (d : Standing Value) wher
       let b : y + 1 + i ≡ y + suc i = omega arith in
       subst (λ z. Stands z (Result (y + suc i) 0) d) a (subst (λ z. Stands (k + 1 + i) (Result z 0) d) b (more i (omega (arith, l))))
 
-  pub all_builds : (y k : ℕ) (ws : List NewValue) (b : Standing Value) (os : List Operation) → all_made ts env y k ws b ≡ Some (os, d) → Builds y k ws b os
+  pub all_builds : (y k : ℕ) (ws : List NewValue) (b : BoundValues Value) (os : List Operation) → all_made ts env y k ws b ≡ Some (os, d) → Builds y k ws b os
   all_builds y k [] b os e =
       let s : ([], b) ≡ (os, d) = same_Some _ _ e in
-      let last : b ≡ d = ap (λ (r : List Operation × Standing Value). r.1) s in
+      let last : b ≡ d = ap (λ (r : List Operation × BoundValues Value). r.1) s in
       record {
-        built = subst (AreBuilt []) (ap (λ (r : List Operation × Standing Value). r.0) s) tt;
+        built = subst (AreBuilt []) (ap (λ (r : List Operation × BoundValues Value). r.0) s) tt;
         keep = λ j w h. subst (λ z. Stands j w z) last h;
         later = λ i l. absurd (none_less i l);
         before = λ j w l h. subst (λ z. Stands j w z) (sym last) h;
       }
   all_builds y k (w ∷ ws) b os e =
-      let g = given_some (made_as b ts env w) (λ o. given (bound same_value k (Result y 0) b) (λ c. option_map (λ (r : List Operation × Standing Value). (o ∷ r.0, r.1)) (all_made ts env (y + 1) (k + 1) ws c))) (os, d) e in
-      let h = given_some (bound same_value k (Result y 0) b) (λ c. option_map (λ (r : List Operation × Standing Value). (g.0 ∷ r.0, r.1)) (all_made ts env (y + 1) (k + 1) ws c)) (os, d) g.2 in
+      let g = given_some (made_as b ts env w) (λ o. given (bound same_value k (Result y 0) b) (λ c. option_map (λ (r : List Operation × BoundValues Value). (o ∷ r.0, r.1)) (all_made ts env (y + 1) (k + 1) ws c))) (os, d) e in
+      let h = given_some (bound same_value k (Result y 0) b) (λ c. option_map (λ (r : List Operation × BoundValues Value). (g.0 ∷ r.0, r.1)) (all_made ts env (y + 1) (k + 1) ws c)) (os, d) g.2 in
       let r = more_made g.0 (all_made ts env (y + 1) (k + 1) ws h.0) os d h.2 in
       let holds = bound_holds same_value same_value_true k (Result y 0) b h.0 h.1 in
       let ih = all_builds (y + 1) (k + 1) ws h.0 r.0 r.1 in
@@ -275,9 +275,9 @@ module _ (es : List BitsKind) (env : List Outcome) (of : OfKinds es env) where
 
 -- ---- the new operations of a plan
 module _ (m : Module) (p : PatternModel) (x : ℕ) (proper : IsProper p) (ready : IsReady m) (os : List Operation) (value : Value) (plan : planned m.tree (is_verified m.tree) m.next p x ≡ Some (os, value))
-    (q : Here m p x proper ready os value plan) (kinded : is_kinded_at (map kind_standing q.types) p ≡ true) where
+    (q : Here m p x proper ready os value plan) (kinded : is_kinded_at (map bound_type q.types) p ≡ true) where
   abbrev ks : List BitsKind
-  ks = map kind_standing q.types
+  ks = map bound_type q.types
 
   abbrev pub no_outcomes : Assignment
   no_outcomes v = None
@@ -286,17 +286,17 @@ module _ (m : Module) (p : PatternModel) (x : ℕ) (proper : IsProper p) (ready 
   IsPlace j = IsNewPlace q.types q.value_types p q.parts.env no_outcomes j
 
   abbrev its_kind : NewValue → BitsKind
-  its_kind w = kind_at (map kind_standing q.types) (new_type w)
+  its_kind w = kind_at (map bound_type q.types) (new_type w)
 
   -- the kinds of the new values, and of all places
   abbrev pub its_kinds : List BitsKind
-  its_kinds = map (λ w. kind_at (map kind_standing q.types) (new_type w)) p.new
+  its_kinds = map (λ w. kind_at (map bound_type q.types) (new_type w)) p.new
 
   abbrev whole : List BitsKind
-  whole = kinds_matched ks p ++ map (λ w. kind_at (map kind_standing q.types) (new_type w)) p.new
+  whole = kinds_matched ks p ++ map (λ w. kind_at (map bound_type q.types) (new_type w)) p.new
 
   abbrev pub all_kinds : Value → Option BitsKind
-  all_kinds = with_all (kind_in m.tree) m.next None (map (λ k. Some k) (map (λ w. kind_at (map kind_standing q.types) (new_type w)) p.new))
+  all_kinds = with_all (kind_in m.tree) m.next None (map (λ k. Some k) (map (λ w. kind_at (map bound_type q.types) (new_type w)) p.new))
 
   builds : Builds q.types q.parts.env q.parts.last m.next (new_place p) p.new q.here os
   builds = all_builds q.types q.parts.env q.parts.last m.next (new_place p) p.new q.here os q.parts.made
@@ -370,9 +370,9 @@ module _ (m : Module) (p : PatternModel) (x : ℕ) (proper : IsProper p) (ready 
         let more = operands_kinds js vs low high s.1 are.1 in
         (λ z. one z ∷ more z)
 
-    one_made : (w : NewValue) (o : Operation) → new_place p ≤ length es → length es ≤ new_place p + length p.new → IsBuilt q.types q.parts.env q.parts.last w o → is_named w ≡ true → new_stands p (length es) w ≡ true → new_takes ks es w ≡ true → MadeOne all_kinds o (its_kind w)
+    one_made : (w : NewValue) (o : Operation) → new_place p ≤ length es → length es ≤ new_place p + length p.new → IsBuilt q.types q.parts.env q.parts.last w o → is_named w ≡ true → new_is_valid p (length es) w ≡ true → new_takes ks es w ≡ true → MadeOne all_kinds o (its_kind w)
     one_made (new.Operation r) o low high built named st t =
-        let places = form_places p (is_new p (length es)) r.form (and_parts (is_type p r.ty) (form_stands p (is_new p (length es)) r.form) st).1 in
+        let places = form_places p (is_new p (length es)) r.form (and_parts (is_type p r.ty) (form_is_valid p (is_new p (length es)) r.form) st).1 in
         let test = and_parts (is_width (width_of (kind_at ks r.ty))) (form_takes es (kind_at ks r.ty) r.form) t in
         subst (λ o. MadeOne all_kinds o (kind_at ks r.ty)) built.4
         (form_made all_kinds r.form built.0 built.1 (kind_at ks r.ty) es named (kind_there q.types q.value_types p q.parts.env no_outcomes r.ty built.1 built.3) test.0 test.1
@@ -388,22 +388,22 @@ module _ (m : Module) (p : PatternModel) (x : ℕ) (proper : IsProper p) (ready 
         (constant_made all_kinds built.1 built.0.1 (kind_at ks v) (kind_there q.types q.value_types p q.parts.env no_outcomes v built.1 built.3)
         (subst (λ k. is_bits k built.0.1 ≡ true) is (numbers_of_bits m p x proper ready os value plan q i built.0 built.2)))
 
-  all_made_so : (ws : List NewValue) (us : List Operation) (es : List BitsKind) → AreBuilt q.types q.parts.env q.parts.last ws us → list_all is_named ws ≡ true → news_stand p (new_ends p) ws ≡ true → length es + length ws ≡ new_ends p → new_place p ≤ length es
+  all_made_so : (ws : List NewValue) (us : List Operation) (es : List BitsKind) → AreBuilt q.types q.parts.env q.parts.last ws us → list_all is_named ws ≡ true → news_are_valid p (new_ends p) ws ≡ true → length es + length ws ≡ new_ends p → new_place p ≤ length es
       → news_take ks es ws ≡ true → es ++ map its_kind ws ≡ whole → AllMade all_kinds us (map its_kind ws)
   all_made_so [] [] es built named st sum low t same = tt
   all_made_so [] (o ∷ us) es built named st sum low t same = absurd built
   all_made_so (w ∷ ws) [] es built named st sum low t same = absurd built
   all_made_so (w ∷ ws) (o ∷ us) es built named st sum low t same =
       let p1 = and_parts (is_named w) (list_all is_named ws) named in
-      let p2 = and_parts (new_stands p (new_ends p - length (w ∷ ws)) w) (news_stand p (new_ends p) ws) st in
+      let p2 = and_parts (new_is_valid p (new_ends p - length (w ∷ ws)) w) (news_are_valid p (new_ends p) ws) st in
       let p3 = and_parts (new_takes ks es w) (news_take ks (es ++ (its_kind w ∷ [])) ws) t in
       let at : new_ends p - length (w ∷ ws) ≡ length es = omega (arith, sum) in
       let l = length_push es (its_kind w) in (
-        one_made es (map its_kind (w ∷ ws)) same w o low (omega (arith, sum)) built.0 p1.0 (subst (λ z. new_stands p z w ≡ true) at p2.0) p3.0,
+        one_made es (map its_kind (w ∷ ws)) same w o low (omega (arith, sum)) built.0 p1.0 (subst (λ z. new_is_valid p z w ≡ true) at p2.0) p3.0,
         all_made_so ws us (es ++ (its_kind w ∷ [])) built.1 p1.1 p2.1 (omega (arith, sum, l)) (omega (arith, low, l)) p3.1 (append_assoc es (its_kind w ∷ []) (map its_kind ws) ∙ same),
       )
 
-  pub are_made : AllMade (with_all (kind_in m.tree) m.next None (map (λ k. Some k) (map (λ w. kind_at (map kind_standing q.types) (new_type w)) p.new))) os (map (λ w. kind_at (map kind_standing q.types) (new_type w)) p.new)
+  pub are_made : AllMade (with_all (kind_in m.tree) m.next None (map (λ k. Some k) (map (λ w. kind_at (map bound_type q.types) (new_type w)) p.new))) os (map (λ w. kind_at (map bound_type q.types) (new_type w)) p.new)
   are_made =
       let f = wellformed_parts p proper.wellformed in
       let k = made_parts p proper.buildable in
@@ -417,35 +417,35 @@ module _ (m : Module) (p : PatternModel) (x : ℕ) (proper : IsProper p) (ready 
   abbrev Numbered : List Outcome → Type 0
   Numbered env = HasNumbers q.types q.value_types p q.parts.env no_outcomes env
 
-  new_there : (w : NewValue) (o : Operation) (es : List BitsKind) (env : List Outcome) → OfKinds es env → Numbered env → length p.values ≤ length env → IsBuilt q.types q.parts.env q.parts.last w o → new_is_defined w ≡ true → new_stands p (length env) w ≡ true → new_takes ks es w ≡ true
+  new_there : (w : NewValue) (o : Operation) (es : List BitsKind) (env : List Outcome) → OfKinds es env → Numbered env → length p.values ≤ length env → IsBuilt q.types q.parts.env q.parts.last w o → new_is_defined w ≡ true → new_is_valid p (length env) w ≡ true → new_takes ks es w ≡ true
       → (z : Outcome) × (step_of (new_step ks w) env ≡ Some z)
   new_there (new.Operation r) o es env of numbers low built d st t =
-      let places = form_places p (is_new p (length env)) r.form (and_parts (is_type p r.ty) (form_stands p (is_new p (length env)) r.form) st).1 in
+      let places = form_places p (is_new p (length env)) r.form (and_parts (is_type p r.ty) (form_is_valid p (is_new p (length env)) r.form) st).1 in
       let test = and_parts (is_width (width_of (kind_at ks r.ty))) (form_takes es (kind_at ks r.ty) r.form) t in
       step_there es env of (kind_at ks r.ty) r.form d test.0 test.1 (all_below (length env) (operands_of r.form) low places)
   new_there (new.Constant i v) o es env of numbers low built d st t =
       (Some built.0, again_gives env i built.0 (numbers i built.0 (and_parts (is_type p v) (is_number p (old_begins p) i) st).1 built.2))
 
-  all_run : (ws : List NewValue) (us : List Operation) (es : List BitsKind) (env : List Outcome) → OfKinds es env → Numbered env → AreBuilt q.types q.parts.env q.parts.last ws us → list_all new_is_defined ws ≡ true → news_stand p (new_ends p) ws ≡ true
+  all_run : (ws : List NewValue) (us : List Operation) (es : List BitsKind) (env : List Outcome) → OfKinds es env → Numbered env → AreBuilt q.types q.parts.env q.parts.last ws us → list_all new_is_defined ws ≡ true → news_are_valid p (new_ends p) ws ≡ true
       → length es + length ws ≡ new_ends p → length p.values ≤ length es → news_take ks es ws ≡ true → (new : List Outcome) × (run (map (new_step ks) ws) env ≡ Some new)
   all_run [] [] es env of numbers built d st sum low t = (env, refl)
   all_run [] (o ∷ us) es env of numbers built d st sum low t = absurd built
   all_run (w ∷ ws) [] es env of numbers built d st sum low t = absurd built
   all_run (w ∷ ws) (o ∷ us) es env of numbers built d st sum low t =
       let p1 = and_parts (new_is_defined w) (list_all new_is_defined ws) d in
-      let p2 = and_parts (new_stands p (new_ends p - length (w ∷ ws)) w) (news_stand p (new_ends p) ws) st in
+      let p2 = and_parts (new_is_valid p (new_ends p - length (w ∷ ws)) w) (news_are_valid p (new_ends p) ws) st in
       let p3 = and_parts (new_takes ks es w) (news_take ks (es ++ (its_kind w ∷ [])) ws) t in
       let long = of.long in
       let at : new_ends p - length (w ∷ ws) ≡ length env = omega (arith, sum, long) in
       let l = length_push es (its_kind w) in
-      let z = new_there w o es env of numbers (omega (arith, low, long)) built.0 p1.0 (subst (λ z. new_stands p z w ≡ true) at p2.0) p3.0 in
+      let z = new_there w o es env of numbers (omega (arith, low, long)) built.0 p1.0 (subst (λ z. new_is_valid p z w ≡ true) at p2.0) p3.0 in
       let ih =
       all_run ws us (es ++ (its_kind w ∷ [])) (env ++ (z.0 ∷ [])) (push_kinds es env (its_kind w) z.0 of (new_kind es env of ks w z.0 (new_typed ks es w p3.0) z.1)) (λ i y e s. push_other env z.0 i (Some y) (numbers i y e s))
       built.1 p1.1 p2.1 (omega (arith, sum, l)) (omega (arith, low, l)) p3.1 in
       (ih.0, given_at (step_of (new_step ks w) env) z.0 (λ v. run (map (new_step ks) ws) (env ++ (v ∷ []))) (Some ih.0) z.1 ih.1)
 
-  pub run_there : list_all new_is_defined p.new ≡ true → (env : List Outcome) → OfKinds (kinds_matched (map kind_standing q.types) p) env → HasNumbers q.types q.value_types p q.parts.env (λ v. None) env
-      → (new : List Outcome) × (run (map (new_step (map kind_standing q.types)) p.new) env ≡ Some new)
+  pub run_there : list_all new_is_defined p.new ≡ true → (env : List Outcome) → OfKinds (kinds_matched (map bound_type q.types) p) env → HasNumbers q.types q.value_types p q.parts.env (λ v. None) env
+      → (new : List Outcome) × (run (map (new_step (map bound_type q.types)) p.new) env ≡ Some new)
   run_there d env of numbers =
       let f = wellformed_parts p proper.wellformed in
       all_run p.new os (kinds_matched ks p) env of numbers builds.built d f.news (omega (arith, kinds_long ks p)) (omega (arith, kinds_long ks p)) kinded

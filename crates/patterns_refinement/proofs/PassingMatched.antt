@@ -40,9 +40,9 @@ use Rattle.user_patterns_data.specs.declared.pattern.PatternType.{PatternType}
 use Rattle.user_patterns_data.specs.declared.pattern.PatternType.TheVariants as sort
 use Rattle.user_patterns_data.specs.declared.pattern.PatternOp.{PatternOp}
 use Rattle.user_patterns_data.specs.Fitting.{content_with, extra_step, kind_at, number_step}
-use Rattle.user_patterns_data.specs.Matching.{Header, Standing, all_bound, asks_alike, bound, defining_op_head, header_matched, known, nothing, op_matches, ops_match, placed, standing, type_at, types_at, value_matched, when, written}
+use Rattle.user_patterns_data.specs.Matching.{Header, BoundValues, all_bound, constraints_agree, bound, defining_op_head, header_matched, known, nothing, op_matches, ops_match, placed, binding_at, type_at, types_at, value_matched, when, written}
 use Rattle.user_patterns_data.specs.Names.{name_of, operands_of}
-use Rattle.user_patterns_data.specs.Planning.{kind_standing, known_at, old_place, outcomes, places, planned, planned_by, typed}
+use Rattle.user_patterns_data.specs.Planning.{bound_type, known_at, old_place, outcomes, places, planned, planned_by, typed}
 use Rattle.user_patterns_data.specs.Shapes.{PatternModel}
 use Rattle.user_patterns_build.specs.CanBuild.{has_name}
 use Rattle.user_patterns_apply.proofs.FoundBuilt.{all_from, bound_from, when_is}
@@ -59,7 +59,7 @@ use Rattle.patterns_refinement.proofs.OfBits.{AllOfBits, run_bits}
 use Rattle.patterns_refinement.proofs.OfKinds.{OfKinds, extras_run, numbers_run}
 use Rattle.patterns_refinement.proofs.Rooted.{hold_at, named_at}
 use Rattle.patterns_refinement.proofs.Ruled.{OfRule, known_kinds, rule_kinds}
-use Rattle.patterns_refinement.proofs.Standing.{AllHold, Stands, one_stands, standing_stands, stands_standing}
+use Rattle.patterns_refinement.proofs.BoundValues.{AllHold, Stands, one_stands, standing_stands, stands_standing}
 use Rattle.patterns_refinement.proofs.Verified.{HasKind, verified_has_kind}
 use Rattle.patterns_refinement.proofs.Trees.{each_found}
 use Rattle.patterns_refinement.specs.Observing.{is_computed}
@@ -79,15 +79,15 @@ any_forms [] = refl
 any_forms (o ∷ os) = any_forms os
 
 module _ (t : Operation) (verified : Header → Bool) (good : Expression → Bool) (Q : Value → Type 0) (passes : Passes t verified good Q) where
-  abbrev pub AllAre : Standing Value → Type 0
+  abbrev pub AllAre : BoundValues Value → Type 0
   AllAre b = (i : ℕ) (v : Value) → Stands i v b → Q v
 
-  pattern_op_all : (k : ℕ) (p : PatternOp) (b c : Standing Value) → good p.form ≡ true → has_name p.form ≡ true → op_matches t verified (k, p) b ≡ Some c → AllAre b → AllAre c
+  pattern_op_all : (k : ℕ) (p : PatternOp) (b c : BoundValues Value) → good p.form ≡ true → has_name p.form ≡ true → op_matches t verified (k, p) b ≡ Some c → AllAre b → AllAre c
   pattern_op_all k p b c s n e all i w at =
-      let u = given_some (standing k b) (λ v. value_matched t verified p v b) c e in
+      let u = given_some (binding_at k b) (λ v. value_matched t verified p v b) c e in
       let g = given_some (defining_op_head t verified u.0) (λ h. header_matched t verified p h b) c u.2 in
-      let f = when_is (named (name_of p.form) g.0.name && asks_alike t verified p g.0) (all_bound same_value (operands_of p.form) g.0.operands b) c g.2 in
-      let name = ap rule_of (named_is (name_of p.form) g.0.name (and_parts (named (name_of p.form) g.0.name) (asks_alike t verified p g.0) f.0).0) ∙ form_rule p.form n in
+      let f = when_is (named (name_of p.form) g.0.name && constraints_agree t verified p g.0) (all_bound same_value (operands_of p.form) g.0.operands b) c g.2 in
+      let name = ap rule_of (named_is (name_of p.form) g.0.name (and_parts (named (name_of p.form) g.0.name) (constraints_agree t verified p g.0) f.0).0) ∙ form_rule p.form n in
       elim (all_from same_value same_value_true (operands_of p.form) g.0.operands b c f.1 i w at) [
         | inl m ↦ all i w m
         | inr m ↦ passes p.form u.0 g.0 s g.1 name (all k u.0 (standing_stands k u.0 b u.1)) w m
@@ -108,7 +108,7 @@ module _ (t : Operation) (verified : Header → Bool) (good : Expression → Boo
       let r = and_parts (has_name p.form) (list_all (λ (o : PatternOp). has_name o.form) ps) n in
       pass_after (placed (k + 1) ps) (k, p) (pass_placed (k + 1) ps q.1 r.1) (q.0, r.0)
 
-  pattern_ops_all : (ps : List (ℕ × PatternOp)) (b c : Standing Value) → AllPass ps → ops_match t verified ps b ≡ Some c → AllAre b → AllAre c
+  pattern_ops_all : (ps : List (ℕ × PatternOp)) (b c : BoundValues Value) → AllPass ps → ops_match t verified ps b ≡ Some c → AllAre b → AllAre c
   pattern_ops_all [] b c s e all = subst AllAre (same_Some _ _ e) all
   pattern_ops_all (p ∷ ps) b c s e all =
       let g = given_some (op_matches t verified p b) (ops_match t verified ps) c e in
@@ -119,7 +119,7 @@ module _ (t : Operation) (verified : Header → Bool) (good : Expression → Boo
   none_stands (x ∷ xs) zero v e = none-some v (same_Some _ _ e)
   none_stands (x ∷ xs) (suc i) v e = none_stands xs i v e
 
-  pub matched_all : (p : PatternModel) (x : ℕ) (b : Standing Value) → list_all (λ (o : PatternOp). good o.form) p.old ≡ true → list_all (λ (o : PatternOp). has_name o.form) p.old ≡ true → matched t verified p x ≡ Some b → Q (Result x 0) → AllAre b
+  pub matched_all : (p : PatternModel) (x : ℕ) (b : BoundValues Value) → list_all (λ (o : PatternOp). good o.form) p.old ≡ true → list_all (λ (o : PatternOp). has_name o.form) p.old ≡ true → matched t verified p x ≡ Some b → Q (Result x 0) → AllAre b
   matched_all p x b s n e q =
       let g = given_some (bound same_value p.root (Result x 0) (nothing (places p))) (λ b. ops_match t verified (placed (old_place p) p.old) b) b e in
       pattern_ops_all (placed (old_place p) p.old) g.0 b (pass_placed (old_place p) p.old s n) g.2
@@ -209,14 +209,14 @@ written_kind (sort.Variable v ∷ value_types) (suc j) term s = written_kind val
 
 module _ (t : Operation) (verified : Header → Bool) (n : ℕ) (p : PatternModel) where
   -- a bound type is the type of a bound value, or was bound before
-  abbrev pub IsOfValue : Standing Value → TypeTerm → Type 0
+  abbrev pub IsOfValue : BoundValues Value → TypeTerm → Type 0
   IsOfValue b term = (i : ℕ) × (v : Value) × Stands i v b × (type_of_value v t ≡ Some term)
 
-  pub types_from : (k : ℕ) (tys : List ℕ) (b : Standing Value) (ts us : Standing TypeTerm) → types_at t verified k tys b ts ≡ Some us → (j : ℕ) (term : TypeTerm) → Stands j term us → Stands j term ts ⊎ IsOfValue b term
+  pub types_from : (k : ℕ) (tys : List ℕ) (b : BoundValues Value) (ts us : BoundValues TypeTerm) → types_at t verified k tys b ts ≡ Some us → (j : ℕ) (term : TypeTerm) → Stands j term us → Stands j term ts ⊎ IsOfValue b term
   types_from k [] b ts us r j term s = inl (subst (Stands j term) (sym (same_Some _ _ r)) s)
   types_from k (y ∷ tys) b ts us r j term s =
       let g = given_some (type_at t verified k y b ts) (types_at t verified (k + 1) tys b) us r in
-      let v = given_some (standing k b) (λ v. given (type_of_value v t) (λ term. bound same_type y term ts)) g.0 g.1 in
+      let v = given_some (binding_at k b) (λ v. given (type_of_value v t) (λ term. bound same_type y term ts)) g.0 g.1 in
       let w = given_some (type_of_value v.0 t) (λ term. bound same_type y term ts) g.0 v.2 in
       elim (types_from (k + 1) tys b g.0 us g.2 j term s) [
         | inl m ↦ elim (bound_from same_type type_is y w.0 ts g.0 w.2 j term m) [
@@ -226,10 +226,10 @@ module _ (t : Operation) (verified : Header → Bool) (n : ℕ) (p : PatternMode
         | inr m ↦ inr m
       ]
 
-  of_value : (b : Standing Value) → ((i : ℕ) (v : Value) → Stands i v b → is_some (kind_in t v) ≡ true) → (term : TypeTerm) → IsOfValue b term → is_some (kind_of term) ≡ true
+  of_value : (b : BoundValues Value) → ((i : ℕ) (v : Value) → Stands i v b → is_some (kind_in t v) ≡ true) → (term : TypeTerm) → IsOfValue b term → is_some (kind_of term) ≡ true
   of_value b value_types term h = ap (λ o. is_some (given o kind_of)) (sym h.3) ∙ value_types h.0 h.1 h.2
 
-  all_of_kinds : (b : Standing Value) (ts : Standing TypeTerm) → typed t verified n p b ≡ Some ts → ((i : ℕ) (v : Value) → Stands i v b → is_some (kind_in t v) ≡ true) → AreOfKinds ts
+  all_of_kinds : (b : BoundValues Value) (ts : BoundValues TypeTerm) → typed t verified n p b ≡ Some ts → ((i : ℕ) (v : Value) → Stands i v b → is_some (kind_in t v) ≡ true) → AreOfKinds ts
   all_of_kinds b ts e value_types j term s =
       let g = given_some (types_at t verified 0 p.values b (map written p.value_types)) (types_at t verified (old_place p) (map PatternOp.ty p.old) b) ts e in
       elim (types_from (old_place p) (map PatternOp.ty p.old) b g.0 ts g.2 j term (standing_stands j term ts s)) [
@@ -284,8 +284,8 @@ module _ (m : Module) (p : PatternModel) (x : ℕ) (proper : IsProper p) (ready 
   verified = is_verified m.tree
 
   -- the kinds of the variables, given the kinds of types
-  abbrev pub kinds_first : Standing TypeTerm → List BitsKind
-  kinds_first ts = map (kind_at (map kind_standing ts)) p.values
+  abbrev pub kinds_first : BoundValues TypeTerm → List BitsKind
+  kinds_first ts = map (kind_at (map bound_type ts)) p.values
 
   -- the type of a value has a kind
   pub record IsTypedAs (w : Value) (k : BitsKind) : Type 0 where
@@ -294,14 +294,14 @@ module _ (m : Module) (p : PatternModel) (x : ℕ) (proper : IsProper p) (ready 
     pub of : kind_of term ≡ Some k
 
   -- the type of the root
-  pub record Rooted (ts : Standing TypeTerm) : Type 0 where
+  pub record Rooted (ts : BoundValues TypeTerm) : Type 0 where
     pub ty : ℕ
     pub at : slice_get (map PatternOp.ty p.old) (p.root - old_place p) ≡ Some ty
-    pub width : is_width (width_of (kind_at (map kind_standing ts) ty)) ≡ true
+    pub width : is_width (width_of (kind_at (map bound_type ts) ty)) ≡ true
 
   pub record Here : Type 0 where
-    pub here : Standing Value
-    pub types : Standing TypeTerm
+    pub here : BoundValues Value
+    pub types : BoundValues TypeTerm
     pub is_matched : matched m.tree (is_verified m.tree) p x ≡ Some here
     pub are_types : typed m.tree (is_verified m.tree) m.next p here ≡ Some types
     pub parts : IsPlanned m.tree (is_verified m.tree) m.next p here types made value
@@ -313,7 +313,7 @@ module _ (m : Module) (p : PatternModel) (x : ℕ) (proper : IsProper p) (ready 
     pub variables : (i : ℕ) (w : Value) → i < length p.values → Stands i w here → IsTypedAs w (kind_at (kinds_first types) i)
 
   -- the defining operation of a matched value
-  record Matched (b : Standing Value) (ts : Standing TypeTerm) (i : ℕ) : Type 0 where
+  record Matched (b : BoundValues Value) (ts : BoundValues TypeTerm) (i : ℕ) : Type 0 where
     pub ty : ℕ
     pub at : slice_get (map PatternOp.ty p.old) i ≡ Some ty
     pub its_value : Value
@@ -326,7 +326,7 @@ module _ (m : Module) (p : PatternModel) (x : ℕ) (proper : IsProper p) (ready 
     pub width : is_width (width_of kind) ≡ true
     pub computed : is_computed m.tree its_value ≡ true
 
-  matched_at : (b : Standing Value) (ts : Standing TypeTerm) (i : ℕ) → AllHold t verified (old_place p) p.old b → AreTyped t verified m.next p b ts → i < length p.old → Matched b ts i
+  matched_at : (b : BoundValues Value) (ts : BoundValues TypeTerm) (i : ℕ) → AllHold t verified (old_place p) p.old b → AreTyped t verified m.next p b ts → i < length p.old → Matched b ts i
   matched_at b ts i holds are l =
       let a = typed_at t verified (old_place p) (map PatternOp.ty p.old) b ts are.pattern_ops i (omega (arith, l, length-map p.old PatternOp.ty)) in
       let h = hold_at t verified (old_place p) p.old b holds i l in
@@ -348,10 +348,10 @@ module _ (m : Module) (p : PatternModel) (x : ℕ) (proper : IsProper p) (ready 
         computed = let g = defining_op_of m.tree (is_verified m.tree) v.value v.header v.gives in ap (is_computed m.tree) g.value ∙ ap is_arithmetic_there g.found ∙ ap is_arithmetic g.heads ∙ k.arithmetic;
       }
 
-  root_at : (b : Standing Value) (ts : Standing TypeTerm) → Matched b ts (p.root - old_place p) → Rooted ts
+  root_at : (b : BoundValues Value) (ts : BoundValues TypeTerm) → Matched b ts (p.root - old_place p) → Rooted ts
   root_at b ts w = record { ty = w.ty; at = w.at; width = ap (λ k. is_width (width_of k)) (kind_is ts w.ty w.term w.kind w.type_stands w.of) ∙ w.width }
 
-  root_kind : (b : Standing Value) (ts : Standing TypeTerm) (v : Value) (i : ℕ) → Matched b ts i → Stands (old_place p + i) v b → is_some (kind_in m.tree v) ≡ true
+  root_kind : (b : BoundValues Value) (ts : BoundValues TypeTerm) (v : Value) (i : ℕ) → Matched b ts i → Stands (old_place p + i) v b → is_some (kind_in m.tree v) ≡ true
   root_kind b ts v i w s =
       subst (λ v. is_some (kind_in t v) ≡ true) (one_stands (old_place p + i) w.its_value v b w.stands s) (ap (λ o. is_some (given o kind_of)) w.of_value ∙ ap is_some w.of)
 
@@ -361,14 +361,14 @@ module _ (m : Module) (p : PatternModel) (x : ℕ) (proper : IsProper p) (ready 
       let k = defining_op_kinds m ready v h e f r in
       each_mapped (kind_in t) is_some h.operands (operands_of_kinds h k.kind f (map (kind_in t) h.operands) k.operands) w i
 
-  variables_typed : (b : Standing Value) (ts : Standing TypeTerm) → AreTyped t verified m.next p b ts → AreOfKinds ts → (i : ℕ) (w : Value) → i < length p.values → Stands i w b → IsTypedAs w (kind_at (kinds_first ts) i)
+  variables_typed : (b : BoundValues Value) (ts : BoundValues TypeTerm) → AreTyped t verified m.next p b ts → AreOfKinds ts → (i : ℕ) (w : Value) → i < length p.values → Stands i w b → IsTypedAs w (kind_at (kinds_first ts) i)
   variables_typed b ts are value_types i w l s =
       let a = typed_at t verified 0 p.values b ts are.variables i l in
       let q = a.2 in
       let same : q.value ≡ w = one_stands i q.value w b (subst (λ z. Stands z q.value b) (no_more i) q.stands) s in
       let k = some_there (kind_of q.term) (value_types a.0 q.term (stands_standing a.0 q.term ts q.type_stands)) in
       let at : kind_at (kinds_first ts) i ≡ k.0 =
-      get_or_from_slice_get (kinds_first ts) i (kind_at (map kind_standing ts) a.0) (kind.Int 0) (slice_get-map (kind_at (map kind_standing ts)) p.values i ∙ ap (option_map (kind_at (map kind_standing ts))) a.1)
+      get_or_from_slice_get (kinds_first ts) i (kind_at (map bound_type ts) a.0) (kind.Int 0) (slice_get-map (kind_at (map bound_type ts)) p.values i ∙ ap (option_map (kind_at (map bound_type ts))) a.1)
       ∙ kind_is ts a.0 q.term k.0 q.type_stands k.1 in
       record { term = q.term; of_value = ap (λ w. type_of_value w t) (sym same) ∙ q.of_value; of = k.1 ∙ ap (λ k. Some k) (sym at) }
     where
@@ -407,7 +407,7 @@ module _ (m : Module) (p : PatternModel) (x : ℕ) (proper : IsProper p) (ready 
   -- ---- the planned numbers
   module _ (q : Here) where
     abbrev ks : List BitsKind
-    ks = map kind_standing q.types
+    ks = map bound_type q.types
 
     abbrev nothing_known : Assignment
     nothing_known v = None
@@ -430,7 +430,7 @@ module _ (m : Module) (p : PatternModel) (x : ℕ) (proper : IsProper p) (ready 
         let within : i < length p.values = omega (arith, l, long) in
         let at = same_Some _ _ (sym (outcomes_at t verified nothing_known q.here q.types m.next p 0 p.values i within) ∙ e) in
         let k = one (list_any (eqb (0 + i)) p.constants) at in
-        let w = given_some (standing (0 + i) q.here) (known t verified) y k in
+        let w = given_some (binding_at (0 + i) q.here) (known t verified) y k in
         let stands = subst (λ z. Stands z w.0 q.here) (no_more i) (standing_stands (0 + i) w.0 q.here w.1) in
         let is = q.variables i w.0 within stands in
         let fits = constant_fits m ready w.0 y is.term (kind_at (kinds_first q.types) i) w.2 is.of_value is.of in
@@ -449,7 +449,7 @@ module _ (m : Module) (p : PatternModel) (x : ℕ) (proper : IsProper p) (ready 
       are = λ i y e. (starts i y e).of;
     }
 
-    pub numbers_of_kinds : OfKinds (kinds_given (map kind_standing q.types) p) q.parts.env
+    pub numbers_of_kinds : OfKinds (kinds_given (map bound_type q.types) p) q.parts.env
     numbers_of_kinds =
         let g = given_some (run (map (extra_step ks) p.extra) start) (run (map (number_step ks) p.given)) q.parts.env (sym (run_after (map (extra_step ks) p.extra) (map (number_step ks) p.given) start) ∙ q.parts.numbers) in
         numbers_run ks p.given (kinds_after (extra_kind ks) p.extra (map (kind_at ks) p.values)) g.0 q.parts.env (extras_run ks p.extra (map (kind_at ks) p.values) start g.0 started g.1) g.2

@@ -22,10 +22,10 @@ use Rattle.user_patterns_check.specs.Checks.{AlwaysKeeps}
 use Rattle.user_patterns_check.specs.Families.{AreWidths}
 use Rattle.user_patterns_check.specs.Outcomes.{log_of}
 use Rattle.user_patterns_data.specs.Fitting.{content_at, content_with, fits, kinds_with}
-use Rattle.user_patterns_data.specs.Matching.{Standing}
+use Rattle.user_patterns_data.specs.Matching.{BoundValues}
 use Rattle.user_patterns_data.specs.Planning.{planned}
 use Rattle.user_patterns_data.specs.Samples.{times_power}
-use Rattle.user_patterns_apply.specs.Own.{own_edits, own_rewrite}
+use Rattle.user_patterns_apply.specs.Own.{user_pattern_edits, user_pattern_rewrite}
 use Rattle.patterns_refinement.specs.Meaning.{IsOfType}
 use Rattle.patterns_refinement.specs.Better.{AreKinded}
 use Rattle.patterns_refinement.specs.Keeping.{Computing, IsReady}
@@ -79,10 +79,10 @@ computes = record {
 }
 
 -- ---- the pattern matches
-abbrev here : Standing Value
+abbrev here : BoundValues Value
 here = Some (Result 1 0) ∷ Some (Result 2 0) ∷ None ∷ Some (Result 3 0) ∷ None ∷ None ∷ []
 
-abbrev types : Standing TypeTerm
+abbrev types : BoundValues TypeTerm
 types = Some i2 ∷ []
 
 found : FoundAt times_power doubled 3
@@ -95,7 +95,7 @@ keeps_at at =
     subst (λ ks. (is_kinded_at ks times_power ≡ true) × AlwaysKeeps (content_with ks times_power)) (sym (one_way times_power doubled 3 at found)) (refl, keeps_all)
 
 pub sample_is_doubled : SampleIsDoubled
-unfolding planned log_of first_below own_edits own_rewrite looks.is_verified folds.fold_of folds.rule_of folds.rules words.operations words.is_inherent words.is_listed words.is_table words.is_isolated properties.is_allowed properties.is_of_kind properties.kind_of properties.kinds named.flagged registry.row_of rows.rows
+unfolding planned log_of first_below user_pattern_edits user_pattern_rewrite looks.is_verified folds.fold_of folds.rule_of folds.rules words.operations words.is_inherent words.is_listed words.is_table words.is_isolated properties.is_allowed properties.is_of_kind properties.kind_of properties.kinds named.flagged registry.row_of rows.rows
 sample_is_doubled = (ready, computes, refl, keeps_at)
 
 -- ---- the module is narrow

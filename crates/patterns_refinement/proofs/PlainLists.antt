@@ -21,11 +21,11 @@ use Rattle.patterns_base.specs.Rewrites.{becomes}
 use Rattle.patterns_base.specs.Rules.{OnlyListed, rules_for, table}
 use Rattle.patterns_base.proofs.Dispatch.{next_to_or}
 use Rattle.patterns_soundness.specs.Accepted.{AreAccepted}
-use Rattle.user_patterns_data.specs.Planning.{kind_standing}
+use Rattle.user_patterns_data.specs.Planning.{bound_type}
 use Rattle.user_patterns_data.specs.Shapes.{PatternModel}
 use Rattle.user_patterns_widths.specs.Lasting.{HoldsAtAllWidths, PolynomialsKeep}
-use Rattle.user_patterns_apply.specs.Own.{OwnAreAccepted, own_rewrite}
-use Rattle.greedy.specs.PatternSet.{RuleOrPatternModel, OfOwn, OfRule, attempted}
+use Rattle.user_patterns_apply.specs.Own.{UserPatternsAreAccepted, user_pattern_rewrite}
+use Rattle.greedy.specs.PatternSet.{RuleOrPatternModel, OfUserPattern, OfRule, rewrite_by_entry}
 use Rattle.patterns_refinement.specs.Applied.{IsProper}
 use Rattle.patterns_refinement.specs.Keeping.{IsReady}
 use Rattle.patterns_refinement.specs.Runs.{KeptAreKept}
@@ -83,22 +83,22 @@ made_plain insertion [] x v m p b s = all_plain (head m.tree) (give x v) m (tt, 
 made_plain insertion (o ∷ os) x v m p b s =
     made_plain insertion os x v (edited (Make insertion o) m) p.1 b.1 (all_put (λ h. is_plain h.name ≡ true) insertion m.next (o ∷ []) m.tree (p.0, tt) (b.0, tt) s)
 
-module _ (accepted : OwnAreAccepted) (p : PatternModel) (proper : IsProper p) (m n : Module) (x : ℕ) (ready : IsReady m) (rewrites : own_rewrite p m x ≡ becomes n) where
+module _ (accepted : UserPatternsAreAccepted) (p : PatternModel) (proper : IsProper p) (m n : Module) (x : ℕ) (ready : IsReady m) (rewrites : user_pattern_rewrite p m x ≡ becomes n) where
   abbrev its_site : Site accepted p proper m n x ready rewrites
   its_site = site_of accepted p proper m n x ready rewrites
 
   abbrev its_match : FoundAt p m x
   its_match = record { here = its_site.here.here; is_matched = its_site.here.is_matched; types = its_site.here.types; are_types = its_site.here.are_types }
 
-  own_plain : is_kinded_at (map kind_standing its_site.here.types) p ≡ true → IsPlain m → IsPlain n
+  own_plain : is_kinded_at (map bound_type its_site.here.types) p ≡ true → IsPlain m → IsPlain n
   own_plain kinded plain =
       let made = its_made m p x proper ready its_site.applied.made its_site.applied.value its_site.applied.plan its_site.here kinded in
       subst IsPlain its_site.applied.module_is
       (made_plain its_site.applied.insertion its_site.applied.made x its_site.applied.value m (all_named_plain _ its_site.applied.made _ made) (all_bare _ its_site.applied.made _ made) plain)
 
 -- ---- rules and patterns, and runs of them
-module _ (rewrites : AreAccepted) (accepted : OwnAreAccepted) (kept : KeptAreKept) (holding : HoldingKeep) (polynomials : PolynomialsKeep) (holds : HoldsAtAllWidths) (only : OnlyListed) where
-  proved_plain : (p : PatternModel) → HoldsForAllWidths p ⊎ HoldsForOutcomes p → (m n : Module) (x : ℕ) → IsReady m → IsInRange m → own_rewrite p m x ≡ becomes n → IsPlain m → IsPlain n
+module _ (rewrites : AreAccepted) (accepted : UserPatternsAreAccepted) (kept : KeptAreKept) (holding : HoldingKeep) (polynomials : PolynomialsKeep) (holds : HoldsAtAllWidths) (only : OnlyListed) where
+  proved_plain : (p : PatternModel) → HoldsForAllWidths p ⊎ HoldsForOutcomes p → (m n : Module) (x : ℕ) → IsReady m → IsInRange m → user_pattern_rewrite p m x ≡ becomes n → IsPlain m → IsPlain n
   proved_plain p (inl h) m n x ready range e plain =
       let u = holding_uniform polynomials holds p h.for_all_widths h.proper h.most h.some h.holds in
       own_plain accepted p h.proper m n x ready e (uniform_at accepted p u h.proper m n x ready e (its_match accepted p h.proper m n x ready e)).0 plain
@@ -109,16 +109,16 @@ module _ (rewrites : AreAccepted) (accepted : OwnAreAccepted) (kept : KeptAreKep
       let r = s.applied in
       own_plain accepted p proper m n x ready e (kinded_there p m x proper ready range r.made r.value r.plan s.here f.widths f.uses f.kinded) plain
 
-  step : (t : RuleOrPatternModel) → IsProvedOrCanonical t → (m n : Module) (x : ℕ) → IsPlain m × IsInRange m → IsReady m → attempted t m x ≡ becomes n → (IsPlain n × IsInRange n) × KeptAt m n x
+  step : (t : RuleOrPatternModel) → IsProvedOrCanonical t → (m n : Module) (x : ℕ) → IsPlain m × IsInRange m → IsReady m → rewrite_by_entry t m x ≡ becomes n → (IsPlain n × IsInRange n) × KeptAt m n x
   step (OfRule r) (inl i) m n x s ready e =
       let k = applied_keeps rewrites accepted kept holding polynomials holds (OfRule r) i m n x s.1 ready e in
       ((plain_after rewrites only m n x r (kept_fine r i) ready s.0 e, k.0), k.1)
   step (OfRule r) (inr i) m n x s ready e =
       let o = one_step rewrites only m n x r i ready s.0 e in
       ((o.0, kinds_step rewrites only (λ k. is_width (width_of k)) refl m n x r i ready s.0 s.1 e), o.1)
-  step (OfOwn p) h m n x s ready e =
+  step (OfUserPattern p) h m n x s ready e =
       let own = own_of p m n x e in
-      let k = applied_keeps rewrites accepted kept holding polynomials holds (OfOwn p) h m n x s.1 ready own in
+      let k = applied_keeps rewrites accepted kept holding polynomials holds (OfUserPattern p) h m n x s.1 ready own in
       ((proved_plain p h m n x ready s.1 own s.0, k.0), k.1)
 
   pub canon_lists_refine : CanonListsRefine

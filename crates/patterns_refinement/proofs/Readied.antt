@@ -19,7 +19,7 @@ use Rattle.ir_tree.specs.Uses.{same_value}
 use Rattle.ir_tree.specs.Meaning.{Operation, dictionaries_rise, key_before, rises}
 use Rattle.ir_tree.proofs.Replaced.{same_value_true}
 use Rattle.ir_tree_laws.specs.Members.{In}
-use Rattle.ir_tree_laws.specs.Stands.{StandOf, StepOf, ops_stands, region_stands, regions_stands, stands}
+use Rattle.ir_tree_laws.specs.Stands.{OpWithPathOf, StepOf, ops_stands, region_stands, regions_stands, stands}
 use Rattle.ir_tree_laws.specs.Values.{arguments_at, arguments_of, has_value, region_at, type_of_value}
 use Rattle.ir_tree_laws.proofs.Listed.{all_each, each_all, in_left, in_right}
 use Rattle.ir_tree_laws.proofs.Members.{stand_found}
@@ -40,8 +40,8 @@ use Rattle.patterns_refinement.proofs.Rewritten.{AllBare, AllPut, all_blocks, al
 use Rattle.patterns_refinement.proofs.Settling.{each_by_found}
 use Rattle.patterns_refinement.proofs.Trees.{ArgumentsAre, ResultsAre, each_found, typed_found, value_below}
 
-abbrev Stand : Type 0
-Stand = StandOf (List ℕ) TypeTerm AttrTerm
+abbrev OpWithPath : Type 0
+OpWithPath = OpWithPathOf (List ℕ) TypeTerm AttrTerm
 
 abbrev Step : Type 0
 Step = StepOf (List ℕ) TypeTerm AttrTerm
@@ -77,8 +77,8 @@ module _ (Q : ℕ → ℕ → List TypeTerm → Type 0) where
   abbrev OwnBlocks : ℕ → ℕ → RegionsOf (List ℕ) TypeTerm AttrTerm → Type 0
   OwnBlocks y r rs = (j : ℕ) (args : List TypeTerm) (os : OpsOf (List ℕ) TypeTerm AttrTerm) → region_at j rs ≡ Some (block args os) → Q y (r + j) args
 
-  abbrev AllOwn : List Stand → Type 0
-  AllOwn ss = (s : Stand) → In s ss → OwnBlocks (head s.here).id 0 (regions s.here)
+  abbrev AllOwn : List OpWithPath → Type 0
+  AllOwn ss = (s : OpWithPath) → In s ss → OwnBlocks (head s.here).id 0 (regions s.here)
 
   mutual
     blocks_stand : (path : List Step) (t : Operation) → AllOwn (stands path t) → EachBlock Q t

@@ -37,7 +37,7 @@ use Rattle.patterns_refinement.specs.Canonical.{IsPlain}
 use Rattle.patterns_refinement.specs.Keeping.{Computing}
 use Rattle.patterns_refinement.specs.ObservingSamples.{i8, function_of, module_of, returning, storing, summing}
 use Rattle.patterns_refinement.specs.Refining.{ObservationsRefine, observed, Refined, lasting, observation}
-use Rattle.patterns_refinement.specs.RefiningSamples.{SampleIsRefined, after, before, canonical, ending_seen, five, functions_seen, memory, SamplesArentRefined}
+use Rattle.patterns_refinement.specs.RefiningSamples.{SampleIsRefined, after, before, canonical, ending_observed, five, functions_observed, memory, SamplesArentRefined}
 use Rattle.patterns_refinement.specs.Samples.{all_done}
 use Rattle.patterns_refinement.specs.Verified.{IsVerified, is_in_range, is_within}
 
@@ -135,17 +135,17 @@ unfolding canons.canonicalization_of canons.canonical_from canons.most_rewrites 
 canonicalizes = refl
 
 -- ---- observations
-seen_before : observed five all_done before.tree ≡ functions_seen (ending_seen (record { value = None; outcome = Some (kind.Int 8, 5) }))
+observed_before : observed five all_done before.tree ≡ functions_observed (ending_observed (record { value = None; outcome = Some (kind.Int 8, 5) }))
 unfolding folds.rule_of folds.rules registry.row_of rows.rows
-seen_before = refl
+observed_before = refl
 
-seen_after : observed five all_done after.tree ≡ functions_seen (ending_seen (record { value = Some (Arg 2 0 0); outcome = Some (kind.Int 8, 5) }))
+observed_after : observed five all_done after.tree ≡ functions_observed (ending_observed (record { value = Some (Arg 2 0 0); outcome = Some (kind.Int 8, 5) }))
 unfolding folds.rule_of folds.rules registry.row_of rows.rows
-seen_after = refl
+observed_after = refl
 
-seen_canonical : observed five all_done canonical.tree ≡ observed five all_done after.tree
+observed_canonical : observed five all_done canonical.tree ≡ observed five all_done after.tree
 unfolding folds.rule_of folds.rules registry.row_of rows.rows
-seen_canonical = refl
+observed_canonical = refl
 
 plain : IsPlain before
 unfolding rule_table.rules_for rule_table.table
@@ -156,7 +156,7 @@ unfolding folds.rule_of folds.rules registry.row_of rows.rows
 refined = (refl, tt, (refl, tt, (refl, (tt, refl, (refl, refl, tt)), (refl, (tt, refl, tt), (refl, (tt, refl, tt), tt)))))
 
 pub sample_is_refined : SampleIsRefined
-sample_is_refined = record { verified = verified; computing = computes; applies = applies; plain = plain; canonicalizes = canonicalizes; seen_canonical = seen_canonical; seen_before = seen_before; seen_after = seen_after; refined = refined }
+sample_is_refined = record { verified = verified; computing = computes; applies = applies; plain = plain; canonicalizes = canonicalizes; observed_canonical = observed_canonical; observed_before = observed_before; observed_after = observed_after; refined = refined }
 
 -- ---- modules that are no refinements
 abbrev AllDone : (ℕ → Bool) → List Header → Type 0

@@ -27,7 +27,7 @@ use Rattle.user_patterns_check.specs.Checks.{refines}
 use Rattle.user_patterns_check.proofs.Keeping.{value_refined}
 use Rattle.user_patterns_data.specs.declared.pattern.NewValue.{NewValue}
 use Rattle.user_patterns_data.specs.declared.pattern.NewValue.TheVariants as new
-use Rattle.user_patterns_data.specs.Matching.{Header, Standing, bound, standing}
+use Rattle.user_patterns_data.specs.Matching.{Header, BoundValues, bound, binding_at}
 use Rattle.user_patterns_data.specs.Names.{name_of, operands_of, predicate_of}
 use Rattle.user_patterns_data.specs.Planning.{all_made, entries_by, made_as, values_at}
 use Rattle.ir_tree.proofs.Replaced.{same_value_true}
@@ -62,40 +62,40 @@ abbrev pub AllBare : List Operation → Type 0
 AllBare [] = Unit {0}
 AllBare (o ∷ os) = (regions o ≡ no_regions) × AllBare os
 
-module _ (ts : Standing TypeTerm) (env : List Outcome) where
-  one_bare : (w : NewValue) (b : Standing Value) (o : Operation) → made_as b ts env w ≡ Some o → regions o ≡ no_regions
+module _ (ts : BoundValues TypeTerm) (env : List Outcome) where
+  one_bare : (w : NewValue) (b : BoundValues Value) (o : Operation) → made_as b ts env w ≡ Some o → regions o ≡ no_regions
   one_bare (new.Operation p) b o e =
-      let g = given_some (values_at (operands_of p.form) b) (λ vs. given (standing p.ty ts) (λ term. Some (made (name_of p.form) vs term (entries_by (predicate_of p.form) (name_of p.form))))) o e in
-      let l = given_some (standing p.ty ts) (λ term. Some (made (name_of p.form) g.0 term (entries_by (predicate_of p.form) (name_of p.form)))) o g.2 in
+      let g = given_some (values_at (operands_of p.form) b) (λ vs. given (binding_at p.ty ts) (λ term. Some (made (name_of p.form) vs term (entries_by (predicate_of p.form) (name_of p.form))))) o e in
+      let l = given_some (binding_at p.ty ts) (λ term. Some (made (name_of p.form) g.0 term (entries_by (predicate_of p.form) (name_of p.form)))) o g.2 in
       ap (λ (o : Operation). regions o) (sym (same_Some _ _ l.2))
   one_bare (new.Constant i t) b o e =
-      let g = given_some (given (slice_get env i) (λ x. x)) (λ (x : Known). given (standing t ts) (λ term. Some (constant term x.1))) o e in
-      let l = given_some (standing t ts) (λ term. Some (constant term g.0.1)) o g.2 in
+      let g = given_some (given (slice_get env i) (λ x. x)) (λ (x : Known). given (binding_at t ts) (λ term. Some (constant term x.1))) o e in
+      let l = given_some (binding_at t ts) (λ term. Some (constant term g.0.1)) o g.2 in
       ap (λ (o : Operation). regions o) (sym (same_Some _ _ l.2))
 
-  pub all_bare : (n k : ℕ) (ws : List NewValue) (b d : Standing Value) (os : List Operation) → all_made ts env n k ws b ≡ Some (os, d) → AllBare os
-  all_bare n k [] b d os e = let s : ([], b) ≡ (os, d) = same_Some _ _ e in subst AllBare (ap (λ (r : List Operation × Standing Value). r.0) s) tt
+  pub all_bare : (n k : ℕ) (ws : List NewValue) (b d : BoundValues Value) (os : List Operation) → all_made ts env n k ws b ≡ Some (os, d) → AllBare os
+  all_bare n k [] b d os e = let s : ([], b) ≡ (os, d) = same_Some _ _ e in subst AllBare (ap (λ (r : List Operation × BoundValues Value). r.0) s) tt
   all_bare n k (w ∷ ws) b d os e =
-      let g = given_some (made_as b ts env w) (λ o. given (bound same_value k (Result n 0) b) (λ c. option_map (λ (r : List Operation × Standing Value). (o ∷ r.0, r.1)) (all_made ts env (n + 1) (k + 1) ws c))) (os, d) e in
-      let h = given_some (bound same_value k (Result n 0) b) (λ c. option_map (λ (r : List Operation × Standing Value). (g.0 ∷ r.0, r.1)) (all_made ts env (n + 1) (k + 1) ws c)) (os, d) g.2 in
+      let g = given_some (made_as b ts env w) (λ o. given (bound same_value k (Result n 0) b) (λ c. option_map (λ (r : List Operation × BoundValues Value). (o ∷ r.0, r.1)) (all_made ts env (n + 1) (k + 1) ws c))) (os, d) e in
+      let h = given_some (bound same_value k (Result n 0) b) (λ c. option_map (λ (r : List Operation × BoundValues Value). (g.0 ∷ r.0, r.1)) (all_made ts env (n + 1) (k + 1) ws c)) (os, d) g.2 in
       let m = more_made g.0 (all_made ts env (n + 1) (k + 1) ws h.0) os d h.2 in
       subst AllBare m.2 (one_bare w b g.0 g.1, all_bare (n + 1) (k + 1) ws h.0 d m.0 m.1)
 
-  one_unflagged : (w : NewValue) (b : Standing Value) (o : Operation) → made_as b ts env w ≡ Some o → has_flags (head o) ≡ false
+  one_unflagged : (w : NewValue) (b : BoundValues Value) (o : Operation) → made_as b ts env w ≡ Some o → has_flags (head o) ≡ false
   one_unflagged (new.Operation p) b o e =
-      let g = given_some (values_at (operands_of p.form) b) (λ vs. given (standing p.ty ts) (λ term. Some (made (name_of p.form) vs term (entries_by (predicate_of p.form) (name_of p.form))))) o e in
-      let l = given_some (standing p.ty ts) (λ term. Some (made (name_of p.form) g.0 term (entries_by (predicate_of p.form) (name_of p.form)))) o g.2 in
+      let g = given_some (values_at (operands_of p.form) b) (λ vs. given (binding_at p.ty ts) (λ term. Some (made (name_of p.form) vs term (entries_by (predicate_of p.form) (name_of p.form))))) o e in
+      let l = given_some (binding_at p.ty ts) (λ term. Some (made (name_of p.form) g.0 term (entries_by (predicate_of p.form) (name_of p.form)))) o g.2 in
       subst (λ (o : Operation). has_flags (head o) ≡ false) (same_Some _ _ l.2) (entries_unset (predicate_of p.form) (name_of p.form))
   one_unflagged (new.Constant i t) b o e =
-      let g = given_some (given (slice_get env i) (λ x. x)) (λ (x : Known). given (standing t ts) (λ term. Some (constant term x.1))) o e in
-      let l = given_some (standing t ts) (λ term. Some (constant term g.0.1)) o g.2 in
+      let g = given_some (given (slice_get env i) (λ x. x)) (λ (x : Known). given (binding_at t ts) (λ term. Some (constant term x.1))) o e in
+      let l = given_some (binding_at t ts) (λ term. Some (constant term g.0.1)) o g.2 in
       subst (λ (o : Operation). has_flags (head o) ≡ false) (same_Some _ _ l.2) refl
 
-  pub all_unflagged : (n k : ℕ) (ws : List NewValue) (b d : Standing Value) (os : List Operation) → all_made ts env n k ws b ≡ Some (os, d) → AreUnflagged os
-  all_unflagged n k [] b d os e = let s : ([], b) ≡ (os, d) = same_Some _ _ e in subst AreUnflagged (ap (λ (r : List Operation × Standing Value). r.0) s) tt
+  pub all_unflagged : (n k : ℕ) (ws : List NewValue) (b d : BoundValues Value) (os : List Operation) → all_made ts env n k ws b ≡ Some (os, d) → AreUnflagged os
+  all_unflagged n k [] b d os e = let s : ([], b) ≡ (os, d) = same_Some _ _ e in subst AreUnflagged (ap (λ (r : List Operation × BoundValues Value). r.0) s) tt
   all_unflagged n k (w ∷ ws) b d os e =
-      let g = given_some (made_as b ts env w) (λ o. given (bound same_value k (Result n 0) b) (λ c. option_map (λ (r : List Operation × Standing Value). (o ∷ r.0, r.1)) (all_made ts env (n + 1) (k + 1) ws c))) (os, d) e in
-      let h = given_some (bound same_value k (Result n 0) b) (λ c. option_map (λ (r : List Operation × Standing Value). (g.0 ∷ r.0, r.1)) (all_made ts env (n + 1) (k + 1) ws c)) (os, d) g.2 in
+      let g = given_some (made_as b ts env w) (λ o. given (bound same_value k (Result n 0) b) (λ c. option_map (λ (r : List Operation × BoundValues Value). (o ∷ r.0, r.1)) (all_made ts env (n + 1) (k + 1) ws c))) (os, d) e in
+      let h = given_some (bound same_value k (Result n 0) b) (λ c. option_map (λ (r : List Operation × BoundValues Value). (g.0 ∷ r.0, r.1)) (all_made ts env (n + 1) (k + 1) ws c)) (os, d) g.2 in
       let m = more_made g.0 (all_made ts env (n + 1) (k + 1) ws h.0) os d h.2 in
       subst AreUnflagged m.2 (one_unflagged w b g.0 g.1, all_unflagged (n + 1) (k + 1) ws h.0 d m.0 m.1)
 

@@ -13,7 +13,7 @@ use Rattle.dialects_int.specs.Folds.{kind_of, rule_of}
 use Rattle.ir_types.specs.declared.bits.BitsKind.{BitsKind}
 use Rattle.user_patterns_check.specs.Outcomes.{Outcome, given}
 use Rattle.user_patterns_data.specs.declared.pattern.PatternOp.{PatternOp}
-use Rattle.user_patterns_data.specs.Matching.{Header, Standing}
+use Rattle.user_patterns_data.specs.Matching.{Header, BoundValues}
 use Rattle.user_patterns_data.specs.Names.{name_of}
 use Rattle.user_patterns_data.specs.Planning.{old_place}
 use Rattle.user_patterns_data.specs.Shapes.{PatternModel}
@@ -25,10 +25,10 @@ use Rattle.patterns_refinement.specs.Observing.{is_computed}
 use Rattle.patterns_refinement.proofs.Forms.{form_rule, defining_op_of, defining_op_type, named_is}
 use Rattle.patterns_refinement.proofs.Going.{wellformed_parts, made_parts, matched_parts, typed_at, typed_parts}
 use Rattle.patterns_refinement.proofs.Rewritten.{AllPut}
-use Rattle.patterns_refinement.proofs.Standing.{AllHold, Holds, Stands, one_stands, stands_standing}
+use Rattle.patterns_refinement.proofs.BoundValues.{AllHold, Holds, Stands, one_stands, stands_standing}
 
 -- a property of each pattern op is a property of one
-pub hold_at : (t : Operation) (verified : Header → Bool) (k : ℕ) (ps : List PatternOp) (b : Standing _) → AllHold t verified k ps b → (i : ℕ) → i < length ps → (q : PatternOp) × (slice_get ps i ≡ Some q) × Holds t verified (k + i) q b
+pub hold_at : (t : Operation) (verified : Header → Bool) (k : ℕ) (ps : List PatternOp) (b : BoundValues _) → AllHold t verified k ps b → (i : ℕ) → i < length ps → (q : PatternOp) × (slice_get ps i ≡ Some q) × Holds t verified (k + i) q b
 hold_at t verified k [] b h i l = absurd (omega (arith, l))
 hold_at t verified k (q ∷ ps) b h zero l = (q, refl, subst (λ z. Holds t verified z q b) (same k) h.0)
   where

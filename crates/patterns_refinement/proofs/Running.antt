@@ -10,8 +10,8 @@ use Rattle.patterns_base.specs.declared.rule.Rule.{Rule}
 use Rattle.patterns_base.specs.Makes.{give}
 use Rattle.patterns_base.specs.Rewrites.{Rewrite, becomes, none, rewrite_of}
 use Rattle.user_patterns_data.specs.Shapes.{PatternModel}
-use Rattle.user_patterns_apply.specs.Own.{own_rewrite}
-use Rattle.greedy.specs.PatternSet.{RuleOrPatternModel, OfOwn, OfRule, attempted}
+use Rattle.user_patterns_apply.specs.Own.{user_pattern_rewrite}
+use Rattle.greedy.specs.PatternSet.{RuleOrPatternModel, OfUserPattern, OfRule, rewrite_by_entry}
 use Rattle.patterns_refinement.specs.Keeping.{IsReady, done_after}
 use Rattle.patterns_refinement.specs.Runs.{ComputesThrough, Leads, RunsKeep}
 use Rattle.patterns_refinement.specs.RuleListRuns.{KeptThrough, LeadsBy}
@@ -51,20 +51,20 @@ where_tried : (b : Bool) (r : Rewrite) (n : Module) → (if b then r else none) 
 where_tried true r n e = e
 where_tried false r n e = none_never n e
 
-pub own_of : (p : PatternModel) (m n : Module) (x : ℕ) → attempted (OfOwn p) m x ≡ becomes n → own_rewrite p m x ≡ becomes n
-own_of p m n x e = where_tried _ (own_rewrite p m x) n e
+pub own_of : (p : PatternModel) (m n : Module) (x : ℕ) → rewrite_by_entry (OfUserPattern p) m x ≡ becomes n → user_pattern_rewrite p m x ≡ becomes n
+own_of p m n x e = where_tried _ (user_pattern_rewrite p m x) n e
 
-pub own_grows : (p : PatternModel) (m n : Module) (x : ℕ) → own_rewrite p m x ≡ becomes n → m.next ≤ n.next
+pub own_grows : (p : PatternModel) (m n : Module) (x : ℕ) → user_pattern_rewrite p m x ≡ becomes n → m.next ≤ n.next
 own_grows p m n x e =
     let q = applies p m n x e in
     subst (λ (n : Module). m.next ≤ n.next) q.module_is (all_grow (map (λ o. Make q.insertion o) q.made ++ give x q.value) m)
 
-attempt_grows : (t : RuleOrPatternModel) (m n : Module) (x : ℕ) → attempted t m x ≡ becomes n → m.next ≤ n.next
-attempt_grows (OfRule r) m n x e = rewrite_grows r m n x e
-attempt_grows (OfOwn p) m n x e = own_grows p m n x (own_of p m n x e)
+pattern_grows : (t : RuleOrPatternModel) (m n : Module) (x : ℕ) → rewrite_by_entry t m x ≡ becomes n → m.next ≤ n.next
+pattern_grows (OfRule r) m n x e = rewrite_grows r m n x e
+pattern_grows (OfUserPattern p) m n x e = own_grows p m n x (own_of p m n x e)
 
 -- ---- runs that keep an invariant of modules
-module _ (I : Module → Type 0) (ts : List RuleOrPatternModel) (keep : (t : RuleOrPatternModel) → In t ts → (m n : Module) (x : ℕ) → I m → IsReady m → attempted t m x ≡ becomes n → I n × KeptAt m n x) where
+module _ (I : Module → Type 0) (ts : List RuleOrPatternModel) (keep : (t : RuleOrPatternModel) → In t ts → (m n : Module) (x : ℕ) → I m → IsReady m → rewrite_by_entry t m x ≡ becomes n → I n × KeptAt m n x) where
   pub runs_under : (k : ℕ) (m n : Module) → I m → IsReady m → LeadsBy ts k m n → I n × KeptThrough m n
   runs_under zero m n i ready leads = (
     subst I leads i,
@@ -80,7 +80,7 @@ module _ (I : Module → Type 0) (ts : List RuleOrPatternModel) (keep : (t : Rul
       let p = leads.3 in
       let kept = keep t leads.1 m p x i ready leads.4 in
       let ih = runs_under k p n kept.0 kept.1.0 leads.5 in
-      let grows = attempt_grows t m p x leads.4 in
+      let grows = pattern_grows t m p x leads.4 in
       let more = ih.1.1 in (
         ih.0,
         (
@@ -121,7 +121,7 @@ of_rules (r ∷ rs) P f t (inr i) = of_rules rs P (λ s j. f s (inr j)) t i
 
 pub rules_under : (I : Module → Type 0) (rs : List Rule) → ((r : Rule) → In r rs → (m n : Module) (x : ℕ) → I m → IsReady m → rewrite_of r m x ≡ becomes n → I n × KeptAt m n x) → (k : ℕ) (m n : Module) → I m → IsReady m → Leads rs k m n → I n × KeptThrough m n
 rules_under I rs keep k m n i ready leads =
-    runs_under I (map OfRule rs) (of_rules rs (λ t. (m n : Module) (x : ℕ) → I m → IsReady m → attempted t m x ≡ becomes n → I n × KeptAt m n x) keep) k m n i ready (leads_as rs k m n leads)
+    runs_under I (map OfRule rs) (of_rules rs (λ t. (m n : Module) (x : ℕ) → I m → IsReady m → rewrite_by_entry t m x ≡ becomes n → I n × KeptAt m n x) keep) k m n i ready (leads_as rs k m n leads)
 
 pub runs_keep : RunsKeep
 runs_keep rs keep k m n ready leads =

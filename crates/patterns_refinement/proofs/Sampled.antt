@@ -18,7 +18,7 @@ use Rattle.patterns_laws.specs.Words as named
 use Rattle.user_patterns_check.specs.Checks.{keeps}
 use Rattle.user_patterns_check.specs.Outcomes.{log_of}
 use Rattle.user_patterns_data.specs.Fitting.{content_with}
-use Rattle.user_patterns_data.specs.Matching.{Standing, standing}
+use Rattle.user_patterns_data.specs.Matching.{BoundValues, binding_at}
 use Rattle.user_patterns_data.specs.Planning.{planned}
 use Rattle.user_patterns_data.specs.Samples.{times_power}
 use Rattle.patterns_refinement.specs.Meaning.{IsOfType}
@@ -26,13 +26,13 @@ use Rattle.patterns_refinement.specs.Applied.{AreOfKinds, Computes, IsFound}
 use Rattle.patterns_refinement.specs.Samples.{SampleIsKept, all_done, each, i2, outcomes, tree}
 
 -- ---- the match
-abbrev pub here : Standing Value
+abbrev pub here : BoundValues Value
 here = Some (Result 1 0) ∷ Some (Result 2 0) ∷ None ∷ Some (Result 3 0) ∷ None ∷ None ∷ []
 
-abbrev types : Standing TypeTerm
+abbrev types : BoundValues TypeTerm
 types = Some i2 ∷ []
 
-pub known_here : (i : ℕ) (v : Value) → standing i here ≡ Some v → is_some (outcomes v) ≡ true
+pub known_here : (i : ℕ) (v : Value) → binding_at i here ≡ Some v → is_some (outcomes v) ≡ true
 known_here zero v e = ap (λ v. is_some (outcomes v)) (sym (same_Some _ _ e))
 known_here (suc zero) v e = ap (λ v. is_some (outcomes v)) (sym (same_Some _ _ e))
 known_here (suc (suc zero)) v e = absurd (none-some v e)

@@ -19,7 +19,7 @@ use Rattle.ir_tree.specs.Meaning.{Operation}
 use Rattle.ir_tree.proofs.Replaced.{same_value_true}
 use Rattle.ir_tree_laws.specs.Members.{In}
 use Rattle.ir_tree_laws.specs.Reasons.{with_id}
-use Rattle.ir_tree_laws.specs.Stands.{StandOf, StepOf, ops_stands, region_stands, regions_stands, stands}
+use Rattle.ir_tree_laws.specs.Stands.{OpWithPathOf, StepOf, ops_stands, region_stands, regions_stands, stands}
 use Rattle.ir_tree_laws.specs.Values.{has_value}
 use Rattle.ir_tree_laws.proofs.Listed.{all_each, bool_cases, in_left, in_right}
 use Rattle.ir_tree_laws.proofs.Members.{stand_found}
@@ -48,16 +48,16 @@ Region = RegionOf (List ℕ) TypeTerm AttrTerm
 abbrev Ops : Type 0
 Ops = OpsOf (List ℕ) TypeTerm AttrTerm
 
-abbrev Stand : Type 0
-Stand = StandOf (List ℕ) TypeTerm AttrTerm
+abbrev OpWithPath : Type 0
+OpWithPath = OpWithPathOf (List ℕ) TypeTerm AttrTerm
 
 abbrev Step : Type 0
 Step = StepOf (List ℕ) TypeTerm AttrTerm
 
 -- ---- a property of all operations of the tree is a property of each operation with its subtree
 module _ (P : Operation → Type 0) where
-  abbrev OfAll : List Stand → Type 0
-  OfAll ss = (s : Stand) → In s ss → P s.here
+  abbrev OfAll : List OpWithPath → Type 0
+  OfAll ss = (s : OpWithPath) → In s ss → P s.here
 
   mutual
     whole_stands : (path : List Step) (t : Operation) → OfAll (stands path t) → EachWhole P t

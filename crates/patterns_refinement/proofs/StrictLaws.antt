@@ -21,7 +21,7 @@ use Rattle.user_patterns_widths.specs.Polynomials.{Polynomial}
 use Rattle.user_patterns_widths.specs.AllWidths.{Formal, first_type, form_is_bitwise, formal, formal_extras, formal_news, formal_numbers, formal_olds, formal_values, holds_at_all_widths, has_one_type, has_type, is_bit_by_bit, is_none_requested, is_one_polynomial, is_some_type, is_variable, is_variable_type, new_is_bitwise, number_is_bitwise, pattern_op_is_bitwise, extra_is_bitwise, sides_are_one}
 use Rattle.user_patterns_widths.specs.Lasting.{HoldsAtAllWidths, RefinesAtAllWidths, PolynomialsKeep}
 use Rattle.user_patterns_build.specs.CanBuild.{can_build, has_name}
-use Rattle.user_patterns_apply.specs.Own.{OwnAreAccepted}
+use Rattle.user_patterns_apply.specs.Own.{UserPatternsAreAccepted}
 use Rattle.patterns_refinement.specs.Applied.{IsProper, extra_kind, is_typed, kinds_after, kinds_given, kinds_matched}
 use Rattle.patterns_refinement.specs.Strict.{RegisteredKeep, HoldingKeep, StrictKeep, is_requested_of, is_strict, is_strict_at, is_strict_form, new_is_total, pattern_op_is_strict}
 use Rattle.patterns_refinement.proofs.Going.{wellformed_parts}
@@ -145,7 +145,7 @@ uniform_strict p e keeps = go (first_type p.old) e
         }
 
 -- ---- the laws
-pub strict_keep : OwnAreAccepted → StrictKeep
+pub strict_keep : UserPatternsAreAccepted → StrictKeep
 strict_keep accepted p e proper keeps = uniform_keeps accepted p (uniform_strict p e keeps) proper
 
 -- a pattern that a check found to hold, and whose sides are one polynomial or are computed bit by bit
@@ -156,7 +156,7 @@ holding_uniform polynomials holds p e proper most low right =
       | inr i ↦ uniform_bits p i proper (holds p e most low right)
     ]
 
-pub holding_keep : OwnAreAccepted → PolynomialsKeep → HoldsAtAllWidths → HoldingKeep
+pub holding_keep : UserPatternsAreAccepted → PolynomialsKeep → HoldsAtAllWidths → HoldingKeep
 holding_keep accepted polynomials holds p e proper most low right = uniform_keeps accepted p (holding_uniform polynomials holds p e proper most low right) proper
 
 -- ---- patterns of a registry: all matched operations have names
@@ -202,6 +202,6 @@ registered_proper polynomials p wellformed buildable e = record {
       ]);
 }
 
-pub registered_keep : OwnAreAccepted → PolynomialsKeep → HoldsAtAllWidths → RegisteredKeep
+pub registered_keep : UserPatternsAreAccepted → PolynomialsKeep → HoldsAtAllWidths → RegisteredKeep
 registered_keep accepted polynomials holds p wellformed buildable e most low right =
     holding_keep accepted polynomials holds p e (registered_proper polynomials p wellformed buildable e) most low right

@@ -14,7 +14,7 @@ use Rattle.op_registry.specs.Properties as properties
 use Rattle.dialects_int.specs.Folds as folds
 use Rattle.patterns_base.specs.Looks as looks
 use Rattle.user_patterns_data.specs.Planning.{planned}
-use Rattle.user_patterns_apply.specs.Own.{own_edits, own_rewrite}
+use Rattle.user_patterns_apply.specs.Own.{user_pattern_edits, user_pattern_rewrite}
 use Rattle.patterns_refinement.specs.Meaning.{IsOfType}
 use Rattle.patterns_refinement.specs.Better.{AreKinded}
 use Rattle.patterns_refinement.specs.Keeping.{Computing, IsReady}
@@ -68,5 +68,5 @@ computes = record {
 }
 
 pub sample_is_ready : SampleIsReady
-unfolding planned own_edits own_rewrite looks.is_verified folds.fold_of folds.rule_of folds.rules words.operations words.is_inherent words.is_listed words.is_table words.is_isolated properties.is_allowed properties.is_of_kind properties.kind_of properties.kinds registry.row_of rows.rows
+unfolding planned user_pattern_edits user_pattern_rewrite looks.is_verified folds.fold_of folds.rule_of folds.rules words.operations words.is_inherent words.is_listed words.is_table words.is_isolated properties.is_allowed properties.is_of_kind properties.kind_of properties.kinds registry.row_of rows.rows
 sample_is_ready = (ready, computes, refl)

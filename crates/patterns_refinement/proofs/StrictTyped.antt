@@ -26,7 +26,7 @@ use Rattle.user_patterns_data.specs.declared.pattern.NewValue.TheVariants as new
 use Rattle.user_patterns_data.specs.declared.pattern.PatternOp.{PatternOp}
 use Rattle.user_patterns_data.specs.Fitting.{kind_at}
 use Rattle.user_patterns_data.specs.Shapes.{PatternModel}
-use Rattle.user_patterns_data.specs.WellFormed.{form_stands, extra_stands, is_constant, is_new, is_number, is_type, is_variable, is_within, new_begins, new_stands, news_stand, number_stands, numbers_stand, old_begins}
+use Rattle.user_patterns_data.specs.WellFormed.{form_is_valid, extra_is_valid, is_constant, is_new, is_number, is_type, is_variable, is_within, new_begins, new_is_valid, news_are_valid, number_is_valid, numbers_are_valid, old_begins}
 use Rattle.user_patterns_build.specs.CanBuild.{new_type}
 use Rattle.user_patterns_widths.specs.Polynomials.{Polynomial, value_at}
 use Rattle.user_patterns_widths.specs.AllWidths.{Formal, form_is_bitwise, formal_at, formal_form, formal_extra, formal_extras, formal_new, formal_news, formal_next, formal_number, formal_numbers, formal_of, formal_olds, formal_pair, formal_values, extra_has, is_bitwise, new_has, new_is_bitwise, number_has, number_is_bitwise, pattern_op_has, pattern_op_is_bitwise}
@@ -34,7 +34,7 @@ use Rattle.patterns_refinement.specs.Applied.{form_fits, extra_kind, is_typed, k
 use Rattle.patterns_refinement.specs.Strict.{is_strict_form, is_total, is_total_form, new_is_total, pattern_op_is_strict}
 use Rattle.patterns_refinement.proofs.Monotone.{kinds_agree}
 use Rattle.patterns_refinement.proofs.Numbers.{within_parts}
-use Rattle.patterns_refinement.proofs.Standing.{standing_stands}
+use Rattle.patterns_refinement.proofs.BoundValues.{standing_stands}
 use Rattle.patterns_refinement.proofs.Steps.{push_below, push_last, push_past}
 
 -- the kind at a type's number
@@ -212,33 +212,33 @@ module _ (p : PatternModel) (ks : List BitsKind) (t : ℕ) (constants : list_all
     | inr c ↦ let b = within_parts (length p.values) end i c in h i (omega (arith, b.1, l))
   ]
 
-  pub extras_all : (fs : List ExtraConstant) (es : List BitsKind) → list_all (extra_has t) fs ≡ true → list_all (extra_stands p) fs ≡ true → length p.values ≤ length es → All es
+  pub extras_all : (fs : List ExtraConstant) (es : List BitsKind) → list_all (extra_has t) fs ≡ true → list_all (extra_is_valid p) fs ≡ true → length p.values ≤ length es → All es
       → All (kinds_after (extra_kind ks) fs es) × (length (kinds_after (extra_kind ks) fs es) ≡ length es + length fs)
   extras_all [] es e f low h = (h, omega arith)
   extras_all (f ∷ fs) es e st low h =
       let p1 = and_parts (extra_has t f) (list_all (extra_has t) fs) e in
-      let p2 = and_parts (extra_stands p f) (list_all (extra_stands p) fs) st in
+      let p2 = and_parts (extra_is_valid p f) (list_all (extra_is_valid p) fs) st in
       let l = length_push es (extra_kind ks es f) in
       let ih = extras_all fs (es ++ (extra_kind ks es f ∷ [])) p1.1 p2.1 (omega (arith, low, l)) (push_all es (extra_kind ks es f) h (one f p1.0 p2.0)) in
       let m = ih.1 in
       (ih.0, omega (arith, m, l))
     where
-      one : (f : ExtraConstant) → extra_has t f ≡ true → extra_stands p f ≡ true → extra_kind ks es f ≡ kind_at ks t
+      one : (f : ExtraConstant) → extra_has t f ≡ true → extra_is_valid p f ≡ true → extra_kind ks es f ≡ kind_at ks t
       one (extra.Literal l) e s = at_number ks t l.ty e
       one (extra.SameAs i) e s = let b = among p.constants constants i s in h i (omega (arith, b, low))
 
-  pub numbers_all : (end : ℕ) (ns : List ConstantExpression) (es : List BitsKind) → list_all (number_has t) ns ≡ true → list_all number_is_bitwise ns ≡ true → numbers_stand p end ns ≡ true → length es + length ns ≡ end → length p.values ≤ length es → All es
+  pub numbers_all : (end : ℕ) (ns : List ConstantExpression) (es : List BitsKind) → list_all (number_has t) ns ≡ true → list_all number_is_bitwise ns ≡ true → numbers_are_valid p end ns ≡ true → length es + length ns ≡ end → length p.values ≤ length es → All es
       → All (kinds_after (number_kind ks) ns es) × (length (kinds_after (number_kind ks) ns es) ≡ end)
   numbers_all end [] es e b st sum low h = (h, omega (arith, sum))
   numbers_all end (n ∷ ns) es e b st sum low h =
       let p1 = and_parts (number_has t n) (list_all (number_has t) ns) e in
       let p2 = and_parts (number_is_bitwise n) (list_all number_is_bitwise ns) b in
-      let p3 = and_parts (number_stands p (end - length (n ∷ ns)) n) (numbers_stand p end ns) st in
+      let p3 = and_parts (number_is_valid p (end - length (n ∷ ns)) n) (numbers_are_valid p end ns) st in
       let l = length_push es (number_kind ks es n) in
       numbers_all end ns (es ++ (number_kind ks es n ∷ [])) p1.1 p2.1 p3.1 (omega (arith, sum, l)) (omega (arith, low, l))
       (push_all es (number_kind ks es n) h (one n p1.0 p2.0 (end - length (n ∷ ns)) (omega (arith, sum)) p3.0))
     where
-      one : (n : ConstantExpression) → number_has t n ≡ true → number_is_bitwise n ≡ true → (k : ℕ) → k ≤ length es → number_stands p k n ≡ true → number_kind ks es n ≡ kind_at ks t
+      one : (n : ConstantExpression) → number_has t n ≡ true → number_is_bitwise n ≡ true → (k : ℕ) → k ≤ length es → number_is_valid p k n ≡ true → number_kind ks es n ≡ kind_at ks t
       one (number.Literal l) e b k m s = at_number ks t l.ty e
       one (number.Width u) e b k m s = absurd (true≢false (sym b))
       one (number.Binary o i j) e b k m s = number_there es k i h low m (and_parts (is_number p k i) (is_number p k j) s).0
@@ -280,13 +280,13 @@ module _ (p : PatternModel) (ks : List BitsKind) (t : ℕ) (constants : list_all
     | inr c ↦ let b = within_parts (new_begins p) k i c in h i (omega (arith, b.1, l))
   ]
 
-  pub news_all : (end : ℕ) (ws : List NewValue) (es : List BitsKind) → list_all (new_has t) ws ≡ true → list_all new_is_bitwise ws ≡ true → news_stand p end ws ≡ true → length es + length ws ≡ end → old_begins p ≤ length es → All es
+  pub news_all : (end : ℕ) (ws : List NewValue) (es : List BitsKind) → list_all (new_has t) ws ≡ true → list_all new_is_bitwise ws ≡ true → news_are_valid p end ws ≡ true → length es + length ws ≡ end → old_begins p ≤ length es → All es
       → (news_fit ks es ws ≡ true) × (list_all new_is_total ws ≡ true)
   news_all end [] es e b st sum low h = (refl, refl)
   news_all end (w ∷ ws) es e b st sum low h =
       let p1 = and_parts (new_has t w) (list_all (new_has t) ws) e in
       let p2 = and_parts (new_is_bitwise w) (list_all new_is_bitwise ws) b in
-      let p3 = and_parts (new_stands p (end - length (w ∷ ws)) w) (news_stand p end ws) st in
+      let p3 = and_parts (new_is_valid p (end - length (w ∷ ws)) w) (news_are_valid p end ws) st in
       let l = length_push es (kind_at ks (new_type w)) in
       let one = new_all w p1.0 p2.0 (end - length (w ∷ ws)) (omega (arith, sum)) p3.0 in
       let ih = news_all end ws (es ++ (kind_at ks (new_type w) ∷ [])) p1.1 p2.1 p3.1 (omega (arith, sum, l)) (omega (arith, low, l)) (push_all es (kind_at ks (new_type w)) h (type_one ks t w p1.0)) in
@@ -295,15 +295,15 @@ module _ (p : PatternModel) (ks : List BitsKind) (t : ℕ) (constants : list_all
       trailing : length p.values ≤ length es
       trailing = omega (arith, low)
 
-      form_all : (f : Expression) (k : BitsKind) → k ≡ kind_at ks t → form_is_bitwise f ≡ true → (j : ℕ) → j ≤ length es → form_stands p (is_new p j) f ≡ true → (form_fits es k f ≡ true) × (is_total_form f ≡ true)
+      form_all : (f : Expression) (k : BitsKind) → k ≡ kind_at ks t → form_is_bitwise f ≡ true → (j : ℕ) → j ≤ length es → form_is_valid p (is_new p j) f ≡ true → (form_fits es k f ≡ true) × (is_total_form f ≡ true)
       form_all (form.Binary o i l) k e b j m s = (kinds_agree (kind_at es i) k (kind_at ks t) (place_there es j i h trailing m (and_parts (is_new p j i) (is_new p j l) s).0) e, total_bits o b)
       form_all (form.Compare r i l) k e b j m s = absurd (true≢false (sym b))
       form_all (form.Select c i l) k e b j m s = absurd (true≢false (sym b))
       form_all (form.IntegerCast c i) k e b j m s = absurd (true≢false (sym b))
       form_all (form.IndexCast c i) k e b j m s = absurd (true≢false (sym b))
 
-      new_all : (w : NewValue) → new_has t w ≡ true → new_is_bitwise w ≡ true → (j : ℕ) → j ≤ length es → new_stands p j w ≡ true → (new_fits ks es w ≡ true) × (new_is_total w ≡ true)
-      new_all (new.Operation o) e b j m s = form_all o.form (kind_at ks o.ty) (at_number ks t o.ty e) b j m (and_parts (is_type p o.ty) (form_stands p (is_new p j) o.form) s).1
+      new_all : (w : NewValue) → new_has t w ≡ true → new_is_bitwise w ≡ true → (j : ℕ) → j ≤ length es → new_is_valid p j w ≡ true → (new_fits ks es w ≡ true) × (new_is_total w ≡ true)
+      new_all (new.Operation o) e b j m s = form_all o.form (kind_at ks o.ty) (at_number ks t o.ty e) b j m (and_parts (is_type p o.ty) (form_is_valid p (is_new p j) o.form) s).1
       new_all (new.Constant i u) e b j m s =
           (kinds_agree (kind_at es i) (kind_at ks u) (kind_at ks t) (number_there es (old_begins p) i h trailing low (and_parts (is_type p u) (is_number p (old_begins p) i) s).1) (at_number ks t u e), refl)
 

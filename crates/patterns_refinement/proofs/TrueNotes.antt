@@ -17,13 +17,13 @@ use Rattle.user_patterns_registry.specs.Changes.{Changes, ChangesTo, Defines, Is
 use Rattle.user_patterns_registry.specs.CheckResult.{default_most, is_small, requested_width, widest}
 use Rattle.user_patterns_registry.specs.declared.check_result.CheckSummary.{CheckSummary}
 use Rattle.user_patterns_registry.specs.declared.check_result.CheckSummary.TheVariants as summary
-use Rattle.user_patterns_registry.specs.Registry.{AreApart, ForgettingKeepsARegistry, IsReady, IsRegistry, Kept, NotingKeepsARegistry, RegistryModel, ReplacingKeepsARegistry, StaysARegistry, added, and_kept, defined, forgotten, found, headroom_for, is_named, kept_as, kept_of, noted, noted_one, shape_of, variables_of, with_said}
-use Rattle.greedy.specs.PatternSet.{RuleOrPatternModel, OfOwn, OfRule}
+use Rattle.user_patterns_registry.specs.Registry.{AreApart, ForgettingKeepsARegistry, IsReady, IsRegistry, Kept, NotingKeepsARegistry, RegistryModel, ReplacingKeepsARegistry, StaysARegistry, added, and_kept, defined, forgotten, found, headroom_for, is_named, kept_as, kept_of, noted, noted_one, model_of_parts, variables_of, with_said}
+use Rattle.greedy.specs.PatternSet.{RuleOrPatternModel, OfUserPattern, OfRule}
 use Rattle.patterns_refinement.specs.RuleListRuns.{HoldsForAllWidths}
 use Rattle.patterns_refinement.specs.ForOutcomes.{HoldsForOutcomes, ProvedApplyRefines, ProvedRewriteRefines, is_sound_form}
 use Rattle.patterns_refinement.specs.ForOutcomesSamples.{PoisonRefutes}
 use Rattle.patterns_refinement.specs.CanonLists.{CanonListsRefine, IsNotedOrCanonical, IsProvedOrCanonical, NotedCanonListsRefine}
-use Rattle.patterns_refinement.specs.Noted.{IsTrulyNoted, NotedApplyRefines, NotedAreProved, NotedRewriteRefines, NotesAreTrue, WrongIsNeverNoted, IsTried, is_covered}
+use Rattle.patterns_refinement.specs.Noted.{IsTrulyNoted, NotedApplyRefines, NotedAreProved, NotedRewriteRefines, NotesAreTrue, WrongIsNeverNoted, HasNoCounterexample, is_covered}
 use Rattle.patterns_refinement.proofs.StrictLaws.{registered_proper}
 
 -- ---- the patterns of a registry
@@ -59,8 +59,8 @@ record Fresh (b new : RegistryModel) : Type 0 where
 kept_unsaid : (p : parts.Pattern) (k : Kept) → kept_of p ≡ Ok k → k.said ≡ None
 unfolding kept_of
 kept_unsaid p k h =
-    let vs = bound_ok (variables_of p) (λ vs. shape_of p >>= λ t. Ok (kept_as p vs t)) k h in
-    let t = bound_ok (shape_of p) (λ t. Ok (kept_as p vs.0 t)) k vs.2 in
+    let vs = bound_ok (variables_of p) (λ vs. model_of_parts p >>= λ t. Ok (kept_as p vs t)) k h in
+    let t = bound_ok (model_of_parts p) (λ t. Ok (kept_as p vs.0 t)) k vs.2 in
     sym (ap (λ (k : Kept). k.said) (ok_same (kept_as p vs.0 t.0) k (Ok (kept_as p vs.0 t.0)) (Ok k) refl refl t.2))
 
 defined_fresh : (b new : RegistryModel) (text : List ℕ) → defined b text ≡ Ok new → Fresh b new
@@ -169,7 +169,7 @@ some_width p (suc w) = go (is_small p (suc w)) (some_width p w)
     go false h = h
 
 -- a pattern that holds by its form
-by_form : PolynomialsKeep → (k : Kept) → IsTrulyNoted k → IsTried k.shape → holds_at_all_widths k.shape ≡ true → HoldsForAllWidths k.shape
+by_form : PolynomialsKeep → (k : Kept) → IsTrulyNoted k → HasNoCounterexample k.shape → holds_at_all_widths k.shape ≡ true → HoldsForAllWidths k.shape
 by_form polynomials k h v e = record {
   proper = registered_proper polynomials k.shape (IsReady.stands h.applies) (IsReady.buildable h.applies) e;
   for_all_widths = e;
@@ -178,7 +178,7 @@ by_form polynomials k h v e = record {
   holds = v;
 }
 
-covered : PolynomialsKeep → (k : Kept) → IsTrulyNoted k → IsTried k.shape → is_covered k.shape ≡ true → HoldsForAllWidths k.shape ⊎ HoldsForOutcomes k.shape
+covered : PolynomialsKeep → (k : Kept) → IsTrulyNoted k → HasNoCounterexample k.shape → is_covered k.shape ≡ true → HoldsForAllWidths k.shape ⊎ HoldsForOutcomes k.shape
 covered polynomials k h v e = elim (or_cases (holds_at_all_widths k.shape) (is_sound_form k.shape) e) [
   | inl i ↦ inl (by_form polynomials k h v i)
   | inr i ↦ elim h.checked.3 [
@@ -189,10 +189,10 @@ covered polynomials k h v e = elim (or_cases (holds_at_all_widths k.shape) (is_s
 
 pub noted_are_proved : PolynomialsKeep → NotesAreTrue → NotedAreProved
 noted_are_proved polynomials notes b reached (OfRule r) is = is
-noted_are_proved polynomials notes b reached (OfOwn p) is =
+noted_are_proved polynomials notes b reached (OfUserPattern p) is =
     let k = is.1 in
     let same : k.shape ≡ p = is.4 in
-    let c = covered polynomials k (notes b reached is.0 k is.2 is.3) (subst IsTried (sym same) is.6) (ap is_covered same ∙ is.5) in
+    let c = covered polynomials k (notes b reached is.0 k is.2 is.3) (subst HasNoCounterexample (sym same) is.6) (ap is_covered same ∙ is.5) in
     subst (λ (p : PatternModel). HoldsForAllWidths p ⊎ HoldsForOutcomes p) same c
 
 pub noted_apply_refines : NotedAreProved → ProvedApplyRefines → NotedApplyRefines
@@ -203,7 +203,7 @@ noted_rewrite_refines proved refines b reached ts are limit m n k e ready range 
 
 noted_or_canonical : NotedAreProved → (b : RegistryModel) → IsReached b → (t : RuleOrPatternModel) → IsNotedOrCanonical b t → IsProvedOrCanonical t
 noted_or_canonical proved b reached (OfRule r) is = is
-noted_or_canonical proved b reached (OfOwn p) is = proved b reached (OfOwn p) is
+noted_or_canonical proved b reached (OfUserPattern p) is = proved b reached (OfUserPattern p) is
 
 pub noted_canon_lists_refine : NotedAreProved → CanonListsRefine → NotedCanonListsRefine
 noted_canon_lists_refine proved refines b reached ts are limit m n k e ready plain range i =

@@ -12,7 +12,7 @@ use Rattle.dialects_int.specs.Folds.{kind_of}
 use Rattle.user_patterns_check.specs.Cases.{first_below}
 use Rattle.patterns_laws.specs.Words as named
 use Rattle.user_patterns_check.specs.Outcomes.{log_of}
-use Rattle.user_patterns_data.specs.Matching.{Standing}
+use Rattle.user_patterns_data.specs.Matching.{BoundValues}
 use Rattle.user_patterns_data.specs.Planning.{planned}
 use Rattle.user_patterns_build.specs.Unified.{united}
 use Rattle.patterns_refinement.specs.Applied.{AreOfKinds, IsFound}
@@ -21,7 +21,7 @@ use Rattle.patterns_refinement.proofs.PassingSampled.{holds_narrow}
 use Rattle.patterns_refinement.proofs.Sampled.{here, known_here}
 
 -- no type is bound to the second number
-abbrev types : Standing TypeTerm
+abbrev types : BoundValues TypeTerm
 types = Some i2 ∷ None ∷ []
 
 are_of_kinds : AreOfKinds types

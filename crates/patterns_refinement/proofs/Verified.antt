@@ -25,7 +25,7 @@ use Rattle.ir_tree.specs.Tree.{head}
 use Rattle.ir_tree.specs.Ids.{HasDistinctIds, find}
 use Rattle.ir_tree.specs.Meaning.{Operation}
 use Rattle.ir_tree_laws.specs.Members.{In}
-use Rattle.ir_tree_laws.specs.Stands.{StandOf, stand_id, stand_of, stands}
+use Rattle.ir_tree_laws.specs.Stands.{OpWithPathOf, op_with_path_id, op_with_path, stands}
 use Rattle.ir_tree_laws.specs.Values.{type_of_value}
 use Rattle.ir_tree_laws.proofs.Listed.{neither}
 use Rattle.ir_tree_laws.proofs.Members.{found_stands, stand_found, stand_of_member}
@@ -41,7 +41,7 @@ use Rattle.ir_verify_base.specs.Types.{is_boolean, is_integer, is_number}
 use Rattle.ir_verify_base.specs.Fits.{Known, Surroundings, first_called, fits, is_named, is_the_number, is_there, known_of, there, types_fit}
 use Rattle.ir_verify_base.specs.Shapes.{breaks_1, breaks_3, breaks_5, breaks_12, breaks_13, is_well_shaped}
 use Rattle.ir_verify_base.specs.TypeRules.{breaks_2, breaks_4, breaks_18, is_extension, is_no_number, isnt_greater, isnt_smaller}
-use Rattle.patterns_base.specs.verify.Breaks.{broken, numbers_from, broken_rules_in, told_of}
+use Rattle.patterns_base.specs.verify.Breaks.{broken, numbers_from, broken_rules_in, counted_rules}
 use Rattle.patterns_base.specs.verify.Beyond.{is_beyond, is_on_types, told}
 use Rattle.patterns_base.specs.Diagnostics.{broken_at, diagnostics_of, rows_of, rule_rows}
 use Rattle.patterns_base.specs.Looks.{breaks_none, has_own_properties, is_verified}
@@ -61,8 +61,8 @@ use Rattle.patterns_refinement.specs.Verified.{VerifiedIsReady, has_width, is_co
 use Rattle.patterns_refinement.proofs.Wellformed.{each_stands}
 use Rattle.patterns_refinement.proofs.Trees.{each_found}
 
-abbrev Stand : Type 0
-Stand = StandOf (List ℕ) TypeTerm AttrTerm
+abbrev OpWithPath : Type 0
+OpWithPath = OpWithPathOf (List ℕ) TypeTerm AttrTerm
 
 -- ---- a report without rows
 silent_rows : (x : ℕ) (rs : List ℕ) (more : List RowTerm) → rule_rows x rs ++ more ≡ [] → (rs ≡ []) × (more ≡ [])
@@ -79,7 +79,7 @@ silent_found q (e ∷ es) s rs f =
     go true f none later = sym (same_Some _ _ f) ∙ none
     go false f none later = later f
 
-none_told : (t : Operation) → diagnostics_of t ≡ [] → (x : ℕ) (s : Stand) → stand_of x t ≡ Some s → told (surround t s) ≡ []
+none_told : (t : Operation) → diagnostics_of t ≡ [] → (x : ℕ) (s : OpWithPath) → op_with_path x t ≡ Some s → told (surround t s) ≡ []
 none_told t silent x s e =
     silent_found x (sorted_facts told t) silent (told (surround t s)) (found told t x (stands [] t) ∙ ap (λ o. option_map told (option_map (surround t) o)) e)
 
@@ -111,10 +111,10 @@ record Unbroken (row : Row) (s : Surroundings) : Type 0 where
   results : breaks_4 row s ≡ false
   cuts : breaks_18 s ≡ false
 
-unbroken : (row : Row) (s : Surroundings) → numbers_from 1 (told_of row s) ≡ [] → Unbroken row s
+unbroken : (row : Row) (s : Surroundings) → numbers_from 1 (counted_rules row s) ≡ [] → Unbroken row s
 unbroken row s e =
     let w = is_well_shaped row s.node in
-    let a = none_hold 1 (told_of row s) e in
+    let a = none_hold 1 (counted_rules row s) e in
     let from_4 = a.1.1.1 in
     let from_12 = from_4.1.1.1.1.1.1.1.1 in
     let from_18 = from_12.1.1.1.1.1.1 in
@@ -439,7 +439,7 @@ pub no_rules : (rs : List ℕ) → breaks_none (Some rs) ≡ true → rs ≡ []
 no_rules [] e = refl
 no_rules (r ∷ rs) e = absurd (true≢false (sym e))
 
-module _ (t : Operation) (distinct : HasDistinctIds t) (s : Stand) (here : In s (stands [] t)) where
+module _ (t : Operation) (distinct : HasDistinctIds t) (s : OpWithPath) (here : In s (stands [] t)) where
   abbrev h : Header
   h = head s.here
 
@@ -586,6 +586,6 @@ verified_is_ready m v = record {
   kinded = each_stands (λ h. is_kinded m.tree h ≡ true) [] m.tree (λ s here.
       let found_here = stand_found m.tree v.wellformed.distinct s here in
       operation_kinded m.tree v.wellformed.distinct s here v.silent
-      (each_found (λ h. is_in_range h ≡ true) (stand_id s) m.tree v.in_range s.here found_here).0
-      (each_found (λ h. is_within m.tree h ≡ true) (stand_id s) m.tree v.within s.here found_here).0);
+      (each_found (λ h. is_in_range h ≡ true) (op_with_path_id s) m.tree v.in_range s.here found_here).0
+      (each_found (λ h. is_within m.tree h ≡ true) (op_with_path_id s) m.tree v.within s.here found_here).0);
 }

@@ -9,7 +9,7 @@ use Rattle.ir_tree.specs.Ids.{HasDistinctIds, ids}
 use Rattle.ir_tree.specs.Sites.{operands_visible}
 use Rattle.ir_tree.specs.Meaning.{Operation}
 use Rattle.ir_tree_laws.specs.Members.{In}
-use Rattle.ir_tree_laws.specs.Stands.{StandOf, StepOf, ops_stands, region_stands, regions_stands, dominated_by, stand_id, stands}
+use Rattle.ir_tree_laws.specs.Stands.{OpWithPathOf, StepOf, ops_stands, region_stands, regions_stands, dominated_by, op_with_path_id, stands}
 use Rattle.ir_tree_laws.specs.Values.{has_value}
 use Rattle.ir_tree_laws.proofs.Listed.{all_each, each_all, in_left, in_right}
 use Rattle.ir_tree_laws.proofs.Around.{stand_present}
@@ -20,16 +20,16 @@ use Rattle.patterns_refinement.specs.Meaning.{Each, EachAmong, EachInRegion, Eac
 use Rattle.patterns_refinement.specs.Applied.{IsBelow}
 use Rattle.patterns_refinement.specs.After.{OperandsStand}
 
-abbrev Stand : Type 0
-Stand = StandOf (List ℕ) TypeTerm AttrTerm
+abbrev OpWithPath : Type 0
+OpWithPath = OpWithPathOf (List ℕ) TypeTerm AttrTerm
 
 abbrev Step : Type 0
 Step = StepOf (List ℕ) TypeTerm AttrTerm
 
 -- ---- a property of all operations of the tree
 module _ (P : Header → Type 0) where
-  abbrev OfAll : List Stand → Type 0
-  OfAll ss = (s : Stand) → In s ss → P (head s.here)
+  abbrev OfAll : List OpWithPath → Type 0
+  OfAll ss = (s : OpWithPath) → In s ss → P (head s.here)
 
   mutual
     pub each_stands : (path : List Step) (t : Operation) → OfAll (stands path t) → Each P t
@@ -64,12 +64,12 @@ all_any P (x ∷ xs) a y e = elim (or_cases (eqb x y) (list_any (λ x. eqb x y) 
 ]
 
 pub is_below : (n : ℕ) (t : Operation) → All (λ x. x < n) (ids t) → IsBelow n t
-is_below n t a = each_stands (λ h. h.id < n) [] t (λ s i. all_any (λ x. x < n) (ids t) a (stand_id s) (stand_present [] t s i))
+is_below n t a = each_stands (λ h. h.id < n) [] t (λ s i. all_any (λ x. x < n) (ids t) a (op_with_path_id s) (stand_present [] t s i))
 
 -- ---- operands
 pub operands_stand : (isolated : List ℕ → Bool) (t : Operation) → HasDistinctIds t → operands_visible isolated t ≡ true → OperandsStand t
 operands_stand isolated t d e =
     each_stands (λ h. list_all (λ v. has_value v t) h.operands ≡ true) [] t
     (λ s i. each_all (λ v. has_value v t) (head s.here).operands (λ v j.
-    let dominated_by_all = all_each (λ (z : Stand). list_all (dominated_by isolated z.path) (head z.here).operands) (stands [] t) (sym (stands_operands isolated t) ∙ e) s i in
+    let dominated_by_all = all_each (λ (z : OpWithPath). list_all (dominated_by isolated z.path) (head z.here).operands) (stands [] t) (sym (stands_operands isolated t) ∙ e) s i in
     (seen_by isolated t d s i v (all_each (dominated_by isolated s.path) (head s.here).operands dominated_by_all v j)).is))

@@ -8,7 +8,7 @@ use Rattle.rewriter_machine.specs.Machine.{Goes, Reply, Shows, State, Transforma
 use Rattle.user_patterns_registry.specs.Changes.{IsReached}
 use Rattle.user_patterns_registry.specs.Registry.{RegistryModel}
 use Rattle.greedy.specs.Changes.{canonicalizing, rewriting}
-use Rattle.greedy.specs.PatternSet.{RuleOrPatternModel, by_attempts}
+use Rattle.greedy.specs.PatternSet.{RuleOrPatternModel, pattern_set_from}
 use Rattle.patterns_refinement.specs.Keeping.{IsReady}
 use Rattle.patterns_refinement.specs.Canonical.{IsPlain}
 use Rattle.patterns_refinement.specs.Refining.{IsRefinedBy}
@@ -29,7 +29,7 @@ abbrev pub RewriteAnswerRefines : Type 0
 RewriteAnswerRefines =
     (b : RegistryModel) → IsReached b → (ts : List RuleOrPatternModel) → ((t : RuleOrPatternModel) → In t ts → IsNotedIn b t) → (limit : ℕ)
     → (s t : State) (reply : Reply) (shows : Shows) → IsReady s.held → IsInRange s.held
-    → Answers (rewriting (by_attempts ts) limit) s reply shows t → IsRefinement s.held t.held
+    → Answers (rewriting (pattern_set_from ts) limit) s reply shows t → IsRefinement s.held t.held
 
 -- the same for a list that also has rules of `canon`, if the module has no unrealized casts, and no loops and
 -- conditionals of `scf`
@@ -37,7 +37,7 @@ abbrev pub CanonListAnswerRefines : Type 0
 CanonListAnswerRefines =
     (b : RegistryModel) → IsReached b → (ts : List RuleOrPatternModel) → ((t : RuleOrPatternModel) → In t ts → IsNotedOrCanonical b t) → (limit : ℕ)
     → (s t : State) (reply : Reply) (shows : Shows) → IsReady s.held → IsPlain s.held → IsInRange s.held
-    → Answers (rewriting (by_attempts ts) limit) s reply shows t → IsRefinement s.held t.held × IsPlain t.held
+    → Answers (rewriting (pattern_set_from ts) limit) s reply shows t → IsRefinement s.held t.held × IsPlain t.held
 
 -- after `canon` of such a module
 abbrev pub CanonAnswerRefines : Type 0

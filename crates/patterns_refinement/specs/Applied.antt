@@ -24,15 +24,15 @@ use Rattle.user_patterns_data.specs.declared.pattern.ConstantExpression.TheVaria
 use Rattle.user_patterns_data.specs.declared.pattern.NewValue.{NewValue}
 use Rattle.user_patterns_data.specs.declared.pattern.NewValue.TheVariants as new
 use Rattle.user_patterns_data.specs.Fitting.{content_at, content_with, kind_at}
-use Rattle.user_patterns_data.specs.Matching.{Header, Standing, bound, defining_op_head, nothing, ops_match, placed, standing}
-use Rattle.user_patterns_data.specs.Planning.{kind_standing, old_place, places, planned, typed}
+use Rattle.user_patterns_data.specs.Matching.{Header, BoundValues, bound, defining_op_head, nothing, ops_match, placed, binding_at}
+use Rattle.user_patterns_data.specs.Planning.{bound_type, old_place, places, planned, typed}
 use Rattle.user_patterns_data.specs.Shapes.{PatternModel}
 use Rattle.user_patterns_data.specs.WellFormed.{is_well_formed}
 use Rattle.user_patterns_build.specs.CanBuild.{has_name, can_build, new_type}
 use Rattle.patterns_refinement.specs.Meaning.{Assignment, AreOfTypes, Each, FitsAll, FitsEach, TypedEach, has_flags, owner}
 
 -- the values that a match at operation x binds
-abbrev pub matched : Operation → (Header → Bool) → PatternModel → ℕ → Option (Standing Value)
+abbrev pub matched : Operation → (Header → Bool) → PatternModel → ℕ → Option (BoundValues Value)
 matched t verified p x =
     given (bound same_value p.root (Result x 0) (nothing (places p))) (λ b. ops_match t verified (placed (old_place p) p.old) b)
 
@@ -90,23 +90,23 @@ abbrev pub is_typed : List BitsKind → PatternModel → Bool
 is_typed ks p = news_fit ks (kinds_matched ks p) p.new
 
 -- each bound type has a kind
-abbrev pub AreOfKinds : Standing TypeTerm → Type 0
-AreOfKinds ts = (i : ℕ) (ty : TypeTerm) → standing i ts ≡ Some ty → is_some (kind_of ty) ≡ true
+abbrev pub AreOfKinds : BoundValues TypeTerm → Type 0
+AreOfKinds ts = (i : ℕ) (ty : TypeTerm) → binding_at i ts ≡ Some ty → is_some (kind_of ty) ≡ true
 
 -- The outcomes of the pattern's variables are known. A check tests known values only, and a pattern that it accepts
 -- may be wrong for poison. An example adds b - b to the result of a `select` that didn't select b: if b is poison,
 -- the sum is poison, and the `select` wasn't.
-abbrev pub VariablesKnown : PatternModel → Standing Value → Assignment → Type 0
-VariablesKnown p b a = (i : ℕ) (v : Value) → i < length p.values → standing i b ≡ Some v → is_some (a v) ≡ true
+abbrev pub VariablesKnown : PatternModel → BoundValues Value → Assignment → Type 0
+VariablesKnown p b a = (i : ℕ) (v : Value) → i < length p.values → binding_at i b ≡ Some v → is_some (a v) ≡ true
 
 -- the verified operations that define bound values are executed
-abbrev pub AreDone : Operation → (Header → Bool) → (ℕ → Bool) → Standing Value → Type 0
-AreDone t verified done b = (i : ℕ) (v : Value) (h : Header) → standing i b ≡ Some v → defining_op_head t verified v ≡ Some h → done (owner v) ≡ true
+abbrev pub AreDone : Operation → (Header → Bool) → (ℕ → Bool) → BoundValues Value → Type 0
+AreDone t verified done b = (i : ℕ) (v : Value) (h : Header) → binding_at i b ≡ Some v → defining_op_head t verified v ≡ Some h → done (owner v) ≡ true
 
 -- those of them that have flags don't break their flags: their results aren't poison
-abbrev pub AreUnbroken : Operation → (Header → Bool) → Assignment → Standing Value → Type 0
+abbrev pub AreUnbroken : Operation → (Header → Bool) → Assignment → BoundValues Value → Type 0
 AreUnbroken t verified a b =
-    (i : ℕ) (v : Value) (h : Header) → standing i b ≡ Some v → defining_op_head t verified v ≡ Some h → has_flags h ≡ true → is_some (a v) ≡ true
+    (i : ℕ) (v : Value) (h : Header) → binding_at i b ≡ Some v → defining_op_head t verified v ≡ Some h → has_flags h ≡ true → is_some (a v) ≡ true
 
 -- the ids of a tree's operations are below n
 abbrev pub IsBelow : ℕ → Operation → Type 0
@@ -120,9 +120,9 @@ module _ (t : Operation) (verified : Header → Bool) (n : ℕ) (p : PatternMode
   -- the pattern matches at operation x among executed operations, its variables are known, no flags are broken, and
   -- all types have kinds
   pub record IsFound : Type 0 where
-    pub here : Standing Value
+    pub here : BoundValues Value
     pub is_matched : matched t verified p x ≡ Some here
-    pub types : Standing TypeTerm
+    pub types : BoundValues TypeTerm
     pub are_types : typed t verified n p here ≡ Some types
     pub of_kinds : AreOfKinds types
     pub are_done : AreDone t verified done here
@@ -131,7 +131,7 @@ module _ (t : Operation) (verified : Header → Bool) (n : ℕ) (p : PatternMode
 
   -- the kinds of the types of the match
   abbrev pub kinds_found : IsFound → List BitsKind
-  kinds_found f = map kind_standing f.types
+  kinds_found f = map bound_type f.types
 
   -- there are outcomes for the new operations that agree with those of the tree: each new operation is defined and of
   -- its type, and the value that replaces the result of x refines it

@@ -12,7 +12,7 @@ use Rattle.user_patterns_check.specs.Checks.{AlwaysKeeps}
 use Rattle.user_patterns_check.specs.Families.{AreWidths, IsVerdict}
 use Rattle.user_patterns_data.specs.Fitting.{content_at, content_with}
 use Rattle.user_patterns_data.specs.Shapes.{PatternModel}
-use Rattle.user_patterns_apply.specs.Own.{own_rewrite}
+use Rattle.user_patterns_apply.specs.Own.{user_pattern_rewrite}
 use Rattle.patterns_refinement.specs.Meaning.{AreOfTypes, Assignment, FitsAll}
 use Rattle.patterns_refinement.specs.Observing.{Shows}
 use Rattle.patterns_refinement.specs.After.{or_new}
@@ -41,7 +41,7 @@ RewritesCompute =
     (p : PatternModel) (m n : Module) (x : ℕ) (a : Assignment) (done : ℕ → Bool) (k : Known)
     → IsWellFormed is_isolated m → IsProper p → FitsAll a done m.tree → AreOfTypes a m.tree
     → (found : IsFoundIn p m x a done) → KeepsThere p m x a done found
-    → a (Result x 0) ≡ Some k → own_rewrite p m x ≡ becomes n → ComputesOn a done m n
+    → a (Result x 0) ≡ Some k → user_pattern_rewrite p m x ≡ becomes n → ComputesOn a done m n
 
 -- the pattern refines at the kinds of the match, if a check found that it holds up to a width and its instance at
 -- these kinds is one at tested widths

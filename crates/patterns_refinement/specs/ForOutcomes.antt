@@ -21,9 +21,9 @@ use Rattle.user_patterns_data.specs.WellFormed.{is_well_formed}
 use Rattle.user_patterns_build.specs.CanBuild.{can_build, new_type}
 use Rattle.user_patterns_build.specs.Unified.{kind_in}
 use Rattle.user_patterns_claims.specs.Outcomes.{AreOutcomes, HoldsAtAllWidths, keeps_outcomes}
-use Rattle.user_patterns_apply.specs.Own.{own_rewrite}
+use Rattle.user_patterns_apply.specs.Own.{user_pattern_rewrite}
 use Rattle.greedy.specs.Rewriting.{rewriting_of}
-use Rattle.greedy.specs.PatternSet.{RuleOrPatternModel, OfOwn, OfRule, by_attempts}
+use Rattle.greedy.specs.PatternSet.{RuleOrPatternModel, OfUserPattern, OfRule, pattern_set_from}
 use Rattle.patterns_refinement.specs.Applied.{IsProper, all_named}
 use Rattle.patterns_refinement.specs.Improving.{is_without_quotients}
 use Rattle.patterns_refinement.specs.Keeping.{IsReady}
@@ -50,7 +50,7 @@ KeepsOutcomesAt p m x = (at : FoundAt p m x) → (is_kinded_at (kinds_there p m 
 -- ready module computes
 abbrev pub OutcomesKeepThere : Type 0
 OutcomesKeepThere =
-    (p : PatternModel) (m n : Module) (x : ℕ) → is_without_quotients p ≡ true → IsProper p → IsReady m → own_rewrite p m x ≡ becomes n
+    (p : PatternModel) (m n : Module) (x : ℕ) → is_without_quotients p ≡ true → IsProper p → IsReady m → user_pattern_rewrite p m x ≡ becomes n
     → KeepsOutcomesAt p m x → KeptAt m n x
 
 -- ---- modules
@@ -107,7 +107,7 @@ pub record HoldsForOutcomes (p : PatternModel) : Type 0 where
 -- such a pattern keeps widths in range, and refines what a ready module computes
 abbrev pub OutcomesKeep : Type 0
 OutcomesKeep =
-    (p : PatternModel) (m n : Module) (x : ℕ) → HoldsForOutcomes p → IsReady m → IsInRange m → own_rewrite p m x ≡ becomes n
+    (p : PatternModel) (m n : Module) (x : ℕ) → HoldsForOutcomes p → IsReady m → IsInRange m → user_pattern_rewrite p m x ≡ becomes n
     → IsInRange n × KeptAt m n x
 
 -- the listed rules keep widths in range too
@@ -117,17 +117,17 @@ RulesStayInRange = (r : Rule) → In r kept_rules → (m n : Module) (x : ℕ) �
 -- and so do patterns that hold by the form of both sides
 abbrev pub PatternsStayInRange : Type 0
 PatternsStayInRange =
-    (p : PatternModel) (m n : Module) (x : ℕ) → HoldsForAllWidths p → IsReady m → IsInRange m → own_rewrite p m x ≡ becomes n → IsInRange n
+    (p : PatternModel) (m n : Module) (x : ℕ) → HoldsForAllWidths p → IsReady m → IsInRange m → user_pattern_rewrite p m x ≡ becomes n → IsInRange n
 
 -- a listed rule, or a pattern that holds at all widths by its form or for all outcomes
 abbrev pub IsProved : RuleOrPatternModel → Type 0
 IsProved (OfRule r) = In r kept_rules
-IsProved (OfOwn p) = HoldsForAllWidths p ⊎ HoldsForOutcomes p
+IsProved (OfUserPattern p) = HoldsForAllWidths p ⊎ HoldsForOutcomes p
 
 -- the rewrite that `apply` makes at an operation
 abbrev pub applied : RuleOrPatternModel → Module → ℕ → Rewrite
 applied (OfRule r) m x = rewrite_of r m x
-applied (OfOwn p) m x = own_rewrite p m x
+applied (OfUserPattern p) m x = user_pattern_rewrite p m x
 
 -- `apply` of one of them keeps widths in range, and the module after it refines the module before, as an observer sees
 -- it
@@ -140,7 +140,7 @@ ProvedApplyRefines =
 abbrev pub ProvedRewriteRefines : Type 0
 ProvedRewriteRefines =
     (ts : List RuleOrPatternModel) → ((t : RuleOrPatternModel) → In t ts → IsProved t) → (limit : ℕ) (m n : Module) (k : ℕ) (e : End)
-    → IsReady m → IsInRange m → rewriting_of (by_attempts ts) limit m ≡ ended n k e
+    → IsReady m → IsInRange m → rewriting_of (pattern_set_from ts) limit m ≡ ended n k e
     → IsReady n × IsInRange n × IsRefinedBy m n
 
 -- canonicalization keeps widths in range, if the module has no unrealized casts, and no loops and conditionals of

@@ -14,7 +14,7 @@ use Rattle.user_patterns_data.specs.declared.pattern.Expression.TheVariants as f
 use Rattle.user_patterns_data.specs.declared.pattern.NewValue.{NewValue}
 use Rattle.user_patterns_data.specs.declared.pattern.NewValue.TheVariants as new
 use Rattle.user_patterns_data.specs.Shapes.{PatternModel}
-use Rattle.user_patterns_apply.specs.Own.{own_rewrite}
+use Rattle.user_patterns_apply.specs.Own.{user_pattern_rewrite}
 use Rattle.patterns_refinement.specs.Meaning.{AreOfTypes, Assignment, FitsAll, owner}
 use Rattle.patterns_refinement.specs.Better.{AllSure, AreKinded, Better, gives}
 use Rattle.patterns_refinement.specs.After.{or_new}
@@ -54,4 +54,4 @@ RewritesComputeBetter =
     → IsWellFormed is_isolated m → IsProper p → is_without_quotients p ≡ true
     → FitsAll a done m.tree → AreOfTypes a m.tree → AllSure a done m.tree
     → (found : IsFoundIn p m x a done) → KeepsThere p m x a done found
-    → AreKinded n.tree → own_rewrite p m x ≡ becomes n → ComputesBetter a done m (or_new m.next done) n.tree
+    → AreKinded n.tree → user_pattern_rewrite p m x ≡ becomes n → ComputesBetter a done m (or_new m.next done) n.tree

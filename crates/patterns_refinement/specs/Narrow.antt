@@ -20,9 +20,9 @@ use Rattle.user_patterns_data.specs.Fitting.{content_at, fits, kinds_with}
 use Rattle.user_patterns_data.specs.Shapes.{PatternModel}
 use Rattle.user_patterns_build.specs.Unified.{first_same}
 use Rattle.user_patterns_build.specs.Unified as united
-use Rattle.user_patterns_apply.specs.Own.{own_rewrite}
+use Rattle.user_patterns_apply.specs.Own.{user_pattern_rewrite}
 use Rattle.greedy.specs.Rewriting.{rewriting_of}
-use Rattle.greedy.specs.PatternSet.{RuleOrPatternModel, OfOwn, OfRule, by_attempts}
+use Rattle.greedy.specs.PatternSet.{RuleOrPatternModel, OfUserPattern, OfRule, pattern_set_from}
 use Rattle.patterns_refinement.specs.Better.{kind_in}
 use Rattle.patterns_refinement.specs.Applied.{IsProper}
 use Rattle.patterns_refinement.specs.Keeping.{IsReady}
@@ -81,7 +81,7 @@ module _ (most : ℕ) (p : PatternModel) where
 abbrev pub NarrowKeep : Type 0
 NarrowKeep =
     (most : ℕ) (p : PatternModel) (m n : Module) (x : ℕ) → HoldsNarrow most p → IsReady m → IsNarrow most m
-    → own_rewrite p m x ≡ becomes n → IsNarrow most n × KeptAt m n x
+    → user_pattern_rewrite p m x ≡ becomes n → IsNarrow most n × KeptAt m n x
 
 -- the listed rules do so too
 abbrev pub NarrowRulesKeep : Type 0
@@ -92,14 +92,14 @@ NarrowRulesKeep =
 -- such a rule, or such a pattern
 abbrev pub IsNarrowly : ℕ → RuleOrPatternModel → Type 0
 IsNarrowly most (OfRule r) = In r kept_rules
-IsNarrowly most (OfOwn p) = HoldsNarrow most p
+IsNarrowly most (OfUserPattern p) = HoldsNarrow most p
 
 -- rewriting by a list of them keeps narrow modules narrow, and refines what they compute, up to a limit or to its end
 abbrev pub NarrowRewritingKeeps : Type 0
 NarrowRewritingKeeps =
     (most : ℕ) → 1 ≤ most → (ts : List RuleOrPatternModel) → ((t : RuleOrPatternModel) → In t ts → IsNarrowly most t)
     → (limit : ℕ) (m n : Module) (k : ℕ) (e : End) → IsReady m → IsNarrow most m
-    → rewriting_of (by_attempts ts) limit m ≡ ended n k e → IsNarrow most n × KeptThrough m n
+    → rewriting_of (pattern_set_from ts) limit m ≡ ended n k e → IsNarrow most n × KeptThrough m n
 
 -- canonicalization keeps a narrow module narrow, if it has no unrealized casts, and no loops and conditionals of
 -- `scf`

@@ -14,7 +14,7 @@ use Rattle.user_patterns_registry.specs.CheckResult.{requested_width}
 use Rattle.user_patterns_registry.specs.declared.check_result.CheckSummary.TheVariants as summary
 use Rattle.user_patterns_registry.specs.Registry.{IsReady as CanBeApplied, Kept, RegistryModel, found}
 use Rattle.greedy.specs.Rewriting.{rewriting_of}
-use Rattle.greedy.specs.PatternSet.{RuleOrPatternModel, OfOwn, OfRule, by_attempts}
+use Rattle.greedy.specs.PatternSet.{RuleOrPatternModel, OfUserPattern, OfRule, pattern_set_from}
 use Rattle.patterns_refinement.specs.Keeping.{IsReady}
 use Rattle.patterns_refinement.specs.Runs.{kept_rules}
 use Rattle.patterns_refinement.specs.Refining.{IsRefinedBy}
@@ -40,15 +40,15 @@ abbrev pub is_covered : PatternModel → Bool
 is_covered p = holds_at_all_widths p || is_sound_form p
 
 -- no value up to the default width refutes the pattern, and its old side is defined for some value there
-abbrev pub IsTried : PatternModel → Type 0
-IsTried p = IsVerdict (content_at p) p.types (requested_width p None) verdict.Holds
+abbrev pub HasNoCounterexample : PatternModel → Type 0
+HasNoCounterexample p = IsVerdict (content_at p) p.types (requested_width p None) verdict.Holds
 
 -- a listed rule, or such a pattern that the registry notes as `holds` without a width. The laws don't cover a pattern
 -- whose old side is defined at wider types alone.
 abbrev pub IsNotedIn : RegistryModel → RuleOrPatternModel → Type 0
 IsNotedIn b (OfRule r) = In r kept_rules
-IsNotedIn b (OfOwn p) =
-    (name : List ℕ) × (k : Kept) × (found name b ≡ Some k) × (k.said ≡ Some summary.AllWidths) × (k.shape ≡ p) × (is_covered p ≡ true) × IsTried p
+IsNotedIn b (OfUserPattern p) =
+    (name : List ℕ) × (k : Kept) × (found name b ≡ Some k) × (k.said ≡ Some summary.AllWidths) × (k.shape ≡ p) × (is_covered p ≡ true) × HasNoCounterexample p
 
 abbrev pub NotedAreProved : Type 0
 NotedAreProved = (b : RegistryModel) → IsReached b → (t : RuleOrPatternModel) → IsNotedIn b t → IsProved t
@@ -66,7 +66,7 @@ NotedApplyRefines =
 abbrev pub NotedRewriteRefines : Type 0
 NotedRewriteRefines =
     (b : RegistryModel) → IsReached b → (ts : List RuleOrPatternModel) → ((t : RuleOrPatternModel) → In t ts → IsNotedIn b t)
-    → (limit : ℕ) (m n : Module) (k : ℕ) (e : End) → IsReady m → IsInRange m → rewriting_of (by_attempts ts) limit m ≡ ended n k e
+    → (limit : ℕ) (m n : Module) (k : ℕ) (e : End) → IsReady m → IsInRange m → rewriting_of (pattern_set_from ts) limit m ≡ ended n k e
     → IsReady n × IsInRange n × IsRefinedBy m n
 
 -- `select(c, a, false) => andi(c, a)`, which is wrong if `a` is poison, is never noted as `holds` without a width

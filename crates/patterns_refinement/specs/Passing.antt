@@ -20,11 +20,11 @@ use Rattle.user_patterns_data.specs.declared.pattern.Expression.TheVariants as f
 use Rattle.user_patterns_data.specs.declared.pattern.NewValue.{NewValue}
 use Rattle.user_patterns_data.specs.declared.pattern.NewValue.TheVariants as new
 use Rattle.user_patterns_data.specs.Fitting.{content_at, content_with, fits, kind_at}
-use Rattle.user_patterns_data.specs.Matching.{Standing}
-use Rattle.user_patterns_data.specs.Planning.{kind_standing, typed}
+use Rattle.user_patterns_data.specs.Matching.{BoundValues}
+use Rattle.user_patterns_data.specs.Planning.{bound_type, typed}
 use Rattle.user_patterns_data.specs.Shapes.{PatternModel}
 use Rattle.user_patterns_build.specs.CanBuild.{new_type}
-use Rattle.user_patterns_apply.specs.Own.{own_rewrite}
+use Rattle.user_patterns_apply.specs.Own.{user_pattern_rewrite}
 use Rattle.patterns_refinement.specs.Meaning.{Assignment}
 use Rattle.patterns_refinement.specs.Better.{narrows}
 use Rattle.patterns_refinement.specs.Applied.{IsProper, kinds_matched, matched}
@@ -59,14 +59,14 @@ is_kinded_at ks p = news_take ks (kinds_matched ks p) p.new
 module _ (p : PatternModel) (m : Module) (x : ℕ) where
   -- the pattern matches at operation x of a module, for all outcomes
   pub record FoundAt : Type 0 where
-    pub here : Standing Value
+    pub here : BoundValues Value
     pub is_matched : matched m.tree (is_verified m.tree) p x ≡ Some here
-    pub types : Standing TypeTerm
+    pub types : BoundValues TypeTerm
     pub are_types : typed m.tree (is_verified m.tree) m.next p here ≡ Some types
 
   -- the kinds of the types of the match
   abbrev pub kinds_there : FoundAt → List BitsKind
-  kinds_there f = map kind_standing f.types
+  kinds_there f = map bound_type f.types
 
   -- at these kinds the new values take their operands, and the pattern refines; there is at most one match at an
   -- operation
@@ -91,18 +91,18 @@ KeptAt m n x =
 -- a pattern that applies has exactly one match there, and its types satisfy its constraints
 abbrev pub AppliedIsFound : Type 0
 AppliedIsFound =
-    (p : PatternModel) (m n : Module) (x : ℕ) → own_rewrite p m x ≡ becomes n
+    (p : PatternModel) (m n : Module) (x : ℕ) → user_pattern_rewrite p m x ≡ becomes n
     → (at : FoundAt p m x) × (fits (kinds_there p m x at) p ≡ true)
     × ((other : FoundAt p m x) → kinds_there p m x other ≡ kinds_there p m x at)
 
 -- such a pattern that refines at the kinds of the match refines what a ready module computes
 abbrev pub PassingKeep : Type 0
 PassingKeep =
-    (p : PatternModel) (m n : Module) (x : ℕ) → is_passing p ≡ true → IsProper p → IsReady m → own_rewrite p m x ≡ becomes n
+    (p : PatternModel) (m n : Module) (x : ℕ) → is_passing p ≡ true → IsProper p → IsReady m → user_pattern_rewrite p m x ≡ becomes n
     → KeepsAt p m x → KeptAt m n x
 
 -- the same if a check found that the pattern holds up to a width, and the types of the match have widths up to it
 abbrev pub CheckedPassingKeep : Type 0
 CheckedPassingKeep =
-    (p : PatternModel) (m n : Module) (x : ℕ) → is_passing p ≡ true → IsProper p → IsReady m → own_rewrite p m x ≡ becomes n
+    (p : PatternModel) (m n : Module) (x : ℕ) → is_passing p ≡ true → IsProper p → IsReady m → user_pattern_rewrite p m x ≡ becomes n
     → (most : ℕ) → IsVerdict (content_at p) p.types most verdict.Holds → IsFoundWithin p m x most → KeptAt m n x

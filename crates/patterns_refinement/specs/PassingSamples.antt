@@ -15,7 +15,7 @@ use Rattle.user_patterns_data.specs.declared.pattern.PatternType.TheVariants as 
 use Rattle.user_patterns_data.specs.declared.pattern.NewValue.TheVariants as new
 use Rattle.user_patterns_data.specs.Samples.{times_power}
 use Rattle.user_patterns_data.specs.Shapes.{PatternModel}
-use Rattle.user_patterns_apply.specs.Own.{own_rewrite}
+use Rattle.user_patterns_apply.specs.Own.{user_pattern_rewrite}
 use Rattle.patterns_refinement.specs.Meaning.{Assignment}
 use Rattle.patterns_refinement.specs.Applied.{IsProper}
 use Rattle.patterns_refinement.specs.ByForm.{is_kinded_by_form}
@@ -82,7 +82,7 @@ lost (Arg x r k) = None
 -- the module is ready and computes with these outcomes; the pattern applies, and refines at the kinds of the match
 abbrev pub SampleIsDoubled : Type 0
 SampleIsDoubled =
-    IsReady doubled × Computing lost all_done doubled.tree × (own_rewrite times_power doubled 3 ≡ becomes shifted)
+    IsReady doubled × Computing lost all_done doubled.tree × (user_pattern_rewrite times_power doubled 3 ≡ becomes shifted)
     × KeepsAt times_power doubled 3
 
 -- ---- the module is narrow, and the pattern holds up to two bits

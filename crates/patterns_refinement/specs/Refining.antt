@@ -15,7 +15,7 @@ use Rattle.user_patterns_check.specs.Checks.{refines}
 use Rattle.user_patterns_check.specs.Outcomes.{Outcome}
 use Rattle.user_patterns_data.specs.Matching.{Header}
 use Rattle.greedy.specs.Rewriting.{rewriting_of}
-use Rattle.greedy.specs.PatternSet.{RuleOrPatternModel, attempted, by_attempts}
+use Rattle.greedy.specs.PatternSet.{RuleOrPatternModel, rewrite_by_entry, pattern_set_from}
 use Rattle.patterns_refinement.specs.Meaning.{Assignment, owner}
 use Rattle.patterns_refinement.specs.Better.{gives}
 use Rattle.patterns_refinement.specs.Observing.{is_computed, is_unmissed, shown_regions, without_operands}
@@ -99,13 +99,13 @@ IsRefinedBy m n = (a : Assignment) (done : ℕ → Bool) → Computing a done m.
 -- ---- the laws
 -- `apply` of a listed rule, or of a pattern that `check` called `holds` without a width.
 abbrev pub ApplyRefines : Type 0
-ApplyRefines = (t : RuleOrPatternModel) → IsShown t → (m n : Module) (x : ℕ) → IsReady m → attempted t m x ≡ becomes n → IsRefinedBy m n
+ApplyRefines = (t : RuleOrPatternModel) → IsShown t → (m n : Module) (x : ℕ) → IsReady m → rewrite_by_entry t m x ≡ becomes n → IsRefinedBy m n
 
 -- `rewrite` by a list of them, up to a limit or to its end.
 abbrev pub RewriteRefines : Type 0
 RewriteRefines =
     (ts : List RuleOrPatternModel) → ((t : RuleOrPatternModel) → In t ts → IsShown t) → (limit : ℕ) (m n : Module) (k : ℕ) (e : End) → IsReady m
-    → rewriting_of (by_attempts ts) limit m ≡ ended n k e → IsRefinedBy m n
+    → rewriting_of (pattern_set_from ts) limit m ≡ ended n k e → IsRefinedBy m n
 
 -- `canon` of a module without unrealized casts, and without loops and conditionals of `scf`.
 abbrev pub CanonRefines : Type 0

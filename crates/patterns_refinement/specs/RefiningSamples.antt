@@ -84,14 +84,14 @@ seen name x results properties operands =
     record { operation = record { id = x; name = name; operands = []; results = results; properties = properties; attributes = [] }; operands = operands }
 
 -- what an observer sees of a function and of its end, if the value has an outcome
-abbrev pub seen_of : Operation → Observation
-seen_of (op h rs) = record { operation = h; operands = [] }
+abbrev pub observation_of : Operation → Observation
+observation_of (op h rs) = record { operation = h; operands = [] }
 
-abbrev pub functions_seen : List Observation → List Observation
-functions_seen os = seen_of callee ∷ seen_of (function 2 (codes "f") [] (i8 ∷ memory ∷ []) empty) ∷ os
+abbrev pub functions_observed : List Observation → List Observation
+functions_observed os = observation_of callee ∷ observation_of (function 2 (codes "f") [] (i8 ∷ memory ∷ []) empty) ∷ os
 
-abbrev pub ending_seen : Operand → List Observation
-ending_seen v =
+abbrev pub ending_observed : Operand → List Observation
+ending_observed v =
     seen (codes "memref.store") 5 [] [] (v ∷ record { value = Some (Arg 2 0 1); outcome = None } ∷ [])
     ∷ seen (codes "func.call") 6 (i8 ∷ []) ((codes "callee", Symbol (codes "g" ∷ [])) ∷ []) (v ∷ [])
     ∷ seen (codes "func.return") 7 [] [] (v ∷ [])
@@ -106,9 +106,9 @@ pub record SampleIsRefined : Type 0 where
   pub applies : rewrite_of DropZero before 4 ≡ becomes after
   pub plain : IsPlain before
   pub canonicalizes : canonicalization_of 10 before ≡ ended canonical 2 converged
-  pub seen_before : observed five all_done before.tree ≡ functions_seen (ending_seen (record { value = None; outcome = Some (kind.Int 8, 5) }))
-  pub seen_after : observed five all_done after.tree ≡ functions_seen (ending_seen (record { value = Some (Arg 2 0 0); outcome = Some (kind.Int 8, 5) }))
-  pub seen_canonical : observed five all_done canonical.tree ≡ observed five all_done after.tree
+  pub observed_before : observed five all_done before.tree ≡ functions_observed (ending_observed (record { value = None; outcome = Some (kind.Int 8, 5) }))
+  pub observed_after : observed five all_done after.tree ≡ functions_observed (ending_observed (record { value = Some (Arg 2 0 0); outcome = Some (kind.Int 8, 5) }))
+  pub observed_canonical : observed five all_done canonical.tree ≡ observed five all_done after.tree
   pub refined : ObservationsRefine (observed five all_done before.tree) (observed five all_done after.tree)
 
 -- These rewrites are no refinements, with all operations executed: erasing everything, returning another argument,

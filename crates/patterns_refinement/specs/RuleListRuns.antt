@@ -10,25 +10,25 @@ use Rattle.user_patterns_data.specs.Fitting.{content_at}
 use Rattle.user_patterns_data.specs.Shapes.{PatternModel}
 use Rattle.user_patterns_widths.specs.AllWidths.{holds_at_all_widths}
 use Rattle.greedy.specs.Rewriting.{rewriting_of}
-use Rattle.greedy.specs.PatternSet.{RuleOrPatternModel, OfOwn, OfRule, attempted, by_attempts}
+use Rattle.greedy.specs.PatternSet.{RuleOrPatternModel, OfUserPattern, OfRule, rewrite_by_entry, pattern_set_from}
 use Rattle.patterns_refinement.specs.Meaning.{Assignment}
 use Rattle.patterns_refinement.specs.Applied.{IsProper}
 use Rattle.patterns_refinement.specs.Keeping.{Computing, IsReady, KeepsComputing, KeepsReady}
 use Rattle.patterns_refinement.specs.Runs.{ComputesThrough, kept_rules}
-use Rattle.patterns_refinement.specs.Strict.{KeepsComputingOwn, KeepsReadyOwn}
+use Rattle.patterns_refinement.specs.Strict.{KeepsComputingUserPattern, KeepsReadyUserPattern}
 
 -- i rewrites by rules and patterns of the list, each at some operation, lead from one module to another
 abbrev pub LeadsBy : List RuleOrPatternModel → ℕ → Module → Module → Type 0
 LeadsBy ts zero m n = m ≡ n
-LeadsBy ts (suc k) m n = (t : RuleOrPatternModel) × In t ts × (x : ℕ) × (p : Module) × (attempted t m x ≡ becomes p) × LeadsBy ts k p n
+LeadsBy ts (suc k) m n = (t : RuleOrPatternModel) × In t ts × (x : ℕ) × (p : Module) × (rewrite_by_entry t m x ≡ becomes p) × LeadsBy ts k p n
 
 -- a rule or a pattern keeps modules ready and refines what they compute; each item of a list does
-abbrev pub AttemptKeeps : RuleOrPatternModel → Type 0
-AttemptKeeps (OfRule r) = KeepsReady r × KeepsComputing r
-AttemptKeeps (OfOwn p) = KeepsReadyOwn p × KeepsComputingOwn p
+abbrev pub PatternKeeps : RuleOrPatternModel → Type 0
+PatternKeeps (OfRule r) = KeepsReady r × KeepsComputing r
+PatternKeeps (OfUserPattern p) = KeepsReadyUserPattern p × KeepsComputingUserPattern p
 
-abbrev pub AllAttemptsKeep : List RuleOrPatternModel → Type 0
-AllAttemptsKeep ts = (t : RuleOrPatternModel) → In t ts → AttemptKeeps t
+abbrev pub AllPatternsKeep : List RuleOrPatternModel → Type 0
+AllPatternsKeep ts = (t : RuleOrPatternModel) → In t ts → PatternKeeps t
 
 -- module n is ready, and for all outcomes with which m computes there are outcomes with which n computes that refine
 -- them
@@ -37,13 +37,13 @@ KeptThrough m n = IsReady n × (m.next ≤ n.next) × ((a : Assignment) (done : 
 
 -- a run of such rules and patterns refines
 abbrev pub RuleListRunsKeep : Type 0
-RuleListRunsKeep = (ts : List RuleOrPatternModel) → AllAttemptsKeep ts → (k : ℕ) (m n : Module) → IsReady m → LeadsBy ts k m n → KeptThrough m n
+RuleListRunsKeep = (ts : List RuleOrPatternModel) → AllPatternsKeep ts → (k : ℕ) (m n : Module) → IsReady m → LeadsBy ts k m n → KeptThrough m n
 
 -- rewriting by a list of them refines, up to a limit or to its end
 abbrev pub RuleListRewritingKeeps : Type 0
 RuleListRewritingKeeps =
-    (ts : List RuleOrPatternModel) → AllAttemptsKeep ts → (limit : ℕ) (m n : Module) (k : ℕ) (e : End) → IsReady m
-    → rewriting_of (by_attempts ts) limit m ≡ ended n k e → KeptThrough m n
+    (ts : List RuleOrPatternModel) → AllPatternsKeep ts → (limit : ℕ) (m n : Module) (k : ℕ) (e : End) → IsReady m
+    → rewriting_of (pattern_set_from ts) limit m ≡ ended n k e → KeptThrough m n
 
 -- ---- rules and patterns that refine
 
@@ -58,8 +58,8 @@ pub record HoldsForAllWidths (p : PatternModel) : Type 0 where
 -- a listed rule, or such a pattern
 abbrev pub IsShown : RuleOrPatternModel → Type 0
 IsShown (OfRule r) = In r kept_rules
-IsShown (OfOwn p) = HoldsForAllWidths p
+IsShown (OfUserPattern p) = HoldsForAllWidths p
 
 -- each list of them consists of rules and patterns that keep modules ready and refine
 abbrev pub ShownAreKept : Type 0
-ShownAreKept = (ts : List RuleOrPatternModel) → ((t : RuleOrPatternModel) → In t ts → IsShown t) → AllAttemptsKeep ts
+ShownAreKept = (ts : List RuleOrPatternModel) → ((t : RuleOrPatternModel) → In t ts → IsShown t) → AllPatternsKeep ts

@@ -23,7 +23,7 @@ use Rattle.user_patterns_data.specs.WellFormed.{is_well_formed}
 use Rattle.user_patterns_widths.specs.AllWidths.{first_type, holds_at_all_widths, is_variable_type}
 use Rattle.user_patterns_widths.specs.Lasting.{RefinesAtAllWidths}
 use Rattle.user_patterns_build.specs.CanBuild.{can_build}
-use Rattle.user_patterns_apply.specs.Own.{own_rewrite}
+use Rattle.user_patterns_apply.specs.Own.{user_pattern_rewrite}
 use Rattle.patterns_refinement.specs.Meaning.{Assignment}
 use Rattle.patterns_refinement.specs.Applied.{IsProper, is_typed}
 use Rattle.patterns_refinement.specs.Keeping.{Computing, Improves, IsReady, done_after}
@@ -31,15 +31,15 @@ use Rattle.patterns_refinement.specs.Keeping.{Computing, Improves, IsReady, done
 -- ---- claims
 
 -- pattern p rewrites a ready module to a ready module
-abbrev pub KeepsReadyOwn : PatternModel → Type 0
-KeepsReadyOwn p = (m n : Module) (x : ℕ) → IsReady m → own_rewrite p m x ≡ becomes n → IsReady n
+abbrev pub KeepsReadyUserPattern : PatternModel → Type 0
+KeepsReadyUserPattern p = (m n : Module) (x : ℕ) → IsReady m → user_pattern_rewrite p m x ≡ becomes n → IsReady n
 
 -- for all outcomes with which the module computes, the rewritten module computes a refinement, whether the operation
 -- at which the pattern is applied is executed or not
-abbrev pub KeepsComputingOwn : PatternModel → Type 0
-KeepsComputingOwn p =
+abbrev pub KeepsComputingUserPattern : PatternModel → Type 0
+KeepsComputingUserPattern p =
     (m n : Module) (x : ℕ) (a : Assignment) (done : ℕ → Bool) → IsReady m → Computing a done m.tree
-    → own_rewrite p m x ≡ becomes n → Improves a done m (done_after m.next x done) n.tree
+    → user_pattern_rewrite p m x ≡ becomes n → Improves a done m (done_after m.next x done) n.tree
 
 -- ---- strict patterns
 
@@ -99,7 +99,7 @@ is_strict p = is_strict_at p (first_type p.old)
 
 -- such a pattern that refines at all types refines what modules compute
 abbrev pub StrictKeep : Type 0
-StrictKeep = (p : PatternModel) → is_strict p ≡ true → IsProper p → RefinesAtAllWidths p → KeepsReadyOwn p × KeepsComputingOwn p
+StrictKeep = (p : PatternModel) → is_strict p ≡ true → IsProper p → RefinesAtAllWidths p → KeepsReadyUserPattern p × KeepsComputingUserPattern p
 
 -- the same for a pattern that a check found to hold up to some width, and whose sides are one polynomial or are
 -- computed bit by bit: at all widths, and for `index`
@@ -107,7 +107,7 @@ abbrev pub HoldingKeep : Type 0
 HoldingKeep =
     (p : PatternModel) → holds_at_all_widths p ≡ true → IsProper p
     → (most : ℕ) → 1 ≤ most → IsVerdict (content_at p) p.types most verdict.Holds
-    → KeepsReadyOwn p × KeepsComputingOwn p
+    → KeepsReadyUserPattern p × KeepsComputingUserPattern p
 
 -- the same for a pattern of a registry that `check` called `holds` without a width; a registry ensures the other
 -- premises, that the pattern is well-formed and can be built
@@ -115,4 +115,4 @@ abbrev pub RegisteredKeep : Type 0
 RegisteredKeep =
     (p : PatternModel) → is_well_formed p ≡ true → can_build p ≡ true → holds_at_all_widths p ≡ true
     → (most : ℕ) → 1 ≤ most → IsVerdict (content_at p) p.types most verdict.Holds
-    → KeepsReadyOwn p × KeepsComputingOwn p
+    → KeepsReadyUserPattern p × KeepsComputingUserPattern p

@@ -12,7 +12,7 @@ use Rattle.user_patterns_data.specs.declared.pattern.Expression.TheVariants as f
 use Rattle.user_patterns_data.specs.declared.pattern.PatternType.TheVariants as ty
 use Rattle.user_patterns_data.specs.Shapes.{PatternModel}
 use Rattle.user_patterns_widths.specs.AllWidths.{is_bit_by_bit, is_one_polynomial}
-use Rattle.user_patterns_apply.specs.Own.{own_rewrite}
+use Rattle.user_patterns_apply.specs.Own.{user_pattern_rewrite}
 use Rattle.patterns_refinement.specs.Meaning.{Assignment}
 use Rattle.patterns_refinement.specs.Applied.{IsProper}
 use Rattle.patterns_refinement.specs.Keeping.{Computing, IsReady}
@@ -82,4 +82,4 @@ poisoned (Arg x r k) = None
 
 -- the module is ready and computes with these outcomes, and the pattern applies
 abbrev pub SampleIsReady : Type 0
-SampleIsReady = IsReady crossed × Computing poisoned all_done crossed.tree × (own_rewrite (undone way.ExclusiveOr way.ExclusiveOr) crossed 4 ≡ becomes uncrossed)
+SampleIsReady = IsReady crossed × Computing poisoned all_done crossed.tree × (user_pattern_rewrite (undone way.ExclusiveOr way.ExclusiveOr) crossed 4 ≡ becomes uncrossed)

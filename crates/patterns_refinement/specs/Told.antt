@@ -26,16 +26,16 @@ AllBy rs (f ∷ fs) = IsBy rs f.by × AllBy rs fs
 
 -- rewriting by rules refines what a module computes if each rewrite of the trace is by a rule that refines, whatever
 -- other rules are in the list
-abbrev pub ToldRewritingKeeps : Type 0
-ToldRewritingKeeps =
+abbrev pub TracedRewritingKeeps : Type 0
+TracedRewritingKeeps =
     (rs candidates : List Rule) → AllKeep rs → (limit : ℕ) (m n : Module) (k : ℕ) (e : End) → IsReady m
     → rewriting_of (by_rules candidates) limit m ≡ ended n k e → AllBy rs (trace_of (by_rules candidates) limit m)
     → IsReady n × (m.next ≤ n.next)
     × ((a : Assignment) (done : ℕ → Bool) → Computing a done m.tree → ComputesThrough a done m n)
 
 -- the same for canonicalization, if each rewrite is by a listed rule
-abbrev pub ToldCanonicalizationKeeps : Type 0
-ToldCanonicalizationKeeps =
+abbrev pub TracedCanonicalizationKeeps : Type 0
+TracedCanonicalizationKeeps =
     (limit : ℕ) (m n : Module) (k : ℕ) (e : End) → IsReady m → canonicalization_of limit m ≡ ended n k e
     → AllBy kept_rules (trace_of (by_rules greedy_rules) limit m)
     → IsReady n × (m.next ≤ n.next)

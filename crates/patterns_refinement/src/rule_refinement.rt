@@ -16,7 +16,7 @@ ghost use Rattle.patterns_refinement.specs.Observing.{ShownWereThere};
 ghost use Rattle.patterns_refinement.specs.ObservingSamples.{AreRefused};
 ghost use Rattle.patterns_refinement.specs.Remainders.{ExpandsRemainders};
 ghost use Rattle.patterns_refinement.specs.Runs.{KeptAreKept, RewritingKeeps, RunsKeep};
-ghost use Rattle.patterns_refinement.specs.Told.{ToldCanonicalizationKeeps, ToldRewritingKeeps};
+ghost use Rattle.patterns_refinement.specs.Told.{TracedCanonicalizationKeeps, TracedRewritingKeeps};
 
 use greedy::laws::rewriting_by_its_rules_is_canonicalization;
 use patterns_base::laws::only_listed_rules_apply;
@@ -257,8 +257,8 @@ pub fn canonicalization_keeps_what_is_computed()
 /// Rewriting by rules refines what a module computes, if each rewrite of its trace is by a rule that refines. The same
 /// holds for canonicalization, if each rewrite of its trace is by a listed rule.
 pub fn traced_rewrites_refine()
-    ensures rewriting { ToldRewritingKeeps }
-    ensures canonicalization { ToldCanonicalizationKeeps }
+    ensures rewriting { TracedRewritingKeeps }
+    ensures canonicalization { TracedCanonicalizationKeeps }
 {
     no_edit_is_refused();
     rewriting_by_its_rules_is_canonicalization();

@@ -10,7 +10,7 @@ use Rattle.ir_event.specs.trees.Tree.{HeadOf, OpOf, op, block, OpsOf, no_ops, ne
 use Rattle.ir_event.specs.trees.Ids.{HasDistinctIds, find, has_id}
 use Rattle.ir_event.specs.trees.Frames.{owner_of}
 use Rattle.ir_event.specs.trees.Sites.{arguments, shows, results_of, visible}
-use Rattle.ir_event.specs.tree_laws.Stands.{StepOf, StandOf, gone_in, stand_id, stands, dominated_by}
+use Rattle.ir_event.specs.tree_laws.Stands.{StepOf, OpWithPathOf, gone_in, op_with_path_id, stands, dominated_by}
 use Rattle.ir_event.specs.tree_laws.Members.{In}
 use Rattle.ir_event.specs.tree_laws.Values.{region_at}
 use Rattle.ir_event.proofs.of_tree_laws.Listed.{bool_cases, both, either, in_right, one_any, or_left, or_right}
@@ -33,7 +33,7 @@ cancelled (u ∷ us) xs ys e = cancelled us xs ys cc
 
 module _ {N T A : Type 0} where
   -- an operation inside another, at the same depth, is that operation
-  pub own_depth : (p : List (StepOf N T A)) (o : OpOf N T A) (u : StandOf N T A) → In u (stands p o) → length u.path ≡ length p → u ≡ stand o p
+  pub own_depth : (p : List (StepOf N T A)) (o : OpOf N T A) (u : OpWithPathOf N T A) → In u (stands p o) → length u.path ≡ length p → u ≡ stand o p
   own_depth p o u h e = elim (has_around p o u h) [
     | inl k ↦ k
     | inr w ↦ (let l = deeper p o (stand w.0.parent w.1) w.4 in let f = ap length w.2 in absurd (omega (arith, l, f, e)))
@@ -72,8 +72,8 @@ module _ {N T A : Type 0} where
           let is : e.first ≡ o = cc in
           let u = present_stand (g.step_in ∷ e.path) e.first b (ap (has_id b) is ∙ k) in
           let same = same_stand t d u.0 (stand e.here (e.step_in ∷ e.path)) (within e.first (g.step_in ∷ e.path) u.0 u.1 [] t g.there) e.there (u.2 ∙ sym e.id) in
-          let deep = own_depth (g.step_in ∷ e.path) e.first u.0 u.1 (ap (λ (z : StandOf N T A). length z.path) same) in
-          let paths : g.step_in ∷ e.path ≡ e.step_in ∷ e.path = ap (λ (z : StandOf N T A). z.path) (sym deep ∙ same) in
+          let deep = own_depth (g.step_in ∷ e.path) e.first u.0 u.1 (ap (λ (z : OpWithPathOf N T A). length z.path) same) in
+          let paths : g.step_in ∷ e.path ≡ e.step_in ∷ e.path = ap (λ (z : OpWithPathOf N T A). z.path) (sym deep ∙ same) in
           let steps : g.step_in ≡ e.step_in = cc in
           let l = ap (λ (s : StepOf N T A). length s.preceding) steps in
           let n = ap length g.preceding in
@@ -92,7 +92,7 @@ module _ {N T A : Type 0} where
           let w = around_there t o a q h in
           let u = present_stand zp z (head a.parent).id e in
           let same = same_stand t d u.0 (stand a.parent q) (within z zp u.0 u.1 [] t there) w.1 u.2 in
-          stand_present zp z (stand o (a ∷ q)) (within a.parent q (stand o (a ∷ q)) w.0 zp z (subst (λ (k : StandOf N T A). In k (stands zp z)) same u.1))
+          stand_present zp z (stand o (a ∷ q)) (within a.parent q (stand o (a ∷ q)) w.0 zp z (subst (λ (k : OpWithPathOf N T A). In k (stands zp z)) same u.1))
 
       -- an operation dominated by an argument of z is inside z
       pub argument_within : (isolated : N → Bool) (o : OpOf N T A) (p : List (StepOf N T A)) → In (stand o p) (stands [] t) → (r k : ℕ) → dominated_by isolated p (Arg (head z).id r k) ≡ true → has_id (head o).id z ≡ true
@@ -122,7 +122,7 @@ module _ {N T A : Type 0} where
             let g = stands_before t w f.0 a q h f.1 in
             let id = eqb-true (head z).id (head f.0).id (both (eqb (head z).id (head f.0).id) _ f.2).0 in
             let same = same_stand t d (stand f.0 (g.step_in ∷ q)) (stand z (step xo r args us (joined_ops vs no_ops) ∷ xp)) g.there (one_stands us vs z parts) (sym id) in
-            let paths : g.step_in ∷ q ≡ step xo r args us (joined_ops vs no_ops) ∷ xp = ap (λ (s : StandOf N T A). s.path) same in
+            let paths : g.step_in ∷ q ≡ step xo r args us (joined_ops vs no_ops) ∷ xp = ap (λ (s : OpWithPathOf N T A). s.path) same in
             let steps : g.step_in ≡ step xo r args us (joined_ops vs no_ops) = cc in
             let its : a.preceding ≡ us ++ z ∷ g.between = g.preceding ∙ (λ i. (steps i).preceding ++ (same i).here ∷ g.between) in
             let blocks : Some (block a.args (joined_ops a.preceding (next w a.rest))) ≡ Some (block args (joined_ops all no_ops)) =
@@ -178,7 +178,7 @@ module _ {N T A : Type 0} where
   sibling_inside t d p r a b s e =
       let g = stands_before t e.here e.first e.step_in e.path e.there e.among in
       let same = same_stand t d (stand s.here (s.step_in ∷ s.path)) (stand e.here (e.step_in ∷ e.path)) s.there e.there (s.id ∙ sym e.id) in
-      let paths : s.step_in ∷ s.path ≡ e.step_in ∷ e.path = ap (λ (z : StandOf N T A). z.path) same in
+      let paths : s.step_in ∷ s.path ≡ e.step_in ∷ e.path = ap (λ (z : OpWithPathOf N T A). z.path) same in
       let steps : s.step_in ≡ e.step_in = cc in
       record {
         here = e.first;
@@ -195,7 +195,7 @@ module _ {N T A : Type 0} where
   not_root t d o a q h = elim (bool_cases (eqb (head t).id (head o).id)) [
     | inr k ↦ k
     | inl k ↦ (let same = same_stand t d (stand t []) (stand o (a ∷ q)) (itself [] t) h (eqb-true (head t).id (head o).id k) in
-        let bad : [] ≡ a ∷ q = ap (λ (z : StandOf N T A). z.path) same in
+        let bad : [] ≡ a ∷ q = ap (λ (z : OpWithPathOf N T A). z.path) same in
         absurd cc)
   ]
 
@@ -204,7 +204,7 @@ module _ {N T A : Type 0} where
   not_parent x preceding t d s = elim (bool_cases (eqb x preceding.parent)) [
     | inr k ↦ k
     | inl k ↦ (let same = same_stand t d (stand s.here (s.step_in ∷ s.path)) (stand s.step_in.parent s.path) s.there (around_there t s.here s.step_in s.path s.there).1 (s.id ∙ eqb-true x preceding.parent k ∙ ap (λ (p : Place). p.parent) s.place) in
-        let l = ap (λ (z : StandOf N T A). length z.path) same in
+        let l = ap (λ (z : OpWithPathOf N T A). length z.path) same in
         absurd (omega (arith, l)))
   ]
 
@@ -234,7 +234,7 @@ module _ {N T A : Type 0} where
       gone : (p : OpOf N T A) (q : List (StepOf N T A)) → In (stand p q) (stands [] t) → (head p).id ≡ y → eqb (head t).id y ≡ false → gone_in y p q ≡ true
       gone p [] h e root =
           (let same : stand p [] ≡ stand t [] = at_top (has_around [] t (stand p []) h) in
-          absurd (true≢false (sym (eq-eqb (head t).id y (ap (λ (k : StandOf N T A). stand_id k) (sym same) ∙ e)) ∙ root)))
+          absurd (true≢false (sym (eq-eqb (head t).id y (ap (λ (k : OpWithPathOf N T A). op_with_path_id k) (sym same) ∙ e)) ∙ root)))
         where
           at_top : (stand p [] ≡ stand t []) ⊎ HasAround (stand p []) (stands [] t) → stand p [] ≡ stand t []
           at_top (inl k) = k

@@ -21,8 +21,8 @@ use Rattle.ir_event.specs.trees.Meaning.{Operation}
 use Rattle.ir_event.proofs.of_trees.Heads.{head_find}
 use Rattle.ir_event.proofs.of_trees.Replaced.{old_unused, others_stay, same_value_refl, same_value_true}
 use Rattle.ir_event.specs.tree_laws.Members.{In}
-use Rattle.ir_event.specs.tree_laws.Reasons.{users_see}
-use Rattle.ir_event.specs.tree_laws.Stands.{StandOf, StepOf, edit_stand, dominated_by as dominated_by_from, stand_id, stands}
+use Rattle.ir_event.specs.tree_laws.Reasons.{is_visible_to_users}
+use Rattle.ir_event.specs.tree_laws.Stands.{OpWithPathOf, StepOf, edit_stand, dominated_by as dominated_by_from, op_with_path_id, stands}
 use Rattle.ir_event.specs.tree_laws.Values.{arguments_at, arguments_of, region_at, type_of_value}
 use Rattle.ir_event.proofs.of_tree_laws.Around.{around_there}
 use Rattle.ir_event.proofs.of_tree_laws.HeadForm.{edit_ids, in_gather, replaced_keeps, used_here}
@@ -60,16 +60,16 @@ module _ {N T A : Type 0} (isolated : N → Bool) (t : OpOf N T A) (d : HasDisti
     | inr m ↦ or_right (list_any (λ f. shows v (results_of f)) a.preceding) _ (or_right (shows v (arguments (head a.parent).id a.region (length a.args))) _ (elim (either (shows (Arg (head o).id r k) (arguments (head a.parent).id a.region (length a.args))) _ m) [
       | inl l ↦ (let id = eqb-true (head o).id (head a.parent).id (both (eqb (head o).id (head a.parent).id) _ l).0 in
           let same = same_stand t d (stand o p) (stand a.parent q) there (around_there t u a q h).1 id in
-          both_hold _ _ (ap (λ (z : StandOf N T A). not (isolated (head z.here).name)) (sym same) ∙ ap not opened) (ap (λ (z : StandOf N T A). dominated_by_from isolated z.path v) (sym same) ∙ s))
+          both_hold _ _ (ap (λ (z : OpWithPathOf N T A). not (isolated (head z.here).name)) (sym same) ∙ ap not opened) (ap (λ (z : OpWithPathOf N T A). dominated_by_from isolated z.path v) (sym same) ∙ s))
       | inr l ↦ (let b = both (not (isolated (head a.parent).name)) (dominated_by_from isolated q (Arg (head o).id r k)) l in
           both_hold _ _ b.0 (inside_dominated_by a.parent q (around_there t u a q h).1 r k b.1 v s))
     ]))
   ]
 
-  users_inside : operands_visible isolated t ≡ true → (r k : ℕ) (v : Value) → dominated_by_from isolated p v ≡ true → users_see isolated (Arg (head o).id r k) v t ≡ true
+  users_inside : operands_visible isolated t ≡ true → (r k : ℕ) (v : Value) → dominated_by_from isolated p v ≡ true → is_visible_to_users isolated (Arg (head o).id r k) v t ≡ true
   users_inside wellformed r k v e = each_all (λ u. visible isolated t u.0 v) (uses_of (Arg (head o).id r k) t) (λ u h.
       let s = user (Arg (head o).id r k) t u h in
-      let own = all_each (dominated_by_from isolated s.0.path) (head s.0.here).operands (all_each (λ (z : StandOf N T A). list_all (dominated_by_from isolated z.path) (head z.here).operands) (stands [] t) (sym (stands_operands isolated t) ∙ wellformed) s.0 s.1) (Arg (head o).id r k) s.3 in
+      let own = all_each (dominated_by_from isolated s.0.path) (head s.0.here).operands (all_each (λ (z : OpWithPathOf N T A). list_all (dominated_by_from isolated z.path) (head z.here).operands) (stands [] t) (sym (stands_operands isolated t) ∙ wellformed) s.0 s.1) (Arg (head o).id r k) s.3 in
       ap (λ z. visible isolated t z v) s.2 ∙ visible_there isolated t d s.0 s.1 v ∙ inside_dominated_by s.0.here s.0.path s.1 r k own v e)
 
 -- a block in a tree with heads changed
@@ -119,21 +119,21 @@ module _ (a v : Value) (t : Operation) where
   pub replaced_uses : (w : Value) (u : ℕ × ℕ) → In u (uses_of w (with_value_replaced a v t)) → (e : ℕ × ℕ) × (e.0 ≡ u.0) × (In e (uses_of w t) ⊎ In e (uses_of a t))
   replaced_uses w u h =
       let s = user w (with_value_replaced a v t) u h in
-      let m = in_mapped (edit_stand (put_values a v)) s.0 (stands [] t) (subst (λ (k : List (StandOf (List ℕ) TypeTerm AttrTerm)). In s.0 k) (each_stands (put_values a v) [] t) s.1) in
-      let i : In w (map (put_value a v) (head m.0.here).operands) = subst (λ (z : Header). In w z.operands) (head_of m.0.here) (subst (λ (z : StandOf (List ℕ) TypeTerm AttrTerm). In w (head z.here).operands) m.2 s.3) in
+      let m = in_mapped (edit_stand (put_values a v)) s.0 (stands [] t) (subst (λ (k : List (OpWithPathOf (List ℕ) TypeTerm AttrTerm)). In s.0 k) (each_stands (put_values a v) [] t) s.1) in
+      let i : In w (map (put_value a v) (head m.0.here).operands) = subst (λ (z : Header). In w z.operands) (head_of m.0.here) (subst (λ (z : OpWithPathOf (List ℕ) TypeTerm AttrTerm). In w (head z.here).operands) m.2 s.3) in
       let p = in_mapped (put_value a v) w (head m.0.here).operands i in
-      let id : stand_id m.0 ≡ u.0 = sym (ap (λ (h : Header). h.id) (head_of m.0.here)) ∙ ap (λ (z : StandOf (List ℕ) TypeTerm AttrTerm). stand_id z) (sym m.2) ∙ sym s.2 in
+      let id : op_with_path_id m.0 ≡ u.0 = sym (ap (λ (h : Header). h.id) (head_of m.0.here)) ∙ ap (λ (z : OpWithPathOf (List ℕ) TypeTerm AttrTerm). op_with_path_id z) (sym m.2) ∙ sym s.2 in
       go m.0 m.1 id p.0 p.1 (same_value a p.0) refl p.2
     where
       head_of : (o : Operation) → head (each_head (put_values a v) o) ≡ put_values a v (head o)
       head_of (op h rs) = refl
 
-      used_at : (s : StandOf (List ℕ) TypeTerm AttrTerm) → In s (stands [] t) → (q : Value) → In q (head s.here).operands → (e : ℕ × ℕ) × (e.0 ≡ stand_id s) × In e (uses_of q t)
+      used_at : (s : OpWithPathOf (List ℕ) TypeTerm AttrTerm) → In s (stands [] t) → (q : Value) → In q (head s.here).operands → (e : ℕ × ℕ) × (e.0 ≡ op_with_path_id s) × In e (uses_of q t)
       used_at s h q i =
-          let n = used_here q (stand_id s) 0 (head s.here).operands q i (same_value_refl q) in
-          ((stand_id s, n.0), refl, subst (In (stand_id s, n.0)) (stands_uses q [] t) (in_gather (λ (z : StandOf (List ℕ) TypeTerm AttrTerm). operand_uses q (stand_id z) 0 (head z.here).operands) (stand_id s, n.0) s (stands [] t) h n.1))
+          let n = used_here q (op_with_path_id s) 0 (head s.here).operands q i (same_value_refl q) in
+          ((op_with_path_id s, n.0), refl, subst (In (op_with_path_id s, n.0)) (stands_uses q [] t) (in_gather (λ (z : OpWithPathOf (List ℕ) TypeTerm AttrTerm). operand_uses q (op_with_path_id z) 0 (head z.here).operands) (op_with_path_id s, n.0) s (stands [] t) h n.1))
 
-      go : (s : StandOf (List ℕ) TypeTerm AttrTerm) → In s (stands [] t) → stand_id s ≡ u.0 → (q : Value) → In q (head s.here).operands → (b : Bool) → same_value a q ≡ b → w ≡ cond (same_value a q) v q → (e : ℕ × ℕ) × (e.0 ≡ u.0) × (In e (uses_of w t) ⊎ In e (uses_of a t))
+      go : (s : OpWithPathOf (List ℕ) TypeTerm AttrTerm) → In s (stands [] t) → op_with_path_id s ≡ u.0 → (q : Value) → In q (head s.here).operands → (b : Bool) → same_value a q ≡ b → w ≡ cond (same_value a q) v q → (e : ℕ × ℕ) × (e.0 ≡ u.0) × (In e (uses_of w t) ⊎ In e (uses_of a t))
       go s h id q i true e f = (let k = used_at s h q i in (k.0, k.1 ∙ id, inr (subst (λ z. In k.0 (uses_of z t)) (sym (same_value_true a q e)) k.2)))
       go s h id q i false e f = (let k = used_at s h q i in (k.0, k.1 ∙ id, inl (subst (λ z. In k.0 (uses_of z t)) (sym (f ∙ ap (λ b. cond b v q) e)) k.2)))
 
@@ -175,8 +175,8 @@ module _ (x : ℕ) (insertion : Place) (args : List TypeTerm) (held : List ℕ) 
         sym (visible_there is_isolated m.tree h.located.wellformed.distinct (stand h.located.at.here (h.located.at.step_in ∷ h.located.at.path)) h.located.at.there v)
         ∙ ap (λ z. visible is_isolated m.tree z v) h.located.at.id ∙ seen
 
-    users : users_see is_isolated (Arg x 0 n) v m.tree ≡ true
-    users = subst (λ z. users_see is_isolated (Arg z 0 n) v m.tree ≡ true) h.located.at.id
+    users : is_visible_to_users is_isolated (Arg x 0 n) v m.tree ≡ true
+    users = subst (λ z. is_visible_to_users is_isolated (Arg z 0 n) v m.tree ≡ true) h.located.at.id
         (users_inside is_isolated m.tree h.located.wellformed.distinct h.located.at.here (h.located.at.step_in ∷ h.located.at.path) h.located.at.there h.opened h.located.wellformed.wellformed.visible 0 n v from_there)
 
     differs : (k : ℕ) → same_value (Arg x 0 k) v ≡ false

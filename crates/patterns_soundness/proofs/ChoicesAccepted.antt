@@ -17,7 +17,7 @@ use Rattle.ir_event.specs.trees.WellFormed.{IsWellFormed}
 use Rattle.ir_event.proofs.of_trees.Replaced.{same_value_refl, same_value_true}
 use Rattle.ir_event.specs.tree_laws.Members.{In}
 use Rattle.ir_event.specs.tree_laws.Reasons.{has_place, hold_none, with_id}
-use Rattle.ir_event.specs.tree_laws.Stands.{StandOf, StepOf, stand_id, stands}
+use Rattle.ir_event.specs.tree_laws.Stands.{OpWithPathOf, StepOf, op_with_path_id, stands}
 use Rattle.ir_event.specs.tree_laws.Values.{arguments_at, arguments_of, has_value, region_at, type_of_value}
 use Rattle.ir_event.proofs.of_tree_laws.HeadForm.{in_gather, used_here}
 use Rattle.ir_event.proofs.of_tree_laws.Listed.{in_right}
@@ -48,13 +48,13 @@ use Rattle.patterns_soundness.proofs.Steps.{Across, Fit}
 use Rattle.patterns_soundness.proofs.Within as within_y
 use Rattle.ir_event.proofs.Facts.{own_id}
 
-abbrev Stand : Type 0
-Stand = StandOf (List ℕ) TypeTerm AttrTerm
+abbrev OpWithPath : Type 0
+OpWithPath = OpWithPathOf (List ℕ) TypeTerm AttrTerm
 
-pub used_value : (t : Operation) (s : Stand) → In s (stands [] t) → (v : Value) → In v (head s.here).operands → uses_of v t ≡ [] → ⊥
+pub used_value : (t : Operation) (s : OpWithPath) → In s (stands [] t) → (v : Value) → In v (head s.here).operands → uses_of v t ≡ [] → ⊥
 used_value t s h v i none =
-    let n = used_here v (stand_id s) 0 (head s.here).operands v i (same_value_refl v) in
-    subst (In (stand_id s, n.0)) (stands_uses v [] t ∙ none) (in_gather (λ (z : Stand). operand_uses v (stand_id z) 0 (head z.here).operands) (stand_id s, n.0) s (stands [] t) h n.1)
+    let n = used_here v (op_with_path_id s) 0 (head s.here).operands v i (same_value_refl v) in
+    subst (In (op_with_path_id s, n.0)) (stands_uses v [] t ∙ none) (in_gather (λ (z : OpWithPath). operand_uses v (op_with_path_id z) 0 (head z.here).operands) (op_with_path_id s, n.0) s (stands [] t) h n.1)
 
 -- a cast uses only its operand
 pub cast_uses : (n : ℕ) (ty : TypeTerm) (v u : Value) → same_value u v ≡ false → uses_of u (with_id n (bridge ty v)) ≡ []

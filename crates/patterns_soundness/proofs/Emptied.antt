@@ -14,7 +14,7 @@ use Rattle.ir_event.specs.trees.Sites.{arguments, shows}
 use Rattle.ir_event.specs.trees.Uses.{operand_uses, uses_of}
 use Rattle.ir_event.specs.trees.Meaning.{Operation}
 use Rattle.ir_event.proofs.of_trees.Replaced.{same_value_refl}
-use Rattle.ir_event.specs.tree_laws.Stands.{StandOf, stand_id, stands, dominated_by as dominated_by_from}
+use Rattle.ir_event.specs.tree_laws.Stands.{OpWithPathOf, op_with_path_id, stands, dominated_by as dominated_by_from}
 use Rattle.ir_event.specs.tree_laws.Members.{In}
 use Rattle.ir_event.specs.tree_laws.Values.{region_at, type_of_value}
 use Rattle.ir_event.proofs.of_tree_laws.HeadForm.{in_gather, used_here}
@@ -40,8 +40,8 @@ use Rattle.patterns_soundness.proofs.Shifts.{moved_heads, moved_types}
 use Rattle.patterns_soundness.proofs.Points.{Point, here_is, own_operand, stands_there}
 use Rattle.std.proofs.lemmas.Option.{same_Some}
 
-abbrev Stand : Type 0
-Stand = StandOf (List ℕ) TypeTerm AttrTerm
+abbrev OpWithPath : Type 0
+OpWithPath = OpWithPathOf (List ℕ) TypeTerm AttrTerm
 
 -- if one operation is left in a block, no value of the block dominates it, so the values that dominate it dominate the
 -- operation around it
@@ -53,8 +53,8 @@ module _ (x r : ℕ) (insertion : Place) (y : ℕ) (m : Module) (h : HasFirst x 
     unused_argument : (k : ℕ) → In (Arg x r k) (head o).operands → ⊥
     unused_argument k i =
         let s = stand o (step h.located.at.here r h.args [] os ∷ h.located.at.step_in ∷ h.located.at.path) in
-        let n = used_here (Arg x r k) (stand_id s) 0 (head o).operands (Arg x r k) i (same_value_refl (Arg x r k)) in
-        subst (In (stand_id s, n.0)) (stands_uses (Arg x r k) [] m.tree ∙ h.spared k) (in_gather (λ (z : Stand). operand_uses (Arg x r k) (stand_id z) 0 (head z.here).operands) (stand_id s, n.0) s (stands [] m.tree) there_it n.1)
+        let n = used_here (Arg x r k) (op_with_path_id s) 0 (head o).operands (Arg x r k) i (same_value_refl (Arg x r k)) in
+        subst (In (op_with_path_id s, n.0)) (stands_uses (Arg x r k) [] m.tree ∙ h.spared k) (in_gather (λ (z : OpWithPath). operand_uses (Arg x r k) (op_with_path_id z) 0 (head z.here).operands) (op_with_path_id s, n.0) s (stands [] m.tree) there_it n.1)
 
     no_argument : (v : Value) → In v (head o).operands → shows v (arguments (head h.located.at.here).id r (length h.args)) ≡ true → ⊥
     no_argument (Result z k) i e = absurd cc

@@ -12,7 +12,7 @@ use Rattle.ir_event.specs.trees.Places.{without}
 use Rattle.ir_event.specs.trees.Uses.{uses_of}
 use Rattle.ir_event.specs.trees.Meaning.{Operation}
 use Rattle.ir_event.specs.trees.WellFormed.{IsWellFormed}
-use Rattle.ir_event.specs.tree_laws.Stands.{StandOf, StepOf, stands}
+use Rattle.ir_event.specs.tree_laws.Stands.{OpWithPathOf, StepOf, stands}
 use Rattle.ir_event.specs.tree_laws.Members.{In}
 use Rattle.ir_event.proofs.of_tree_laws.Around.{present_stand, stand_present}
 use Rattle.ir_event.proofs.of_tree_laws.Edited.{dominance_stays, taken_op_count, taken_uses}
@@ -31,8 +31,8 @@ use Rattle.patterns_soundness.proofs.NearAccepted.{erase_wellformed, erase_reaso
 use Rattle.patterns_soundness.proofs.Ordered.{Before, Inside, before_both, there_left}
 use Rattle.patterns_soundness.proofs.Replacing.{Holder, Near, holder_kept, near_kept}
 
-abbrev Stand : Type 0
-Stand = StandOf (List ℕ) TypeTerm AttrTerm
+abbrev OpWithPath : Type 0
+OpWithPath = OpWithPathOf (List ℕ) TypeTerm AttrTerm
 
 module _ (t : Operation) (d : HasDistinctIds t) where
   -- of two operations before y, neither is inside the other
@@ -46,10 +46,10 @@ module _ (t : Operation) (d : HasDistinctIds t) where
         let both_y = same_stand t d (stand e.here (e.step_in ∷ e.path)) (stand f.here (f.step_in ∷ f.path)) e.there f.there (e.id ∙ sym f.id) in
         let u = present_stand (g.step_in ∷ e.path) e.first b (ap (has_id b) is ∙ k) in
         let same = same_stand t d u.0 (stand f.first (h.step_in ∷ f.path)) (within e.first (g.step_in ∷ e.path) u.0 u.1 [] t g.there) h.there (u.2 ∙ sym f.is) in
-        let n1 = ap (λ (z : Stand). length z.path) same in
-        let n2 = ap (λ (z : Stand). length z.path) both_y in
+        let n1 = ap (λ (z : OpWithPath). length z.path) same in
+        let n2 = ap (λ (z : OpWithPath). length z.path) both_y in
         let deep = own_depth (g.step_in ∷ e.path) e.first u.0 u.1 (omega (arith, n1, n2)) in
-        let id : a ≡ b = sym e.is ∙ ap (λ (z : Stand). (head z.here).id) (sym deep) ∙ u.2 in
+        let id : a ≡ b = sym e.is ∙ ap (λ (z : OpWithPath). (head z.here).id) (sym deep) ∙ u.2 in
         absurd (true≢false (sym (eq-eqb a b id) ∙ other)))
   ]
 
@@ -60,8 +60,8 @@ module _ (t : Operation) (d : HasDistinctIds t) where
     | inl k ↦ (let u = present_stand p o l k in
         let same = same_stand t d u.0 (stand e.here (e.step_in ∷ e.path)) (within o p u.0 u.1 [] t there) e.there (u.2 ∙ sym e.id) in
         elim (has_around p o u.0 u.1) [
-          | inl i ↦ absurd (true≢false (sym (eq-eqb l (head o).id (sym u.2 ∙ ap (λ (z : Stand). (head z.here).id) i)) ∙ other))
-          | inr w ↦ (let steps : w.0 ∷ w.1 ≡ e.step_in ∷ e.path = sym w.2 ∙ ap (λ (z : Stand). z.path) same in
+          | inl i ↦ absurd (true≢false (sym (eq-eqb l (head o).id (sym u.2 ∙ ap (λ (z : OpWithPath). (head z.here).id) i)) ∙ other))
+          | inr w ↦ (let steps : w.0 ∷ w.1 ≡ e.step_in ∷ e.path = sym w.2 ∙ ap (λ (z : OpWithPath). z.path) same in
               let one : w.0 ≡ e.step_in = cc in
               let inner = stand_present p o (stand w.0.parent w.1) w.4 in
               absurd (true≢false (sym (ap (λ i. has_id i o) (sym (ap (λ (s : StepOf (List ℕ) TypeTerm AttrTerm). (head s.parent).id) one ∙ e.parent)) ∙ inner) ∙ out)))
@@ -133,7 +133,7 @@ module _ (x y l : ℕ) (insertion : Place) (rs ys : List TypeTerm) (few : ℕ) w
     at_own : find (head (there_by h.0 m.tree (h.1 ∷ []) k.results).0).id m.tree ≡ Some (there_by h.0 m.tree (h.1 ∷ []) k.results).0
     at_own = ap (λ i. find i t) o_there.2 ∙ found
 
-    present : (b : ℕ) → (z : Stand) × In z (stands [] m.tree) × ((head z.here).id ≡ b) → has_id b m.tree ≡ true
+    present : (b : ℕ) → (z : OpWithPath) × In z (stands [] m.tree) × ((head z.here).id ≡ b) → has_id b m.tree ≡ true
     present b z = ap (λ i. has_id i t) (sym z.2) ∙ stand_present [] t z.0 z.1
 
     x_there : has_id x m.tree ≡ true

@@ -20,7 +20,7 @@ use Rattle.ir_event.specs.trees.Limits.{most_items}
 use Rattle.ir_event.specs.trees.Meaning.{Operation, key_before}
 use Rattle.ir_event.specs.trees.Uses.{operand_uses, same_value, uses_of}
 use Rattle.ir_event.specs.tree_laws.Reasons.{found_entry_reason, set_entry_reason, unless}
-use Rattle.ir_event.specs.tree_laws.Stands.{StandOf, gather, stand_id, stands}
+use Rattle.ir_event.specs.tree_laws.Stands.{OpWithPathOf, gather, op_with_path_id, stands}
 use Rattle.ir_event.specs.tree_laws.Members.{In}
 use Rattle.ir_event.proofs.of_tree_laws.HeadForm.{alike_at, entry_keeps}
 use Rattle.ir_event.proofs.of_tree_laws.Heads.{Alike}
@@ -68,9 +68,9 @@ no_use x k y n (v ∷ vs) e =
 unused_result : (x : ℕ) (t : Operation) → is_unused x t ≡ true → (k : ℕ) → uses_of (Result x k) t ≡ []
 unused_result x t e k =
     sym (stands_uses (Result x k) [] t)
-    ∙ gather_none (λ (s : StandOf (List ℕ) TypeTerm AttrTerm). operand_uses (Result x k) (stand_id s) 0 (head s.here).operands) (stands [] t) (λ s i.
-    no_use x k (stand_id s) 0 (head s.here).operands
-    (all_each (λ (s : StandOf (List ℕ) TypeTerm AttrTerm). list_all (λ v. not (is_result_of x v)) (head s.here).operands) (stands [] t) (stands_every (λ o. list_all (λ v. not (is_result_of x v)) (head o).operands) [] t ∙ e) s i))
+    ∙ gather_none (λ (s : OpWithPathOf (List ℕ) TypeTerm AttrTerm). operand_uses (Result x k) (op_with_path_id s) 0 (head s.here).operands) (stands [] t) (λ s i.
+    no_use x k (op_with_path_id s) 0 (head s.here).operands
+    (all_each (λ (s : OpWithPathOf (List ℕ) TypeTerm AttrTerm). list_all (λ v. not (is_result_of x v)) (head s.here).operands) (stands [] t) (stands_every (λ o. list_all (λ v. not (is_result_of x v)) (head o).operands) [] t ∙ e) s i))
 
 dead_unused : (t o : Operation) → is_erasable t o ≡ true → is_unused (head o).id t ≡ true
 unfolding is_erasable

@@ -15,7 +15,7 @@ use Rattle.ir_event.specs.trees.Tree.{op}
 use Rattle.ir_event.specs.trees.Meaning.{Operation}
 use Rattle.ir_event.specs.tree_laws.Members.{In}
 use Rattle.ir_event.specs.tree_laws.Reasons.{hold_none}
-use Rattle.ir_event.specs.tree_laws.Stands.{StandOf, stands}
+use Rattle.ir_event.specs.tree_laws.Stands.{OpWithPathOf, stands}
 use Rattle.ir_event.specs.tree_laws.Values.{type_of_value}
 use Rattle.ir_event.proofs.of_tree_laws.Wellformed.{from_wellformed}
 use Rattle.ir_event.proofs.of_tree_laws.Listed.{both, both_hold}

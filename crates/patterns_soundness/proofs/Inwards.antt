@@ -17,7 +17,7 @@ use Rattle.ir_event.specs.trees.Uses.{uses_of}
 use Rattle.ir_event.specs.trees.Meaning.{Operation}
 use Rattle.ir_event.specs.trees.WellFormed.{IsWellFormed}
 use Rattle.ir_event.proofs.of_trees.Left.{left_distinct}
-use Rattle.ir_event.specs.tree_laws.Stands.{StandOf, StepOf, stand_id, stands, dominated_by as dominated_by_from}
+use Rattle.ir_event.specs.tree_laws.Stands.{OpWithPathOf, StepOf, op_with_path_id, stands, dominated_by as dominated_by_from}
 use Rattle.ir_event.specs.tree_laws.Tables.{table_of}
 use Rattle.ir_event.specs.tree_laws.Members.{In}
 use Rattle.ir_event.specs.tree_laws.Reads.{around}
@@ -45,8 +45,8 @@ use Rattle.patterns_soundness.proofs.Moving.{HasBlock}
 use Rattle.patterns_soundness.proofs.Ordered.{Before, Inside, before_both, inner_dominated_by, inner_table, inside_left, later_around, later_dominated_by, later_shows, later_table, put_before, put_inside, put_last, there_left}
 use Rattle.patterns_soundness.proofs.Steps.{Across, Fit, Lack, UsedBy, across_moved, count_moved, side_moved, there_of, two_apart, users_moved}
 
-abbrev Stand : Type 0
-Stand = StandOf (List ℕ) TypeTerm AttrTerm
+abbrev OpWithPath : Type 0
+OpWithPath = OpWithPathOf (List ℕ) TypeTerm AttrTerm
 
 -- an operation that moved into a block of y
 abbrev pub Came : ℕ → ℕ → Operation → Operation → Type 0

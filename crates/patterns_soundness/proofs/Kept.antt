@@ -13,7 +13,7 @@ use Rattle.ir_event.specs.trees.Limits.{most_next, most_ops, op_fits}
 use Rattle.ir_event.specs.trees.Sites.{visible}
 use Rattle.ir_event.specs.trees.Places.{put, without}
 use Rattle.ir_event.specs.trees.WellFormed.{ModuleOf, IsWellFormed}
-use Rattle.ir_event.specs.tree_laws.Stands.{StandOf, stand_id, stands, left_stand, dropping}
+use Rattle.ir_event.specs.tree_laws.Stands.{OpWithPathOf, op_with_path_id, stands, left_stand, dropping}
 use Rattle.ir_event.specs.tree_laws.Members.{In}
 use Rattle.ir_event.specs.tree_laws.Reads.{around}
 use Rattle.ir_event.specs.tree_laws.Reasons.{fits_around, has_place, hold_none, leads_inside, put_reason, with_id}
@@ -61,7 +61,7 @@ module _ {N T A : Type 0} where
   was_there z t b h =
       let u = present_stand [] (without z t) b h in
       let m = member_left z t u.0 u.1 in
-      ap (λ i. has_id i t) (sym (ap (λ (y : HeadOf N T A). y.id) (sym (same_head z (dropping z) m.0.here)) ∙ ap (λ (y : StandOf N T A). stand_id y) (sym m.3) ∙ u.2)) ∙ stand_present [] t m.0 m.1
+      ap (λ i. has_id i t) (sym (ap (λ (y : HeadOf N T A). y.id) (sym (same_head z (dropping z) m.0.here)) ∙ ap (λ (y : OpWithPathOf N T A). op_with_path_id y) (sym m.3) ∙ u.2)) ∙ stand_present [] t m.0 m.1
 
   one_op : (n : ℕ) (o : OpOf N T A) → hold_none (regions o) ≡ true → op_count (with_id n o) ≡ 1
   one_op n (op h rs) e = ap (λ l. length (n ∷ l)) (none_ids rs e)

@@ -22,7 +22,7 @@ use Rattle.ir_event.specs.trees.Meaning.{Operation}
 use Rattle.ir_event.proofs.of_trees.Replaced.{same_value_true}
 use Rattle.ir_event.specs.tree_laws.Members.{In}
 use Rattle.ir_event.specs.tree_laws.Reasons.{has_place, hold_none, with_id}
-use Rattle.ir_event.specs.tree_laws.Stands.{StandOf, dominated_by as dominated_by_from}
+use Rattle.ir_event.specs.tree_laws.Stands.{OpWithPathOf, dominated_by as dominated_by_from}
 use Rattle.ir_event.specs.tree_laws.Values.{arguments_at, arguments_of, region_at, type_of_value}
 use Rattle.ir_event.proofs.of_tree_laws.Around.{absent_find, around_there, stand_present}
 use Rattle.ir_event.proofs.of_tree_laws.Listed.{in_map, in_right}
@@ -333,8 +333,8 @@ module _ (m : Module) (o : Operation) (preceding : Place) (s : Point m o precedi
   new_each (b ∷ ms) k c [] a = tt
   new_each (b ∷ ms) k c (ty ∷ tys) a = (a.0, new_each ms (k + 1) (cond b (c + 1) c) tys a.1)
 
-  pub told_of : (p : Pair) → In p ps → Told m3.next IsHeld IsNew m1.next (m1.next + length args) m4.next p
-  told_of p i = told m3.next IsHeld IsNew (indices args) m1.next 0 m4.next args refl (held_each m1.next args p2.held) (new_each (indices args) 0 m4.next args lo.made) p i
+  pub counted_rules : (p : Pair) → In p ps → Told m3.next IsHeld IsNew m1.next (m1.next + length args) m4.next p
+  counted_rules p i = told m3.next IsHeld IsNew (indices args) m1.next 0 m4.next args refl (held_each m1.next args p2.held) (new_each (indices args) 0 m4.next args lo.made) p i
 
   pub apart_id : (b : ℕ) (z : Operation) → has_id b z ≡ false → eqb b (head z).id ≡ false
   apart_id b z h = go (eqb b (head z).id) refl
@@ -356,7 +356,7 @@ module _ (m : Module) (o : Operation) (preceding : Place) (s : Point m o precedi
       let g = stands_before m3.tree b.here b.first b.step_in b.path b.there b.among in
       let c = cut_at z zs i in
       let same = same_stand m3.tree st3.wellformed.distinct (stand b.here (b.step_in ∷ b.path)) (stand st3.at.here (st3.at.step_in ∷ st3.at.path)) b.there st3.at.there (b.id ∙ sym st3.at.id) in
-      let n = ap (λ (q : StandOf (List ℕ) TypeTerm AttrTerm). length q.path) same in
+      let n = ap (λ (q : OpWithPathOf (List ℕ) TypeTerm AttrTerm). length q.path) same in
       ap (λ j. has_id j z) (sym b.is) ∙ shallow_out x preceding m3 st3 0 args zs like.1 c.0 c.1 z c.2 b.first (g.step_in ∷ b.path) g.there (omega (arith, n))
 
   pub held_results3 : (h : ℕ) (ty : TypeTerm) → IsHeld h ty → results_in h m3.tree ≡ Some (ty ∷ [])
@@ -401,7 +401,7 @@ module _ (m : Module) (o : Operation) (preceding : Place) (s : Point m o precedi
     pub owner_out : (z : Operation) → In z like.0 → has_id (owner_of v).0 z ≡ false
 
   pub kind_of : (v : Value) → News v → NewKind v
-  kind_of v n = subst NewKind (sym n.2) (by_mark (told_of n.0 n.1))
+  kind_of v n = subst NewKind (sym n.2) (by_mark (counted_rules n.0 n.1))
     where
       by_mark : Told m3.next IsHeld IsNew m1.next (m1.next + length args) m4.next n.0 → NewKind n.0.1
       by_mark k = subst NewKind (sym k.value) (go k.mark k.later)
@@ -447,7 +447,7 @@ module _ (m : Module) (o : Operation) (preceding : Place) (s : Point m o precedi
 
   -- the new values dominate the last operation
   pub last_news : LastDominatedBy (head o).id m3.next 0 preceding hx hy deep x_opened x_plain y_opened y_plain args B News ended.preceding ended.end m5 start5
-  last_news n across into stays inside trailing v new_v = subst (λ z. dominated_by (head ended.end).id z n ≡ true) (sym new_v.2) (by_mark (told_of new_v.0 new_v.1))
+  last_news n across into stays inside trailing v new_v = subst (λ z. dominated_by (head ended.end).id z n ≡ true) (sym new_v.2) (by_mark (counted_rules new_v.0 new_v.1))
     where
       all_out : (b : ℕ) → B b → (z : Operation) → In z (ended.preceding ++ ended.end ∷ []) → has_id b z ≡ false
       all_out b h z i = h.1 z (subst (In z) (sym ended.is) i)
@@ -554,7 +554,7 @@ module _ (m : Module) (o : Operation) (preceding : Place) (s : Point m o precedi
           (z.0, subst (In z.0) ended.is z.1, ap (λ i. has_id i z.0) (sym id ∙ w.2) ∙ z.2)
 
   pub fresh6 : (p : Pair) → In p ps → Fresh (head o).id m3.next l preceding rs ys few p (ended.preceding ++ ended.end ∷ []) m6
-  fresh6 p i = by_mark (told_of p i)
+  fresh6 p i = by_mark (counted_rules p i)
     where
       by_mark : Told m3.next IsHeld IsNew m1.next (m1.next + length args) m4.next p → Fresh (head o).id m3.next l preceding rs ys few p (ended.preceding ++ ended.end ∷ []) m6
       by_mark k =
@@ -588,7 +588,7 @@ module _ (m : Module) (o : Operation) (preceding : Place) (s : Point m o precedi
   pub held_each7 : (q : Held) → In q (holds m1.next args) → Holder (head o).id m3.next l preceding rs ys few q.0 q.1 m7 × (uses_of (Result q.0 0) m7.tree ≡ []) × (eqb l q.0 ≡ false)
   held_each7 q i =
       let p = in_pairs y (indices args) m1.next 0 m4.next args (length-map args is_index) q i in
-      let k = told_of p.0 p.1 in
+      let k = counted_rules p.0 p.1 in
       let h : IsHeld q.0 q.1 = subst (λ (z : ℕ × TypeTerm). IsHeld z.0 z.1) (λ j. (p.2 j, p.3 j)) k.held in (
         rep7.holders q.0 q.1 (holder6 q.0 q.1 h),
         subst (λ z. uses_of (Result z 0) m7.tree ≡ []) p.2 (rep7.unused p.0 p.1),
@@ -643,7 +643,7 @@ module _ (m : Module) (o : Operation) (preceding : Place) (s : Point m o precedi
   held_bounds : (q : Held) → In q (holds m1.next args) → (m1.next ≤ q.0) × (q.0 < m3.next)
   held_bounds q i =
       (let p = in_pairs y (indices args) m1.next 0 m4.next args (length-map args is_index) q i in
-      let k = told_of p.0 p.1 in
+      let k = counted_rules p.0 p.1 in
       let a = k.low in
       let b = k.high in
       let c = p.2 in

@@ -27,7 +27,7 @@ use Rattle.listeners_support.proofs.Points.{stands_in}
 use Rattle.ir_verify_base.specs.Types.{same_types}
 use Rattle.ir_verify_base.specs.Fits.{Known, Node, Surroundings, block_at, first_called, function_type, is_named, is_the_number, there, types_fit}
 use Rattle.ir_verify_base.specs.TypeRules.{any_differ, arguments_differ, is_no_number}
-use Rattle.ir_verify.specs.BlockRules.{breaks_9, ends_otherwise, isnt_wanted, last_at}
+use Rattle.ir_verify.specs.BlockRules.{breaks_9, ends_otherwise, isnt_required, last_at}
 use Rattle.ir_verify.specs.PlaceRules.{differ, ended_of, if_well_shaped, passed}
 use Rattle.ir_event.specs.Modules.{Module}
 use Rattle.patterns_base.proofs.Plans.{dominated_by}
@@ -241,7 +241,7 @@ condition_types m o insertion s name e k =
         let last_is : last_at 0 outer ≡ Some (head n.last).name = ap (option_and_then (λ last. last)) (names_at (regions o) 0 ∙ ap (option_map (λ g. option_and_then last_name (ops_in g))) n.block) ∙ name_joined n.preceding n.last in
         let y : (head n.last).name ≡ codes "scf.condition" = (bytes_eq-Decides (head n.last).name (codes "scf.condition")).0
         (not-false (bytes_eq (head n.last).name (codes "scf.condition"))
-        (sym (ap (isnt_wanted (codes "scf.condition")) last_is) ∙ spoken (is_some (block_at 0 (node_of o))) _ (ap is_some (block_is o 0 (block n.args _) n.block)) (while_ends outer node_name u.ends))) in
+        (sym (ap (isnt_required (codes "scf.condition")) last_is) ∙ spoken (is_some (block_at 0 (node_of o))) _ (ap is_some (block_is o 0 (block n.args _) n.block)) (while_ends outer node_name u.ends))) in
         let found = row_there (row_of (codes "scf.condition")) condition_listed in
         let z = surround m.tree inner in
         let v = verified_unbroken m.tree inner found.0 n.verified inner_located (ap row_of y ∙ found.1) in

@@ -15,7 +15,7 @@ use Rattle.ir_event.specs.trees.Places.{each_list, put, put_here, region_each_li
 use Rattle.ir_event.specs.trees.WellFormed.{ModuleOf, IsWellFormed}
 use Rattle.ir_event.proofs.of_trees.Left.{left_distinct}
 use Rattle.ir_event.proofs.of_trees.Moves.{unput, untouched}
-use Rattle.ir_event.specs.tree_laws.Stands.{StepOf, StandOf, stand_id, stands, dominated_by, gone_in, is_gone, left_stand, left_step, dropping}
+use Rattle.ir_event.specs.tree_laws.Stands.{StepOf, OpWithPathOf, op_with_path_id, stands, dominated_by, gone_in, is_gone, left_stand, left_step, dropping}
 use Rattle.ir_event.specs.tree_laws.Tables.{table_of}
 use Rattle.ir_event.specs.tree_laws.Members.{In}
 use Rattle.ir_event.specs.tree_laws.Reads.{around}
@@ -153,19 +153,19 @@ module _ {N T A : Type 0} (isolated is_table : N → Bool) (m : ModuleOf N T A) 
       ]
 
   -- if an operation stays as it is, the values that dominate the operations inside it still do
-  pub transferred : (o : OpOf N T A) (p q : List (StepOf N T A)) → In (stand o p) (stands [] m.tree) → In (stand o q) (stands [] (put place z (without (head z).id m.tree))) → (v : Value) → dominated_by isolated q v ≡ true → (u : StandOf N T A) → In u (stands [] m.tree) → has_id (stand_id u) o ≡ true
-      → dominated_by isolated u.path v ≡ true → visible isolated (put place z (without (head z).id m.tree)) (stand_id u) v ≡ true
+  pub transferred : (o : OpOf N T A) (p q : List (StepOf N T A)) → In (stand o p) (stands [] m.tree) → In (stand o q) (stands [] (put place z (without (head z).id m.tree))) → (v : Value) → dominated_by isolated q v ≡ true → (u : OpWithPathOf N T A) → In u (stands [] m.tree) → has_id (op_with_path_id u) o ≡ true
+      → dominated_by isolated u.path v ≡ true → visible isolated (put place z (without (head z).id m.tree)) (op_with_path_id u) v ≡ true
   transferred o p q old new v seen u h inner own =
-      let s = present_stand q o (stand_id u) inner in
+      let s = present_stand q o (op_with_path_id u) inner in
       let r = restands isolated (λ k. k ≡ v) p q (λ k e l. subst (λ i. dominated_by isolated q i ≡ true) (sym e) seen) o s.0 s.1 in
-      let id : stand_id r.0 ≡ stand_id u = ap (λ (i : OpOf N T A). (head i).id) r.2 ∙ s.2 in
+      let id : op_with_path_id r.0 ≡ op_with_path_id u = ap (λ (i : OpOf N T A). (head i).id) r.2 ∙ s.2 in
       let same = same_stand t d r.0 u (within o p r.0 r.1 [] t old) h id in
       ap (λ i. visible isolated after i v) (sym s.2)
       ∙ visible_there isolated after after_distinct s.0 (within o q s.0 s.1 [] after new) v
-      ∙ r.3 v refl (ap (λ (k : StandOf N T A). dominated_by isolated k.path v) same ∙ own)
+      ∙ r.3 v refl (ap (λ (k : OpWithPathOf N T A). dominated_by isolated k.path v) same ∙ own)
 
   -- the move isn't refused
-  module _ (zp : List (StepOf N T A)) (located : In (stand z zp) (stands [] m.tree)) (P : Value → Type 0) (used : (s : StandOf N T A) → In s (stands zp z) → (v : Value) → In v (head s.here).operands → P v)
+  module _ (zp : List (StepOf N T A)) (located : In (stand z zp) (stands [] m.tree)) (P : Value → Type 0) (used : (s : OpWithPathOf N T A) → In s (stands zp z) → (v : Value) → In v (head s.here).operands → P v)
       (more : (v : Value) → P v → dominated_by isolated zp v ≡ true → visible isolated (put place z (without (head z).id m.tree)) (head z).id v ≡ true)
       (users : (k : ℕ) → k < length (head z).results → list_all (λ u. visible isolated (put place z (without (head z).id m.tree)) u.0 (Result (head z).id k)) (uses_of (Result (head z).id k) m.tree) ≡ true) where
     inner : every (λ q. list_all (visible isolated (put place z (without (head z).id m.tree)) (head q).id) (head q).operands) z ≡ true
@@ -173,13 +173,13 @@ module _ {N T A : Type 0} (isolated is_table : N → Bool) (m : ModuleOf N T A) 
         let l = put_form.landed place z (without zi t) may in
         let zq = l.step_in ∷ l.path in
         sym (stands_every (λ q. list_all (visible isolated after (head q).id) (head q).operands) zq z)
-        ∙ each_all (λ (s : StandOf N T A). list_all (visible isolated after (head s.here).id) (head s.here).operands) (stands zq z) (λ s h.
+        ∙ each_all (λ (s : OpWithPathOf N T A). list_all (visible isolated after (head s.here).id) (head s.here).operands) (stands zq z) (λ s h.
         let r = restands isolated P zp zq (λ v n e. sym (visible_there isolated after after_distinct (stand z zq) l.there v) ∙ more v n e) z s h in
         let was = within z zp r.0 r.1 [] t located in
         each_all (visible isolated after (head s.here).id) (head s.here).operands (λ v i.
         let j : In v (head r.0.here).operands = subst (λ (q : OpOf N T A). In v (head q).operands) (sym r.2) i in
         visible_there isolated after after_distinct s (within z zq s h [] after l.there) v
-        ∙ r.3 v (used r.0 r.1 v j) (all_each (dominated_by isolated r.0.path) (head r.0.here).operands (all_each (λ (k : StandOf N T A). list_all (dominated_by isolated k.path) (head k.here).operands) (stands [] t) (sym (stands_operands isolated t) ∙ w.wellformed.visible) r.0 was) v j)))
+        ∙ r.3 v (used r.0 r.1 v j) (all_each (dominated_by isolated r.0.path) (head r.0.here).operands (all_each (λ (k : OpWithPathOf N T A). list_all (dominated_by isolated k.path) (head k.here).operands) (stands [] t) (sym (stands_operands isolated t) ∙ w.wellformed.visible) r.0 was) v j)))
 
     pub all_seen : operands_visible isolated (shifted (head z).id place m.tree) ≡ true
     all_seen = shift_dominated_by isolated zi place t z d found root point outside w.wellformed.visible

@@ -22,9 +22,9 @@ use Rattle.ir_event.specs.trees.Meaning.{Operation}
 use Rattle.ir_event.specs.trees.WellFormed.{IsWellFormed}
 use Rattle.ir_event.proofs.of_trees.Heads.{head_find}
 use Rattle.ir_event.proofs.of_trees.Replaced.{old_unused, others_stay}
-use Rattle.ir_event.specs.tree_laws.Stands.{StandOf, StepOf, gone_in, is_gone, stand_id, stands, dominated_by as dominated_by_from}
+use Rattle.ir_event.specs.tree_laws.Stands.{OpWithPathOf, StepOf, gone_in, is_gone, op_with_path_id, stands, dominated_by as dominated_by_from}
 use Rattle.ir_event.specs.tree_laws.Members.{In}
-use Rattle.ir_event.specs.tree_laws.Reasons.{users_see}
+use Rattle.ir_event.specs.tree_laws.Reasons.{is_visible_to_users}
 use Rattle.ir_event.specs.tree_laws.Values.{has_value, type_of_value}
 use Rattle.ir_event.proofs.of_tree_laws.Around.{around_there, present_stand, stand_present, within_gone}
 use Rattle.ir_event.proofs.of_tree_laws.Edited.{around_stays, head_stays, dominance_stays, taken_op_count}
@@ -58,8 +58,8 @@ use Rattle.std.proofs.lemmas.Option.{slice_get_within}
 use Rattle.ir_event.proofs.Facts.{own_id}
 use Rattle.ir_event.proofs.of_tree_laws.Reverted.{passed}
 
-abbrev Stand : Type 0
-Stand = StandOf (List ℕ) TypeTerm AttrTerm
+abbrev OpWithPath : Type 0
+OpWithPath = OpWithPathOf (List ℕ) TypeTerm AttrTerm
 
 -- the results of an operation of a tree, and how many operands it has
 abbrev pub results_in : ℕ → Operation → Option (List TypeTerm)
@@ -115,7 +115,7 @@ module _ (m : Module) (w : IsWellFormed is_isolated m) (h : ℕ) (o : Operation)
   pub erase_wellformed : IsWellFormed is_isolated (edited (Erase h) m)
   erase_wellformed = left_well_formed is_isolated h m w (λ s i gone. each_all (λ v. not (eqb (owner_of v).0 h)) (head s.here).operands (λ v j. ap not (spared s i gone v j (eqb (owner_of v).0 h) refl)))
     where
-      spared : (s : Stand) → In s (stands [] m.tree) → is_gone h s ≡ false → (v : Value) → In v (head s.here).operands → (b : Bool) → eqb (owner_of v).0 h ≡ b → eqb (owner_of v).0 h ≡ false
+      spared : (s : OpWithPath) → In s (stands [] m.tree) → is_gone h s ≡ false → (v : Value) → In v (head s.here).operands → (b : Bool) → eqb (owner_of v).0 h ≡ b → eqb (owner_of v).0 h ≡ false
       spared s i gone v j false e = e
       spared s i gone (Result q k) j true e =
           (let own = own_operand t w.distinct w.wellformed.visible s i (Result q k) j in
@@ -134,13 +134,13 @@ module _ (m : Module) (w : IsWellFormed is_isolated m) (h : ℕ) (o : Operation)
           let here : In (stand o f.0.path) (stands [] t) = subst (λ (z : Operation). In (stand z f.0.path) (stands [] t)) f.3 f.1 in
           let id : (head o).id ≡ h = ap (λ (z : Operation). (head z).id) (sym f.3) ∙ f.2 in
           let inner = argument_within t w.distinct o f.0.path here is_isolated s.here s.path i r k (ap (λ z. dominated_by_from is_isolated s.path (Arg z r k)) (id ∙ sym same) ∙ own) in
-          let u = present_stand f.0.path o (stand_id s) inner in
+          let u = present_stand f.0.path o (op_with_path_id s) inner in
           let one = same_stand t w.distinct u.0 s (within o f.0.path u.0 u.1 [] t here) i u.2 in
           absurd (true≢false (sym (ap (is_gone h) (sym one) ∙ within_gone h o f.0.path (goes f.0.path here id) u.0 u.1) ∙ gone)))
         where
           goes : (p : List (StepOf (List ℕ) TypeTerm AttrTerm)) → In (stand o p) (stands [] m.tree) → (head o).id ≡ h → gone_in h o p ≡ true
           goes [] there id =
-              (let bad : eqb (head m.tree).id h ≡ true = eq-eqb (head m.tree).id h (ap (λ (z : Stand). stand_id z) (sym (at_top (has_around [] m.tree (stand o []) there))) ∙ id) in
+              (let bad : eqb (head m.tree).id h ≡ true = eq-eqb (head m.tree).id h (ap (λ (z : OpWithPath). op_with_path_id z) (sym (at_top (has_around [] m.tree (stand o []) there))) ∙ id) in
               absurd (true≢false (sym bad ∙ root)))
             where
               at_top : (stand o [] ≡ stand m.tree []) ⊎ HasAround (stand o []) (stands [] m.tree) → stand o [] ≡ stand m.tree []
@@ -156,11 +156,11 @@ module _ (t : Operation) (d : HasDistinctIds t) (z : Operation) (zp : List (Step
       (let u = present_stand zp z (head o).id i in
       let same = same_stand t d u.0 (stand o (a ∷ q)) (within z zp u.0 u.1 [] t there) h u.2 in
       elim (has_around zp z u.0 u.1) [
-        | inl k ↦ (let paths : zp ≡ a ∷ q = ap (λ (s : Stand). s.path) (sym k ∙ same) in subst (λ l. dominated_by_from is_isolated l v ≡ true) paths s)
-        | inr w ↦ (let steps : w.0 ∷ w.1 ≡ a ∷ q = sym w.2 ∙ ap (λ (s : Stand). s.path) same in
+        | inl k ↦ (let paths : zp ≡ a ∷ q = ap (λ (s : OpWithPath). s.path) (sym k ∙ same) in subst (λ l. dominated_by_from is_isolated l v ≡ true) paths s)
+        | inr w ↦ (let steps : w.0 ∷ w.1 ≡ a ∷ q = sym w.2 ∙ ap (λ (s : OpWithPath). s.path) same in
             let one : w.0 ≡ a = cc in
             let two : w.1 ≡ q = cc in
-            let up : In (stand a.parent q) (stands zp z) = subst (λ (s : Stand). In s (stands zp z)) (λ j. stand (one j).parent (two j)) w.4 in
+            let up : In (stand a.parent q) (stands zp z) = subst (λ (s : OpWithPath). In s (stands zp z)) (λ j. stand (one j).parent (two j)) w.4 in
             let parent_in : has_id (head a.parent).id z ≡ true = stand_present zp z (stand a.parent q) up in
             around parent_in (λ b. inner_more a.parent q (around_there t o a q h).1 parent_in b v s))
       ])

@@ -12,7 +12,7 @@ use Rattle.ir_event.specs.trees.Frames.{owner_of}
 use Rattle.ir_event.specs.trees.Sites.{arguments, shows, results_of, visible}
 use Rattle.ir_event.specs.trees.Places.{each_list, first_id, put, without}
 use Rattle.ir_event.proofs.of_trees.Moves.{unput, untouched}
-use Rattle.ir_event.specs.tree_laws.Stands.{StepOf, StandOf, edit_stand, edit_step, stand_id, stands, ops_stands, dominated_by, gone_in, is_gone, left_stand, left_step, dropping, table_in}
+use Rattle.ir_event.specs.tree_laws.Stands.{StepOf, OpWithPathOf, edit_stand, edit_step, op_with_path_id, stands, ops_stands, dominated_by, gone_in, is_gone, left_stand, left_step, dropping, table_in}
 use Rattle.ir_event.specs.tree_laws.Tables.{table_of}
 use Rattle.ir_event.specs.tree_laws.Members.{In}
 use Rattle.ir_event.specs.tree_laws.Reads.{around}
@@ -53,11 +53,11 @@ module _ {N T A : Type 0} where
     pub region : step_in.region ≡ r
 
   -- the remaining tree after z is taken out
-  pub left_gone : (z : ℕ) (t : OpOf N T A) → HasDistinctIds t → (s : StandOf N T A) → In s (stands [] t) → has_id (stand_id s) (without z t) ≡ true → is_gone z s ≡ false
+  pub left_gone : (z : ℕ) (t : OpOf N T A) → HasDistinctIds t → (s : OpWithPathOf N T A) → In s (stands [] t) → has_id (op_with_path_id s) (without z t) ≡ true → is_gone z s ≡ false
   left_gone z t d s h e =
-      let u = present_stand [] (without z t) (stand_id s) e in
+      let u = present_stand [] (without z t) (op_with_path_id s) e in
       let m = member_left z t u.0 u.1 in
-      let id : stand_id m.0 ≡ stand_id s = ap (λ (y : HeadOf N T A). y.id) (sym (same_head z (dropping z) m.0.here)) ∙ ap (λ (y : StandOf N T A). stand_id y) (sym m.3) ∙ u.2 in
+      let id : op_with_path_id m.0 ≡ op_with_path_id s = ap (λ (y : HeadOf N T A). y.id) (sym (same_head z (dropping z) m.0.here)) ∙ ap (λ (y : OpWithPathOf N T A). op_with_path_id y) (sym m.3) ∙ u.2 in
       ap (is_gone z) (sym (same_stand t d m.0 s m.1 h id)) ∙ m.2
 
   -- the operations that aren't inside z
@@ -113,11 +113,11 @@ module _ {N T A : Type 0} where
   was : (z : ℕ) (here : OpOf N T A) (step_in : StepOf N T A) (path : List (StepOf N T A)) (t : OpOf N T A) → In (stand here (step_in ∷ path)) (stands [] (without z t)) → Was z here step_in path t
   was z here step_in path t h = (let m = member_left z t (stand here (step_in ∷ path)) h in go m.0 m.1 m.3 m.0.path refl)
     where
-      go : (s : StandOf N T A) → In s (stands [] t) → stand here (step_in ∷ path) ≡ left_stand z s → (p : List (StepOf N T A)) → s.path ≡ p → Was z here step_in path t
-      go s m e [] q = (let bad : step_in ∷ path ≡ [] = ap (λ (y : StandOf N T A). y.path) e ∙ ap (map (left_step z)) q in absurd cc)
+      go : (s : OpWithPathOf N T A) → In s (stands [] t) → stand here (step_in ∷ path) ≡ left_stand z s → (p : List (StepOf N T A)) → s.path ≡ p → Was z here step_in path t
+      go s m e [] q = (let bad : step_in ∷ path ≡ [] = ap (λ (y : OpWithPathOf N T A). y.path) e ∙ ap (map (left_step z)) q in absurd cc)
       go s m e (a ∷ p) q =
-          let both_steps : step_in ∷ path ≡ left_step z a ∷ map (left_step z) p = ap (λ (y : StandOf N T A). y.path) e ∙ ap (map (left_step z)) q in
-          record { it = s.here; old_step = a; old_path = p; there = subst (λ l. In (stand s.here l) (stands [] t)) q m; same = ap (λ (y : StandOf N T A). y.here) e; step_is = cc }
+          let both_steps : step_in ∷ path ≡ left_step z a ∷ map (left_step z) p = ap (λ (y : OpWithPathOf N T A). y.path) e ∙ ap (map (left_step z)) q in
+          record { it = s.here; old_step = a; old_path = p; there = subst (λ l. In (stand s.here l) (stands [] t)) q m; same = ap (λ (y : OpWithPathOf N T A). y.here) e; step_is = cc }
 
   pub before_back : (z a b : ℕ) (t : OpOf N T A) → Before a b (without z t) → Before a b t
   before_back z a b t e =
@@ -178,7 +178,7 @@ module _ {N T A : Type 0} where
   before_both a b c t d e f =
       let g = stands_before t f.here f.first f.step_in f.path f.there f.among in
       let same = same_stand t d (stand e.here (e.step_in ∷ e.path)) (stand f.first (g.step_in ∷ f.path)) e.there g.there (e.id ∙ sym f.is) in
-      let paths : e.step_in ∷ e.path ≡ g.step_in ∷ f.path = ap (λ (z : StandOf N T A). z.path) same in
+      let paths : e.step_in ∷ e.path ≡ g.step_in ∷ f.path = ap (λ (z : OpWithPathOf N T A). z.path) same in
       let steps : e.step_in ≡ g.step_in = cc in
       record {
         here = f.here;
@@ -243,8 +243,8 @@ module _ {N T A : Type 0} where
 
   -- its symbol tables and its depth
   module _ (is_table : N → Bool) (t : OpOf N T A) (d : HasDistinctIds t) where
-    table_at : (s : StandOf N T A) → In s (stands [] t) → table_of is_table (stand_id s) t ≡ Some (table_in is_table s.path)
-    table_at s h = sym (stands_table is_table (stand_id s) [] t) ∙ ap (option_map (λ (z : StandOf N T A). table_in is_table z.path)) (stand_of_member t d s h)
+    table_at : (s : OpWithPathOf N T A) → In s (stands [] t) → table_of is_table (op_with_path_id s) t ≡ Some (table_in is_table s.path)
+    table_at s h = sym (stands_table is_table (op_with_path_id s) [] t) ∙ ap (option_map (λ (z : OpWithPathOf N T A). table_in is_table z.path)) (stand_of_member t d s h)
 
     pub later_table : (a b : ℕ) → Before a b t → table_of is_table a t ≡ table_of is_table b t
     later_table a b e =
@@ -263,8 +263,8 @@ module _ {N T A : Type 0} where
         ∙ sym (ap (λ i. table_of is_table i t) (sym e.parent) ∙ table_at (stand e.step_in.parent e.path) up)
 
   module _ (t : OpOf N T A) (d : HasDistinctIds t) where
-    pub around_at : (s : StandOf N T A) → In s (stands [] t) → around (stand_id s) t ≡ Some (length s.path)
-    around_at s h = sym (stands_around (stand_id s) [] t) ∙ ap (option_map (λ (z : StandOf N T A). length z.path)) (stand_of_member t d s h)
+    pub around_at : (s : OpWithPathOf N T A) → In s (stands [] t) → around (op_with_path_id s) t ≡ Some (length s.path)
+    around_at s h = sym (stands_around (op_with_path_id s) [] t) ∙ ap (option_map (λ (z : OpWithPathOf N T A). length z.path)) (stand_of_member t d s h)
 
     pub later_around : (a b : ℕ) → Before a b t → around a t ≡ around b t
     later_around a b e =
@@ -356,7 +356,7 @@ module _ {N T A : Type 0} where
             let there : In (stand r (new ∷ l.path)) (stands [] (put place o t)) = within l.step_in.parent l.path (stand r (new ∷ l.path)) (child l.step_in.parent l.path l.step_in.region l.step_in.args (joined_ops l.step_in.preceding (next o l.step_in.rest)) (stand r (new ∷ l.path)) (shape after o l.step_in l.path l.there)
             (subst (λ z. In (stand r (new ∷ l.path)) (ops_stands l.step_in.parent l.path l.step_in.region l.step_in.args [] z)) (sym list) (ops_child l.step_in.parent l.path l.step_in.region l.step_in.args [] (l.step_in.preceding ++ o ∷ []) r os))) [] after l.around in
             let same = same_stand after distinct (stand f.here (f.step_in ∷ f.path)) (stand r (new ∷ l.path)) f.there there (f.id ∙ sym id) in
-            let paths : f.step_in ∷ f.path ≡ new ∷ l.path = ap (λ (z : StandOf N T A). z.path) same in
+            let paths : f.step_in ∷ f.path ≡ new ∷ l.path = ap (λ (z : OpWithPathOf N T A). z.path) same in
             let steps : f.step_in ≡ new = cc in
             elim (in_parts f.first l.step_in.preceding (o ∷ []) (subst (λ (s : StepOf N T A). In f.first s.preceding) steps f.among)) [
               | inl k ↦ record { here = o; step_in = l.step_in; path = l.path; there = l.there; id = refl; first = f.first; among = k; is = f.is }

@@ -18,7 +18,7 @@ use Rattle.ir_event.specs.trees.Meaning.{Operation}
 use Rattle.ir_event.specs.trees.WellFormed.{IsWellFormed}
 use Rattle.ir_event.proofs.of_trees.Moves.{ops_unput, ops_untouched}
 use Rattle.ir_event.proofs.of_trees.Left.{left_distinct}
-use Rattle.ir_event.specs.tree_laws.Stands.{StandOf, StepOf, dropping, stand_id, stands, dominated_by as dominated_by_from}
+use Rattle.ir_event.specs.tree_laws.Stands.{OpWithPathOf, StepOf, dropping, op_with_path_id, stands, dominated_by as dominated_by_from}
 use Rattle.ir_event.specs.tree_laws.Tables.{table_of}
 use Rattle.ir_event.specs.tree_laws.Members.{In}
 use Rattle.ir_event.specs.tree_laws.Reads.{around}
@@ -53,8 +53,8 @@ use Rattle.patterns_soundness.proofs.Ordered.{Before, Inside, around_at, inner_d
 use Rattle.patterns_soundness.proofs.Steps.{Across, Fit, Lack, UsedBy, absent_all, across_moved, count_moved, each_at, nothing, side_moved, there_of, used_there, users_moved}
 use Rattle.std.proofs.lemmas.Option.{slice_get_within}
 
-abbrev Stand : Type 0
-Stand = StandOf (List ℕ) TypeTerm AttrTerm
+abbrev OpWithPath : Type 0
+OpWithPath = OpWithPathOf (List ℕ) TypeTerm AttrTerm
 
 module _ (x y r : ℕ) (insertion : Place) (hx hy : Header) (deep : ℕ) (x_opened : is_isolated hx.name ≡ false) (x_plain : is_table hx.name ≡ false)
     (m : Module) (s : Across x y insertion hx hy deep m) (z : Operation) (vs : List Operation) (args : List TypeTerm) (is : region_at r (regions s.located.at.here) ≡ Some (block args (joined_ops (z ∷ vs) no_ops)))
@@ -157,7 +157,7 @@ module _ (x y r : ℕ) (insertion : Place) (hx hy : Header) (deep : ℕ) (x_open
       yo : (o : Operation) × (find y m.tree ≡ Some o) × (head o ≡ hy)
       yo = there_of (find y t) hy s.y_is
 
-      ys : (k : Stand) × In k (stands [] m.tree) × (stand_id k ≡ y) × (k.here ≡ yo.0)
+      ys : (k : OpWithPath) × In k (stands [] m.tree) × (op_with_path_id k ≡ y) × (k.here ≡ yo.0)
       ys = found_stands y t yo.0 yo.1
 
       go : (b : Bool) → eqb (owner_of v).0 y ≡ b → (w : Value) → v ≡ w → eqb (owner_of v).0 y ≡ false

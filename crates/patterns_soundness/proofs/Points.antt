@@ -13,7 +13,7 @@ use Rattle.ir_event.specs.trees.Places.{place_of}
 use Rattle.ir_event.specs.trees.Sites.{operands_visible}
 use Rattle.ir_event.specs.trees.Meaning.{Operation}
 use Rattle.ir_event.specs.trees.WellFormed.{IsWellFormed}
-use Rattle.ir_event.specs.tree_laws.Stands.{StandOf, stands, dominated_by as dominated_by_from}
+use Rattle.ir_event.specs.tree_laws.Stands.{OpWithPathOf, stands, dominated_by as dominated_by_from}
 use Rattle.ir_event.specs.tree_laws.Members.{In}
 use Rattle.ir_event.proofs.of_tree_laws.Listed.{all_each}
 use Rattle.ir_event.proofs.of_tree_laws.Members.{found_stands}
@@ -52,10 +52,10 @@ defining_op_is t (Result x k) h e = go (find x t) refl e
     go (Some o) f e = record { id = x; number = k; is = refl; there = o; found = f; header = cc }
 
 -- the operands of operations in a tree
-pub own_operand : (t : Operation) → HasDistinctIds t → operands_visible is_isolated t ≡ true → (s : StandOf (List ℕ) TypeTerm AttrTerm) → In s (stands [] t) → (v : Value) → In v (head s.here).operands → dominated_by_from is_isolated s.path v ≡ true
+pub own_operand : (t : Operation) → HasDistinctIds t → operands_visible is_isolated t ≡ true → (s : OpWithPathOf (List ℕ) TypeTerm AttrTerm) → In s (stands [] t) → (v : Value) → In v (head s.here).operands → dominated_by_from is_isolated s.path v ≡ true
 own_operand t d wellformed s h v i =
     all_each (dominated_by_from is_isolated s.path) (head s.here).operands
-    (all_each (λ (z : StandOf (List ℕ) TypeTerm AttrTerm). list_all (dominated_by_from is_isolated z.path) (head z.here).operands) (stands [] t) (sym (stands_operands is_isolated t) ∙ wellformed) s h) v i
+    (all_each (λ (z : OpWithPathOf (List ℕ) TypeTerm AttrTerm). list_all (dominated_by_from is_isolated z.path) (head z.here).operands) (stands [] t) (sym (stands_operands is_isolated t) ∙ wellformed) s h) v i
 
 -- an operation comes after the place before it, verified or not
 pub stands_after : (m : Module) (x : ℕ) (insertion : Place) → IsWellFormed is_isolated m → insertion_of x m.tree ≡ Some insertion → StandsAt x insertion m

@@ -21,9 +21,9 @@ use Rattle.ir_event.specs.trees.Meaning.{Operation}
 use Rattle.ir_event.specs.trees.WellFormed.{IsWellFormed}
 use Rattle.ir_event.proofs.of_trees.Heads.{head_find}
 use Rattle.ir_event.proofs.of_trees.Replaced.{old_unused, others_stay}
-use Rattle.ir_event.specs.tree_laws.Stands.{StandOf, StepOf, stand_id, stands, dominated_by as dominated_by_from}
+use Rattle.ir_event.specs.tree_laws.Stands.{OpWithPathOf, StepOf, op_with_path_id, stands, dominated_by as dominated_by_from}
 use Rattle.ir_event.specs.tree_laws.Members.{In}
-use Rattle.ir_event.specs.tree_laws.Reasons.{users_see}
+use Rattle.ir_event.specs.tree_laws.Reasons.{is_visible_to_users}
 use Rattle.ir_event.specs.tree_laws.Values.{type_of_value}
 use Rattle.ir_event.proofs.of_tree_laws.Around.{present_stand}
 use Rattle.ir_event.proofs.of_tree_laws.Edited.{taken_op_count}
@@ -52,8 +52,8 @@ use Rattle.patterns_soundness.proofs.Points.{own_operand}
 use Rattle.patterns_soundness.proofs.Within.{heads_headed}
 use Rattle.ir_event.proofs.of_tree_laws.Reverted.{passed}
 
-abbrev Stand : Type 0
-Stand = StandOf (List ℕ) TypeTerm AttrTerm
+abbrev OpWithPath : Type 0
+OpWithPath = OpWithPathOf (List ℕ) TypeTerm AttrTerm
 
 -- a placeholder, the value that replaces it, and the type
 abbrev pub Pair : Type 0
@@ -135,7 +135,7 @@ module _ (x y l : ℕ) (insertion : Place) (rs ys : List TypeTerm) (few : ℕ) w
     abbrev alike : (h : Header) → Alike (put_values (Result p.0 0) p.1 h) h
     alike h = record { id = refl; name = refl; results = refl }
 
-    users_ok : users_see is_isolated (Result p.0 0) p.1 m.tree ≡ true
+    users_ok : is_visible_to_users is_isolated (Result p.0 0) p.1 m.tree ≡ true
     users_ok = each_all (λ u. visible is_isolated t u.0 p.1) (uses_of (Result p.0 0) t) (λ u h.
         let o = s.users u h in
         let k = user (Result p.0 0) t u h in

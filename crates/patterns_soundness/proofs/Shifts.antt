@@ -10,7 +10,7 @@ use Rattle.ir_event.specs.trees.Places.{put, shifted, without}
 use Rattle.ir_event.specs.trees.Frames.{owner_of}
 use Rattle.ir_event.specs.trees.Meaning.{Operation}
 use Rattle.ir_event.specs.store.Nodes.{node_of}
-use Rattle.ir_event.specs.tree_laws.Stands.{left_stand, stand_of, stands}
+use Rattle.ir_event.specs.tree_laws.Stands.{left_stand, op_with_path, stands}
 use Rattle.ir_event.specs.tree_laws.Reasons.{leads_inside}
 use Rattle.ir_event.specs.tree_laws.Values.{type_of_value}
 use Rattle.ir_event.proofs.of_tree_laws.Listed.{bool_cases}
@@ -28,15 +28,15 @@ use Rattle.rewriter_machine.specs.Contents.{all_edited, edit_reason, edited}
 use Rattle.rewriter_machine.specs.Edits.{Move}
 use Rattle.patterns_base.proofs.Body.{hold_step}
 use Rattle.patterns_base.proofs.Plans.{HasFirst, moving}
-use Rattle.patterns_soundness.proofs.Unbroken.{Stand}
+use Rattle.patterns_soundness.proofs.Unbroken.{OpWithPath}
 use Rattle.listeners_support.proofs.Reading.{head_shown}
 
-abbrev SameNode : Stand → Stand → Type 0
+abbrev SameNode : OpWithPath → OpWithPath → Type 0
 SameNode s r = node_of s.here ≡ node_of r.here
 
 module _ (x : ℕ) (m n : Operation) (dm : HasDistinctIds m) (dn : HasDistinctIds n) (is : without x n ≡ without x m) (same : find x n ≡ find x m) where
-  left_same : (s r : Stand) → (left_stand x r ≡ left_stand x s) ⊎ ((r.here ≡ s.here) × (outer_of r.path ≡ outer_of s.path)) → SameNode s r
-  left_same s r (inl e) = sym (left_node x s.here) ∙ ap (λ (z : Stand). node_of z.here) (sym e) ∙ left_node x r.here
+  left_same : (s r : OpWithPath) → (left_stand x r ≡ left_stand x s) ⊎ ((r.here ≡ s.here) × (outer_of r.path ≡ outer_of s.path)) → SameNode s r
+  left_same s r (inl e) = sym (left_node x s.here) ∙ ap (λ (z : OpWithPath). node_of z.here) (sym e) ∙ left_node x r.here
   left_same s r (inr e) = ap (λ o. node_of o) (sym e.0)
 
   others : (z : ℕ) → (z ≡ x → ⊥) → Both SameNode z m n
@@ -44,7 +44,7 @@ module _ (x : ℕ) (m n : Operation) (dm : HasDistinctIds m) (dn : HasDistinctId
       (λ s h i. let r = moved x m n dm dn (sym is) (sym same) s h (λ k. apart (sym i ∙ k)) in (r.0, r.1, r.2 ∙ i, left_same s r.0 r.3))
       (λ s h i. let r = moved x n m dn dm is same s h (λ k. apart (sym i ∙ k)) in (r.0, r.1, r.2 ∙ i))
 
-  itself : (a b : Option Stand) → option_map (λ (z : Stand). z.here) a ≡ option_map (λ (z : Stand). z.here) b → stand_of x m ≡ a → stand_of x n ≡ b → Both SameNode x m n
+  itself : (a b : Option OpWithPath) → option_map (λ (z : OpWithPath). z.here) a ≡ option_map (λ (z : OpWithPath). z.here) b → op_with_path x m ≡ a → op_with_path x n ≡ b → Both SameNode x m n
   itself None None k i j = neither i j
   itself None (Some r) k i j = absurd cc
   itself (Some s) None k i j = absurd cc
@@ -53,7 +53,7 @@ module _ (x : ℕ) (m n : Operation) (dm : HasDistinctIds m) (dn : HasDistinctId
   all_same : (z : ℕ) → Both SameNode z m n
   all_same z = elim (bool_cases (eqb z x)) [
     | inr k ↦ others z (λ i. true≢false (sym (eq-eqb z x i) ∙ k))
-    | inl k ↦ subst (λ y. Both SameNode y m n) (sym (eqb-true z x k)) (itself (stand_of x m) (stand_of x n) (stands_find x [] m ∙ sym same ∙ sym (stands_find x [] n)) refl refl)
+    | inl k ↦ subst (λ y. Both SameNode y m n) (sym (eqb-true z x k)) (itself (op_with_path x m) (op_with_path x n) (stands_find x [] m ∙ sym same ∙ sym (stands_find x [] n)) refl refl)
   ]
 
   types_same : (v : Value) → type_of_value v m ≡ type_of_value v n
@@ -62,12 +62,12 @@ module _ (x : ℕ) (m n : Operation) (dm : HasDistinctIds m) (dn : HasDistinctId
   heads_same : (z : ℕ) → option_map head (find z m) ≡ option_map head (find z n)
   heads_same z = ap (option_map head) (sym (stands_find z [] m)) ∙ go (all_same z) ∙ ap (option_map head) (stands_find z [] n)
     where
-      go : Both SameNode z m n → option_map head (option_map (λ (z : Stand). z.here) (stand_of z m)) ≡ option_map head (option_map (λ (z : Stand). z.here) (stand_of z n))
-      go (neither i j) = ap (λ o. option_map head (option_map (λ (z : Stand). z.here) o)) i ∙ sym (ap (λ o. option_map head (option_map (λ (z : Stand). z.here) o)) j)
+      go : Both SameNode z m n → option_map head (option_map (λ (z : OpWithPath). z.here) (op_with_path z m)) ≡ option_map head (option_map (λ (z : OpWithPath). z.here) (op_with_path z n))
+      go (neither i j) = ap (λ o. option_map head (option_map (λ (z : OpWithPath). z.here) o)) i ∙ sym (ap (λ o. option_map head (option_map (λ (z : OpWithPath). z.here) o)) j)
       go (each s r h i j k) =
-          ap (λ o. option_map head (option_map (λ (z : Stand). z.here) o)) i
+          ap (λ o. option_map head (option_map (λ (z : OpWithPath). z.here) o)) i
           ∙ ap Some (sym (head_shown s.here) ∙ ap (λ n. n.head) k ∙ head_shown r.here)
-          ∙ sym (ap (λ o. option_map head (option_map (λ (z : Stand). z.here) o)) j)
+          ∙ sym (ap (λ o. option_map head (option_map (λ (z : OpWithPath). z.here) o)) j)
 
 -- the move isn't refused
 module _ (x : ℕ) (place : Place) (m : Module) (d : HasDistinctIds m.tree) (free : edit_reason (Move x place) m ≡ None) where

@@ -19,7 +19,7 @@ use Rattle.ir_event.specs.trees.Meaning.{Operation}
 use Rattle.ir_event.specs.trees.WellFormed.{IsWellFormed}
 use Rattle.ir_event.proofs.of_trees.Moves.{ops_unput}
 use Rattle.ir_event.proofs.of_trees.Replaced.{same_value_true}
-use Rattle.ir_event.specs.tree_laws.Stands.{StandOf, StepOf, stand_id, stands, dominated_by as dominated_by_from}
+use Rattle.ir_event.specs.tree_laws.Stands.{OpWithPathOf, StepOf, op_with_path_id, stands, dominated_by as dominated_by_from}
 use Rattle.ir_event.specs.tree_laws.Members.{In}
 use Rattle.ir_event.specs.tree_laws.Reads.{around}
 use Rattle.ir_event.specs.tree_laws.Reasons.{has_place, hold_none, with_id}
@@ -56,16 +56,16 @@ use Rattle.ir_event.proofs.of_tree_laws.Changed.{gather_none}
 use Rattle.effects.proofs.Unused.{none_here}
 use Rattle.ir_event.proofs.of_tree_laws.Facts.{new_id}
 
-abbrev Stand : Type 0
-Stand = StandOf (List ℕ) TypeTerm AttrTerm
+abbrev OpWithPath : Type 0
+OpWithPath = OpWithPathOf (List ℕ) TypeTerm AttrTerm
 
 -- ---- values that aren't in the module
 
 pub missing_unused : (m : Module) → IsWellFormed is_isolated m → (v : Value) → has_value v m.tree ≡ false → uses_of v m.tree ≡ []
 missing_unused m w v none =
     sym (stands_uses v [] m.tree)
-    ∙ gather_none (λ (s : Stand). operand_uses v (stand_id s) 0 (head s.here).operands) (stands [] m.tree) (λ z i.
-    none_here v (stand_id z) 0 (head z.here).operands (λ u j. differs u (seen_by is_isolated m.tree w.distinct z i u (own_operand m.tree w.distinct w.wellformed.visible z i u j)).is))
+    ∙ gather_none (λ (s : OpWithPath). operand_uses v (op_with_path_id s) 0 (head s.here).operands) (stands [] m.tree) (λ z i.
+    none_here v (op_with_path_id z) 0 (head z.here).operands (λ u j. differs u (seen_by is_isolated m.tree w.distinct z i u (own_operand m.tree w.distinct w.wellformed.visible z i u j)).is))
   where
     differs : (u : Value) → has_value u m.tree ≡ true → same_value v u ≡ false
     differs u there = go (same_value v u) refl
@@ -109,7 +109,7 @@ module _ (x : ℕ) (insertion : Place) (m : Module) (s : StandsAt x insertion m)
         let u = present_stand (z_path us vs) z (head o).id k in
         let same = same_stand t d u.0 (stand o p) (within z (z_path us vs) u.0 u.1 [] t there) h u.2 in
         let n = deeper (z_path us vs) z u.0 u.1 in
-        let q = ap (λ (z : Stand). length z.path) same in
+        let q = ap (λ (z : OpWithPath). length z.path) same in
         absurd (omega (arith, l, n, q)))
   ]
 
@@ -121,9 +121,9 @@ module _ (x : ℕ) (insertion : Place) (m : Module) (s : StandsAt x insertion m)
     | inl k ↦ (let there = one_stands t d s.at.here xp s.at.there r args all is us vs z e in
         let u = present_stand (z_path us vs) z (head o).id k in
         let same = same_stand t d u.0 (stand o (b ∷ p)) (within z (z_path us vs) u.0 u.1 [] t there) h u.2 in
-        let q = ap (λ (z : Stand). length z.path) same in
+        let q = ap (λ (z : OpWithPath). length z.path) same in
         let deep = own_depth (z_path us vs) z u.0 u.1 (omega (arith, q, l)) in
-        let paths : z_path us vs ≡ b ∷ p = ap (λ (z : Stand). z.path) (sym deep ∙ same) in
+        let paths : z_path us vs ≡ b ∷ p = ap (λ (z : OpWithPath). z.path) (sym deep ∙ same) in
         absurd (apart cc))
   ]
 
@@ -164,7 +164,7 @@ module _ (x : ℕ) (insertion : Place) (m : Module) (s : StandsAt x insertion m)
         y_out = absent c.0 c.1 there;
         parent_out = ap (λ (p : Place). has_id p.parent z) s.at.place ∙ shallow_out c.0 c.1 z c.2 s.at.step_in.parent s.at.path (around_there t s.at.here s.at.step_in s.at.path s.at.there).1 (omega arith);
         levels =
-            (let g = greatest_within (λ (k : Stand). length k.path) most_around (stands (z_path c.0 c.1) z) (λ k h. (from_wellformed is_isolated t s.wellformed.wellformed).shallow k (within z (z_path c.0 c.1) k h [] t there)) in
+            (let g = greatest_within (λ (k : OpWithPath). length k.path) most_around (stands (z_path c.0 c.1) z) (λ k h. (from_wellformed is_isolated t s.wellformed.wellformed).shallow k (within z (z_path c.0 c.1) k h [] t there)) in
             let e = stands_depth (z_path c.0 c.1) z in
             omega (arith, g, e, depth_is));
       }

@@ -19,7 +19,7 @@ use Rattle.ir_event.specs.trees.WellFormed.{IsWellFormed}
 use Rattle.ir_event.proofs.of_trees.Moves.{Absent, ops_unput, ops_untouched}
 use Rattle.ir_event.proofs.of_trees.Left.{left_distinct}
 use Rattle.ir_event.proofs.of_trees.Replaced.{same_value_refl}
-use Rattle.ir_event.specs.tree_laws.Stands.{StandOf, StepOf, dropping, stand_id, stands, dominated_by as dominated_by_from}
+use Rattle.ir_event.specs.tree_laws.Stands.{OpWithPathOf, StepOf, dropping, op_with_path_id, stands, dominated_by as dominated_by_from}
 use Rattle.ir_event.specs.tree_laws.Tables.{table_of}
 use Rattle.ir_event.specs.tree_laws.Members.{In}
 use Rattle.ir_event.specs.tree_laws.Reads.{around}
@@ -56,8 +56,8 @@ use Rattle.patterns_soundness.proofs.Moving.{HasBlock, located_left}
 use Rattle.patterns_soundness.proofs.Ordered.{Before, Inside, around_at, before_both, inner_dominated_by, inner_table, inside_left, later_around, later_dominated_by, later_shows, later_table, put_before, put_inside, there_left}
 use Rattle.ir_event.proofs.Facts.{own_id}
 
-abbrev Stand : Type 0
-Stand = StandOf (List ℕ) TypeTerm AttrTerm
+abbrev OpWithPath : Type 0
+OpWithPath = OpWithPathOf (List ℕ) TypeTerm AttrTerm
 
 pub nothing : {X : Type 0} (l : List X) → ((u : X) → In u l → ⊥) → l ≡ []
 nothing [] f = refl
@@ -88,10 +88,10 @@ abbrev pub UsedBy : Operation → List Operation → Operation → Type 0
 UsedBy z vs t = (k : ℕ) (u : ℕ × ℕ) → In u (uses_of (Result (head z).id k) t) → (o : Operation) × In o vs × (has_id u.0 o ≡ true)
 
 -- the used values have users
-pub used_there : (t : Operation) (z : Operation) (zp : List (StepOf (List ℕ) TypeTerm AttrTerm)) → In (stand z zp) (stands [] t) → (s : Stand) → In s (stands zp z) → (v : Value) → In v (head s.here).operands → (u : ℕ × ℕ) × In u (uses_of v t)
+pub used_there : (t : Operation) (z : Operation) (zp : List (StepOf (List ℕ) TypeTerm AttrTerm)) → In (stand z zp) (stands [] t) → (s : OpWithPath) → In s (stands zp z) → (v : Value) → In v (head s.here).operands → (u : ℕ × ℕ) × In u (uses_of v t)
 used_there t z zp h s i v j =
-    let n = used_here v (stand_id s) 0 (head s.here).operands v j (same_value_refl v) in
-    ((stand_id s, n.0), subst (In (stand_id s, n.0)) (stands_uses v [] t) (in_gather (λ (z : Stand). operand_uses v (stand_id z) 0 (head z.here).operands) (stand_id s, n.0) s (stands [] t) (within z zp s i [] t h) n.1))
+    let n = used_here v (op_with_path_id s) 0 (head s.here).operands v j (same_value_refl v) in
+    ((op_with_path_id s, n.0), subst (In (op_with_path_id s, n.0)) (stands_uses v [] t) (in_gather (λ (z : OpWithPath). operand_uses v (op_with_path_id z) 0 (head z.here).operands) (op_with_path_id s, n.0) s (stands [] t) (within z zp s i [] t h) n.1))
 
 pub each_at : (f : ℕ → ℕ → OpsOf (List ℕ) TypeTerm AttrTerm → OpsOf (List ℕ) TypeTerm AttrTerm) (r : ℕ) (q : Operation) (args : List TypeTerm) (os : OpsOf (List ℕ) TypeTerm AttrTerm) → region_at r (regions q) ≡ Some (block args os)
     → region_at r (regions (each_list f q)) ≡ Some (block args (f (head q).id r (ops_each_list f os)))
@@ -173,7 +173,7 @@ module _ (x y : ℕ) (insertion : Place) (hx hy : Header) (deep : ℕ) where
     users_moved vs users finds lacks far seen k l = each_all (λ u. visible is_isolated after u.0 (Result (head z).id k)) (uses_of (Result (head z).id k) t) (λ u h.
         let o = users k u h in
         let w = user (Result (head z).id k) t u h in
-        let own = all_each (dominated_by_from is_isolated w.0.path) (head w.0.here).operands (all_each (λ (z : Stand). list_all (dominated_by_from is_isolated z.path) (head z.here).operands) (stands [] t) (sym (stands_operands is_isolated t) ∙ s.located.wellformed.wellformed.visible) w.0 w.1) (Result (head z).id k) w.3 in
+        let own = all_each (dominated_by_from is_isolated w.0.path) (head w.0.here).operands (all_each (λ (z : OpWithPath). list_all (dominated_by_from is_isolated z.path) (head z.here).operands) (stands [] t) (sym (stands_operands is_isolated t) ∙ s.located.wellformed.wellformed.visible) w.0 w.1) (Result (head z).id k) w.3 in
         let old = found_stands (head o.0).id t o.0 (finds o.0 o.1) in
         let lack = lacks o.0 o.1 in
         let new = found_stands (head o.0).id after o.0 (moving.literal is_isolated is_table m s.located.wellformed z place found root point outside o.0 (finds o.0 o.1) lack.0 lack.1 (far o.0 o.1)) in

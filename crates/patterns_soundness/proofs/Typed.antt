@@ -13,7 +13,7 @@ use Rattle.ir_event.specs.trees.Tree.{head}
 use Rattle.ir_event.specs.trees.Ids.{HasDistinctIds, find}
 use Rattle.ir_event.specs.trees.Meaning.{Operation}
 use Rattle.ir_event.specs.tree_laws.Values.{type_of_value}
-use Rattle.ir_event.specs.tree_laws.Stands.{StandOf, stands}
+use Rattle.ir_event.specs.tree_laws.Stands.{OpWithPathOf, stands}
 use Rattle.ir_event.specs.tree_laws.Members.{In}
 use Rattle.ir_event.proofs.of_tree_laws.Listed.{both, neither}
 use Rattle.ir_event.proofs.of_tree_laws.Members.{stand, stand_of_member, found_stands}
@@ -32,8 +32,8 @@ use Rattle.patterns_soundness.proofs.Unbroken.{verified_unbroken}
 use Rattle.listeners_support.proofs.Reading.{head_shown}
 use Rattle.std.proofs.lemmas.Bool.{not-false}
 
-abbrev Stand : Type 0
-Stand = StandOf (List ℕ) TypeTerm AttrTerm
+abbrev OpWithPath : Type 0
+OpWithPath = OpWithPathOf (List ℕ) TypeTerm AttrTerm
 
 -- the types that a table entry requires of operands and results
 abbrev pub pair : TypesRow → TypesRow → TypesRow × TypesRow
@@ -84,7 +84,7 @@ row_at name p e = go (row_of name) refl e
 pub typed : (t o : Operation) (ins outs : TypesRow) → HasDistinctIds t → find (head o).id t ≡ Some o → is_verified t (head o) ≡ true → types_at (head o).name ≡ Some (pair ins outs) → Typed t o ins outs
 typed t o ins outs d found verified listed = go (found_stands (head o).id t o found) (row_at (head o).name (pair ins outs) listed)
   where
-    go : (s : Stand) × In s (stands [] t) × ((head s.here).id ≡ (head o).id) × (s.here ≡ o) → (row : Row) × (row_of (head o).name ≡ Some row) × (pair_of row ≡ pair ins outs) → Typed t o ins outs
+    go : (s : OpWithPath) × In s (stands [] t) × ((head s.here).id ≡ (head o).id) × (s.here ≡ o) → (row : Row) × (row_of (head o).name ≡ Some row) × (pair_of row ≡ pair ins outs) → Typed t o ins outs
     go w q =
         let here : In (stand o w.0.path) (stands [] t) = subst (λ (z : Operation). In (stand z w.0.path) (stands [] t)) w.3 w.1 in
         let s = surround t (stand o w.0.path) in

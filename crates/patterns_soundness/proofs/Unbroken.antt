@@ -7,7 +7,7 @@ use Rattle.ir_types.specs.Terms.{TypeTerm, AttrTerm}
 use Rattle.ir_tree.specs.Tree.{OpOf, op, head}
 use Rattle.ir_tree.specs.Meaning.{Operation}
 use Rattle.ir_store.specs.Nodes.{node_of}
-use Rattle.ir_tree_laws.specs.Stands.{StandOf, stand_of}
+use Rattle.ir_tree_laws.specs.Stands.{OpWithPathOf, op_with_path}
 use Rattle.op_registry.specs.Rows.{Row}
 use Rattle.op_registry.specs.Registry.{row_of}
 use Rattle.listeners_support.specs.Surroundings.{surround}
@@ -16,15 +16,15 @@ use Rattle.ir_verify_base.specs.Shapes.{breaks_1, breaks_3, breaks_5, breaks_12,
 use Rattle.ir_verify_base.specs.TypeRules.{breaks_2, breaks_4, breaks_7, breaks_14, breaks_18, breaks_19, breaks_20}
 use Rattle.patterns_base.specs.verify.BlockRules.{breaks_6, breaks_8, breaks_9, breaks_21}
 use Rattle.patterns_base.specs.verify.PlaceRules.{breaks_10, breaks_11, breaks_15, breaks_16, breaks_17}
-use Rattle.patterns_base.specs.verify.Breaks.{told_of, broken_rules_in, numbers_from, broken}
+use Rattle.patterns_base.specs.verify.Breaks.{counted_rules, broken_rules_in, numbers_from, broken}
 use Rattle.patterns_base.specs.Diagnostics.{broken_at}
 use Rattle.patterns_base.specs.Looks.{Header, breaks_none, is_verified}
 use Rattle.std.proofs.lemmas.Bool.{and_parts}
 use Rattle.ir_verify_base.proofs.Reading.{head_shown}
 use Rattle.std.proofs.lemmas.Option.{same_Some}
 
-abbrev pub Stand : Type 0
-Stand = StandOf (List ℕ) TypeTerm AttrTerm
+abbrev pub OpWithPath : Type 0
+OpWithPath = OpWithPathOf (List ℕ) TypeTerm AttrTerm
 
 -- the first rule of the list, and the others
 peel : (n : ℕ) (b : Bool) (bs : List Bool) → numbers_from n (b ∷ bs) ≡ [] → (b ≡ false) × (numbers_from (n + 1) bs ≡ [])
@@ -50,7 +50,7 @@ pub record Unbroken (row : Row) (s : Surroundings) : Type 0 where
   pub passes : breaks_17 s ≡ false
   pub chooses : breaks_21 s ≡ false
 
-unbroken : (row : Row) (s : Surroundings) → numbers_from 1 (told_of row s) ≡ [] → Unbroken row s
+unbroken : (row : Row) (s : Surroundings) → numbers_from 1 (counted_rules row s) ≡ [] → Unbroken row s
 unbroken row s e =
     let w = is_well_shaped row s.node in
     let a = peel 1 (breaks_1 row s.node) _ e in
@@ -97,7 +97,7 @@ unfolding is_verified
 verified_breaks t h e = none_broken (broken_at h.id t) (and_parts (breaks_none (broken_at h.id t)) (list_all (λ (e : List ℕ × AttrTerm). is_inherent h.name e.0) h.properties) e).0
 
 -- its position
-pub verified_unbroken : (t : Operation) (z : Stand) (row : Row) → is_verified t (head z.here) ≡ true → stand_of (head z.here).id t ≡ Some z → row_of (head z.here).name ≡ Some row → Unbroken row (surround t z)
+pub verified_unbroken : (t : Operation) (z : OpWithPath) (row : Row) → is_verified t (head z.here) ≡ true → op_with_path (head z.here).id t ≡ Some z → row_of (head z.here).name ≡ Some row → Unbroken row (surround t z)
 verified_unbroken t z row e f g =
     let s = surround t z in
     let all : broken s ≡ [] = same_Some (broken s) [] (sym (ap (λ o. option_map broken (option_map (surround t) o)) f) ∙ verified_breaks t (head z.here) e) in

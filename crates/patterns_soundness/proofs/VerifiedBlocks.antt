@@ -13,7 +13,7 @@ use Rattle.ir_event.specs.trees.Uses.{operand_uses, same_value, uses_of}
 use Rattle.ir_event.specs.trees.Meaning.{Operation}
 use Rattle.ir_event.proofs.of_trees.Replaced.{same_value_true}
 use Rattle.ir_event.specs.store.Nodes.{node_of}
-use Rattle.ir_event.specs.tree_laws.Stands.{StepOf, stand_id, stands}
+use Rattle.ir_event.specs.tree_laws.Stands.{StepOf, op_with_path_id, stands}
 use Rattle.ir_event.specs.tree_laws.Members.{In}
 use Rattle.ir_event.specs.tree_laws.Values.{arguments_at, arguments_of, has_value, region_at}
 use Rattle.ir_event.proofs.of_tree_laws.Listed.{neither}
@@ -28,7 +28,7 @@ use Rattle.ir_verify_base.specs.TypeRules.{any_differ, arguments_differ}
 use Rattle.ir_verify.specs.BlockRules.{is_without}
 use Rattle.ir_event.specs.Modules.{Module}
 use Rattle.patterns_soundness.proofs.Ends.{arguments_read}
-use Rattle.patterns_soundness.proofs.Unbroken.{Stand, Unbroken, verified_unbroken}
+use Rattle.patterns_soundness.proofs.Unbroken.{OpWithPath, Unbroken, verified_unbroken}
 use Rattle.patterns_soundness.proofs.Points.{Point, own_operand}
 use Rattle.ir_event.proofs.of_tree_laws.Changed.{gather_none}
 use Rattle.listeners_support.proofs.Reading.{head_shown}
@@ -50,8 +50,8 @@ block_is (op h rs) r g e = ap (option_and_then (λ args. args)) (arguments_read 
 pub no_uses : (m : Module) (o : Operation) (insertion : Place) → Point m o insertion → (v : Value) → has_value v m.tree ≡ false → uses_of v m.tree ≡ []
 no_uses m o insertion s v none =
     sym (stands_uses v [] m.tree)
-    ∙ gather_none (λ (s : Stand). operand_uses v (stand_id s) 0 (head s.here).operands) (stands [] m.tree) (λ z i.
-    none_here v (stand_id z) 0 (head z.here).operands (λ w j. differs w (seen_by is_isolated m.tree s.wellformed.distinct z i w (own_operand m.tree s.wellformed.distinct s.wellformed.wellformed.visible z i w j)).is))
+    ∙ gather_none (λ (s : OpWithPath). operand_uses v (op_with_path_id s) 0 (head s.here).operands) (stands [] m.tree) (λ z i.
+    none_here v (op_with_path_id z) 0 (head z.here).operands (λ w j. differs w (seen_by is_isolated m.tree s.wellformed.distinct z i w (own_operand m.tree s.wellformed.distinct s.wellformed.wellformed.visible z i w j)).is))
   where
     differs : (w : Value) → has_value w m.tree ≡ true → same_value v w ≡ false
     differs w there = go (same_value v w) refl

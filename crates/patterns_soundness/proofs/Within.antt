@@ -22,7 +22,7 @@ use Rattle.ir_event.proofs.of_trees.Heads as tree_heads
 use Rattle.ir_event.proofs.of_trees.Heads.{head_find}
 use Rattle.ir_event.proofs.of_trees.Moves.{Absent, absent_parts, ops_unput}
 use Rattle.ir_event.proofs.of_trees.Replaced.{same_value_refl}
-use Rattle.ir_event.specs.tree_laws.Stands.{StandOf, StepOf, edit_stand, edit_step, stand_id, stands}
+use Rattle.ir_event.specs.tree_laws.Stands.{OpWithPathOf, StepOf, edit_stand, edit_step, op_with_path_id, stands}
 use Rattle.ir_event.specs.tree_laws.Members.{In}
 use Rattle.ir_event.specs.tree_laws.Reads.{around}
 use Rattle.ir_event.specs.tree_laws.Reasons.{has_place, hold_none, with_id}
@@ -52,8 +52,8 @@ use Rattle.patterns_soundness.proofs.Steps.{Across, absent_all, each_at, nothing
 use Rattle.std.proofs.lemmas.Bool.{or_parts}
 use Rattle.ir_event.proofs.of_tree_laws.Facts.{new_id}
 
-abbrev Stand : Type 0
-Stand = StandOf (List ℕ) TypeTerm AttrTerm
+abbrev OpWithPath : Type 0
+OpWithPath = OpWithPathOf (List ℕ) TypeTerm AttrTerm
 
 -- ---- heads edited
 module _ (f : Header → Header) (alike : (h : Header) → Alike (f h) h) (t : Operation) where
@@ -106,18 +106,18 @@ set_in (x ∷ xs) (suc i) v w (inr k) = elim (set_in xs i v w k) [ inl e ↦ inl
 unused_set : (l i : ℕ) (v w : Value) (t : Operation) → same_value w v ≡ false → uses_of w t ≡ [] → uses_of w (with_operand l i v t) ≡ []
 unused_set l i v w t other none = nothing (uses_of w (with_operand l i v t)) (λ u h.
     let s = user w (with_operand l i v t) u h in
-    let m = in_mapped (edit_stand (at l (put_operand i v))) s.0 (stands [] t) (subst (λ (k : List Stand). In s.0 k) (each_stands (at l (put_operand i v)) [] t) s.1) in
-    go m.0 m.1 (subst (λ (z : Stand). In w (head z.here).operands) m.2 s.3))
+    let m = in_mapped (edit_stand (at l (put_operand i v))) s.0 (stands [] t) (subst (λ (k : List OpWithPath). In s.0 k) (each_stands (at l (put_operand i v)) [] t) s.1) in
+    go m.0 m.1 (subst (λ (z : OpWithPath). In w (head z.here).operands) m.2 s.3))
   where
-    was_used : (s : Stand) → In s (stands [] t) → In w (head s.here).operands → ⊥
+    was_used : (s : OpWithPath) → In s (stands [] t) → In w (head s.here).operands → ⊥
     was_used s h k =
-        let n = used_here w (stand_id s) 0 (head s.here).operands w k (same_value_refl w) in
-        subst (In (stand_id s, n.0)) (stands_uses w [] t ∙ none) (in_gather (λ (z : Stand). operand_uses w (stand_id z) 0 (head z.here).operands) (stand_id s, n.0) s (stands [] t) h n.1)
+        let n = used_here w (op_with_path_id s) 0 (head s.here).operands w k (same_value_refl w) in
+        subst (In (op_with_path_id s, n.0)) (stands_uses w [] t ∙ none) (in_gather (λ (z : OpWithPath). operand_uses w (op_with_path_id z) 0 (head z.here).operands) (op_with_path_id s, n.0) s (stands [] t) h n.1)
 
     head_of : (o : Operation) → head (each_head (at l (put_operand i v)) o) ≡ at l (put_operand i v) (head o)
     head_of (op h rs) = refl
 
-    go : (s : Stand) → In s (stands [] t) → In w (head (each_head (at l (put_operand i v)) s.here)).operands → ⊥
+    go : (s : OpWithPath) → In s (stands [] t) → In w (head (each_head (at l (put_operand i v)) s.here)).operands → ⊥
     go s h k = by_case (eqb (head s.here).id l) (subst (λ (z : Header). In w z.operands) (head_of s.here) k)
       where
         by_case : (b : Bool) → In w (cond b (put_operand i v (head s.here)) (head s.here)).operands → ⊥

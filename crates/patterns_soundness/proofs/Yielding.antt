@@ -16,7 +16,7 @@ use Rattle.ir_tree.specs.Ids.{HasDistinctIds}
 use Rattle.ir_tree.specs.Meaning.{Operation}
 use Rattle.ir_tree_laws.specs.Reads.{ops_in}
 use Rattle.ir_tree_laws.specs.Values.{arguments_of, type_of_value}
-use Rattle.ir_tree_laws.specs.Stands.{StepOf, stands, stand_of}
+use Rattle.ir_tree_laws.specs.Stands.{StepOf, stands, op_with_path}
 use Rattle.ir_tree_laws.specs.Members.{In}
 use Rattle.ir_tree_laws.proofs.Readings.{step}
 use Rattle.ir_tree_laws.proofs.Members.{stand, stand_of_member, found_stands}
@@ -29,11 +29,11 @@ use Rattle.listeners_support.proofs.Points.{stands_in}
 use Rattle.ir_verify_base.specs.Types.{is_boolean, same_types}
 use Rattle.ir_verify_base.specs.Fits.{Node, Surroundings, Known, block_at, first_fit, is_named, is_there, known_of, there, types_fit}
 use Rattle.ir_verify_base.specs.TypeRules.{is_no_number}
-use Rattle.patterns_base.specs.verify.BlockRules.{breaks_9, ends_otherwise, isnt_wanted, last_at}
+use Rattle.patterns_base.specs.verify.BlockRules.{breaks_9, ends_otherwise, isnt_required, last_at}
 use Rattle.patterns_base.specs.verify.PlaceRules.{differ, ended_of, if_well_shaped, yielded}
 use Rattle.patterns_base.specs.Looks.{Ended, body, is_verified, is_index_value}
 use Rattle.patterns_soundness.specs.Yields.{IsVerifiedOf, LoopsHandOnAll, ChoicesHandOnAll, ChoicesAskTruth}
-use Rattle.patterns_soundness.proofs.Unbroken.{Stand, Unbroken, verified_unbroken, spoken}
+use Rattle.patterns_soundness.proofs.Unbroken.{OpWithPath, Unbroken, verified_unbroken, spoken}
 use Rattle.patterns_soundness.proofs.Ends.{Ending, ending, arguments_read, names_at}
 use Rattle.std.proofs.lemmas.Bool.{and_parts, not-false}
 use Rattle.ir_verify_base.proofs.Reading.{name_joined, head_shown}
@@ -122,14 +122,14 @@ as_long same (x ∷ xs) (y ∷ ys) e = (let k = as_long same xs ys (and_parts (s
 
 -- an operation of a tree, with the last operation of one of its blocks
 module _ (t o : Operation) (d : HasDistinctIds t) (path : List (StepOf (List ℕ) TypeTerm AttrTerm)) (here : In (stand o path) (stands [] t)) (verified : is_verified t (head o) ≡ true) where
-  located : stand_of (head o).id t ≡ Some (stand o path)
+  located : op_with_path (head o).id t ≡ Some (stand o path)
   located = stand_of_member t d (stand o path) here
 
   module _ (r : ℕ) (e : Ended) (n : Ending t o r e) where
-    abbrev inner : Stand
+    abbrev inner : OpWithPath
     inner = stand n.last (step o r n.args n.preceding no_ops ∷ path)
 
-    inner_located : stand_of (head n.last).id t ≡ Some inner
+    inner_located : op_with_path (head n.last).id t ≡ Some inner
     inner_located = stand_of_member t d inner (stands_in t o path r n.args n.preceding n.last no_ops here n.block)
 
     -- the last operation is an `scf.yield`, if the parent requires one
@@ -137,8 +137,8 @@ module _ (t o : Operation) (d : HasDistinctIds t) (path : List (StepOf (List ℕ
     yields e =
         name_is (codes "scf.yield") (head n.last).name
         (not-false (bytes_eq (head n.last).name (codes "scf.yield"))
-        (sym (ap (isnt_wanted (codes "scf.yield")) last_is)
-        ∙ spoken (is_some (block_at r (node_of o))) (isnt_wanted (codes "scf.yield") (last_at r (surround t (stand o path)))) (ap is_some block_is) e))
+        (sym (ap (isnt_required (codes "scf.yield")) last_is)
+        ∙ spoken (is_some (block_at r (node_of o))) (isnt_required (codes "scf.yield") (last_at r (surround t (stand o path)))) (ap is_some block_is) e))
       where
         last_is : last_at r (surround t (stand o path)) ≡ Some (head n.last).name
         last_is =
@@ -173,7 +173,7 @@ choice_types t o x r e small h k = go (found_stands x t o h.found)
     which (suc zero) l s p = p.1
     which (suc (suc r)) l s p = absurd (omega (arith, l))
 
-    go : (s : Stand) × In s (stands [] t) × ((head s.here).id ≡ x) × (s.here ≡ o) → same_types (there (head o).results) (map (λ v. type_of_value v t) e.last.operands) ≡ true
+    go : (s : OpWithPath) × In s (stands [] t) × ((head s.here).id ≡ x) × (s.here ≡ o) → same_types (there (head o).results) (map (λ v. type_of_value v t) e.last.operands) ≡ true
     go w =
         let here : In (stand o w.0.path) (stands [] t) = subst (λ (z : Operation). In (stand z w.0.path) (stands [] t)) w.3 w.1 in
         let n = ending t o r e k in
@@ -189,7 +189,7 @@ choice_types t o x r e small h k = go (found_stands x t o h.found)
 pub loop_types : (t o : Operation) (x : ℕ) (e : Ended) → IsVerifiedOf t o x (codes "scf.for") → body t o 0 ≡ Some e → same_types (there (head o).results) (map (λ v. type_of_value v t) e.last.operands) ≡ true
 loop_types t o x e h k = go (found_stands x t o h.found)
   where
-    go : (s : Stand) × In s (stands [] t) × ((head s.here).id ≡ x) × (s.here ≡ o) → same_types (there (head o).results) (map (λ v. type_of_value v t) e.last.operands) ≡ true
+    go : (s : OpWithPath) × In s (stands [] t) × ((head s.here).id ≡ x) × (s.here ≡ o) → same_types (there (head o).results) (map (λ v. type_of_value v t) e.last.operands) ≡ true
     go w =
         let here : In (stand o w.0.path) (stands [] t) = subst (λ (z : Operation). In (stand z w.0.path) (stands [] t)) w.3 w.1 in
         let n = ending t o 0 e k in
@@ -236,7 +236,7 @@ one_truth t k (v ∷ []) e = go (type_of_value v t) refl (and_parts (is_there is
 pub choices_ask_truth : ChoicesAskTruth
 choices_ask_truth t o x h = go (found_stands x t o h.found)
   where
-    go : (s : Stand) × In s (stands [] t) × ((head s.here).id ≡ x) × (s.here ≡ o) → map (is_index_value t) (head o).operands ≡ false ∷ []
+    go : (s : OpWithPath) × In s (stands [] t) × ((head s.here).id ≡ x) × (s.here ≡ o) → map (is_index_value t) (head o).operands ≡ false ∷ []
     go w =
         let here : In (stand o w.0.path) (stands [] t) = subst (λ (z : Operation). In (stand z w.0.path) (stands [] t)) w.3 w.1 in
         let name = name_is (codes "scf.if") (head o).name h.name in

@@ -12,7 +12,7 @@ use Rattle.ir_event.proofs.of_trees.Facts.{ids_head}
 use Rattle.ir_event.specs.tree_laws.Members.{In}
 use Rattle.ir_event.specs.tree_laws.Reads.{is_within}
 use Rattle.ir_event.specs.tree_laws.Reasons.{holds_none, leaves, leaves_within, take_reason, unused_outside}
-use Rattle.ir_event.specs.tree_laws.Stands.{StandOf, dropping, stands}
+use Rattle.ir_event.specs.tree_laws.Stands.{OpWithPathOf, dropping, stands}
 use Rattle.ir_event.proofs.of_tree_laws.Around.{present_stand}
 use Rattle.ir_event.proofs.of_tree_laws.Listed.{all_each, each_all, not_false}
 use Rattle.ir_event.proofs.of_tree_laws.Members.{stand_found}
@@ -26,7 +26,7 @@ module _ {N T A : Type 0} (x : ℕ) (t : OpOf N T A) (d : HasDistinctIds t) (fre
   abbrev why : NoTakeReason x t
   why = no_take_reason x t free
 
-  abbrev there : (s : StandOf N T A) × In s (stands [] t) × ((head s.here).id ≡ x)
+  abbrev there : (s : OpWithPathOf N T A) × In s (stands [] t) × ((head s.here).id ≡ x)
   there = present_stand [] t x why.there
 
   abbrev here : OpOf N T A
@@ -53,15 +53,15 @@ module _ {N T A : Type 0} (x : ℕ) (t : OpOf N T A) (d : HasDistinctIds t) (fre
   outside =
       (λ j. every (λ o. leaves_within (found j) (head o)) (without x t))
       ∙ sym (stands_every (λ o. leaves_within (Some here) (head o)) [] (without x t))
-      ∙ each_all (λ (s : StandOf N T A). leaves_within (Some here) (head s.here)) (stands [] (without x t)) one
+      ∙ each_all (λ (s : OpWithPathOf N T A). leaves_within (Some here) (head s.here)) (stands [] (without x t)) one
     where
-      spared : (s : StandOf N T A) → In s (stands [] t) → leaves x (head s.here) ≡ true
-      spared = all_each (λ (s : StandOf N T A). leaves x (head s.here)) (stands [] t) (stands_every (λ o. leaves x (head o)) [] t ∙ why.spared)
+      spared : (s : OpWithPathOf N T A) → In s (stands [] t) → leaves x (head s.here) ≡ true
+      spared = all_each (λ (s : OpWithPathOf N T A). leaves x (head s.here)) (stands [] t) (stands_every (λ o. leaves x (head o)) [] t ∙ why.spared)
 
-      one : (s : StandOf N T A) → In s (stands [] (without x t)) → leaves_within (Some here) (head s.here) ≡ true
+      one : (s : OpWithPathOf N T A) → In s (stands [] (without x t)) → leaves_within (Some here) (head s.here) ≡ true
       one s h =
           let w = member_left x t s h in
-          let same : head s.here ≡ head w.0.here = ap (λ (s : StandOf N T A). head s.here) w.3 ∙ same_head x (dropping x) w.0.here in
+          let same : head s.here ≡ head w.0.here = ap (λ (s : OpWithPathOf N T A). head s.here) w.3 ∙ same_head x (dropping x) w.0.here in
           ap (leaves_within (Some here)) same ∙ leaves_all (head w.0.here) (spared w.0 w.1)
 
   pub may_erase : erase_reason x t ≡ None

@@ -2,7 +2,7 @@ pub mod Calls
 pub mod Together
 pub mod There
 pub mod Typed
-pub mod Tried
+pub mod IsMadeOrRefused
 pub mod Whole
 pub mod Panels
 pub mod Told

@@ -8,7 +8,7 @@ use Rattle.ir_event.specs.trees.Tree.{OpOf, head}
 use Rattle.ir_event.specs.trees.Ids.{HasDistinctIds, find, has_id}
 use Rattle.ir_event.specs.trees.Places.{place_of}
 use Rattle.ir_event.specs.tree_laws.Reasons.{unless, unused_outside}
-use Rattle.ir_event.specs.tree_laws.Stands.{StandOf, place_in}
+use Rattle.ir_event.specs.tree_laws.Stands.{OpWithPathOf, place_in}
 use Rattle.ir_event.proofs.of_tree_laws.Members.{stand, itself, stand_found, same_stand}
 use Rattle.ir_event.proofs.of_tree_laws.Around.{present_stand, member_of_place}
 use Rattle.ir_event.proofs.of_tree_laws.Listed.{bool_cases}
@@ -27,7 +27,7 @@ module _ {N T A : Type 0} (x : ℕ) (t : OpOf N T A) (d : HasDistinctIds t) (kno
   root_unplaced p e root =
       let w = member_of_place x p t e in
       let same : w.0 ≡ stand t [] = same_stand t d w.0 (stand t []) w.1 (itself [] t) (w.2 ∙ sym (eqb-true (head t).id x root)) in
-      let n : None ≡ Some p = ap (λ (s : StandOf N T A). place_in s.path) (sym same) ∙ w.3 in
+      let n : None ≡ Some p = ap (λ (s : OpWithPathOf N T A). place_in s.path) (sym same) ∙ w.3 in
       cc
 
   other_placed : place_of x t ≡ None → eqb (head t).id x ≡ false → ⊥

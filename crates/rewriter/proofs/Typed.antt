@@ -11,7 +11,7 @@ use Rattle.ir_event.specs.types.declared.refusal.Refusal.TheVariants.{NoSuchValu
 use Rattle.ir_event.specs.trees.declared.value.Value.{Value}
 use Rattle.ir_event.specs.trees.Meaning.{isolated_in}
 use Rattle.ir_event.specs.tree_laws.Values.{type_of_value}
-use Rattle.ir_event.specs.tree_laws.Reasons.{unless, users_see}
+use Rattle.ir_event.specs.tree_laws.Reasons.{unless, is_visible_to_users}
 use Rattle.ir_event.specs.declared.world.World.{World}
 use Rattle.ir_event.proofs.Typed.{value_known}
 use Rattle.rewriter.specs.Contents.{tests_in}
@@ -25,6 +25,6 @@ module _ (w : World) (sound : IsSound w.ctx) (old new : Value) where
     typed : option_eq (tests_in w.ctx).same_type (type_of_value old w.store.module_of.tree) (type_of_value new w.store.module_of.tree) ≡ (a == b)
     typed = (λ i. option_eq (tests_in w.ctx).same_type (one i) (other i)) ∙ sym (same_numbers w.ctx a b sound (value_known w old a one) (value_known w new b other))
 
-    pub typed_reason : (t s : Bool) → (a == b) ≡ t → users_see (isolated_in w.ctx) old new w.store.module_of.tree ≡ s → replace_reason (tests_in w.ctx) old new w.store.module_of.tree ≡ unless t TypeDiffers (unless s NotVisible None)
+    pub typed_reason : (t s : Bool) → (a == b) ≡ t → is_visible_to_users (isolated_in w.ctx) old new w.store.module_of.tree ≡ s → replace_reason (tests_in w.ctx) old new w.store.module_of.tree ≡ unless t TypeDiffers (unless s NotVisible None)
     typed_reason t s e f =
         λ i. unless (is_some (one i)) NoSuchValue (unless (is_some (other i)) NoSuchValue (unless ((typed ∙ e) i) TypeDiffers (unless (f i) NotVisible None)))

@@ -1,6 +1,6 @@
 //! Inserts the headers of an operation one after another.
 ghost use Rattle.std.specs.Prelude.{◌≡◌, ◌≢◌, ◌⊎◌, None, OnOk};
-ghost use Rattle.ir_event.specs.types.declared.refusal.Refusal.TheVariants.{Memory as WantOfMemory};
+ghost use Rattle.ir_event.specs.types.declared.refusal.Refusal.TheVariants.{Memory as MemoryRefusal};
 ghost use Rattle.ir_event.specs.types.declared.refusal.Refusal.TheVariants.{NotVisible as Unseen};
 ghost use Rattle.ir_event.specs.trees.Ids.{IsNumberedFrom};
 ghost use Rattle.ir_event.specs.trees.Meaning.{IsSoundIn};
@@ -45,7 +45,7 @@ fn make_each<L: Analysis>(
 /// Returns the refusal of the whole insertion for the refusal of one header: `Memory` for `Memory`, and otherwise that
 /// an operand isn't visible.
 fn refused_whole(refusal: Refusal) -> Refusal
-    ensures { (result ≡ WantOfMemory) ⊎ ((result ≡ Unseen) × (refusal ≢ WantOfMemory)) }
+    ensures { (result ≡ MemoryRefusal) ⊎ ((result ≡ Unseen) × (refusal ≢ MemoryRefusal)) }
 {
     if refusal == Refusal::Memory {
         return Refusal::Memory;

@@ -14,9 +14,9 @@ use Rattle.ir_event.specs.trees.Edits.{each_head, at, put_operand, with_operand}
 use Rattle.ir_event.specs.trees.WellFormed.{ModuleOf, IsWellFormed}
 use Rattle.ir_event.proofs.of_trees.Heads.{head_find, head_visible, alike_operand}
 use Rattle.ir_event.specs.tree_laws.Members.{In}
-use Rattle.ir_event.specs.tree_laws.Stands.{StandOf, stand_id, stands, dominated_by}
+use Rattle.ir_event.specs.tree_laws.Stands.{OpWithPathOf, op_with_path_id, stands, dominated_by}
 use Rattle.ir_event.specs.tree_laws.Values.{has_value, type_of_value}
-use Rattle.ir_event.specs.tree_laws.Reasons.{value_reason, operand_reason, set_operand_reason, users_see}
+use Rattle.ir_event.specs.tree_laws.Reasons.{value_reason, operand_reason, set_operand_reason, is_visible_to_users}
 use Rattle.ir_event.proofs.of_tree_laws.Listed.{all_each, in_left}
 use Rattle.ir_event.proofs.of_tree_laws.Readings.{stands_uses}
 use Rattle.ir_event.proofs.of_tree_laws.Members.{found_stands, stand_found}
@@ -79,20 +79,20 @@ module _ {N T A : Type 0} (isolated : N → Bool) (new : Value) where
   all_still (u ∷ us) z t a = all_still us z (with_operand u.0 u.1 new t) (still u z t a)
 
 module _ {N T A : Type 0} (w : TestsOf N T) (old new : Value) (m : ModuleOf N T A) (f : IsWellFormed w.isolated m) (e : reason_by w (Replace old new) m ≡ None) where
-  pub uses_see : users_see w.isolated old new m.tree ≡ true
+  pub uses_see : is_visible_to_users w.isolated old new m.tree ≡ true
   uses_see =
       let a = no_unless (has_value old m.tree) NoSuchValue _ e in
       let b = no_unless (has_value new m.tree) NoSuchValue _ a.1 in
       let d = no_unless (option_eq w.same_type (type_of_value old m.tree) (type_of_value new m.tree)) TypeDiffers _ b.1 in
-      (no_unless (users_see w.isolated old new m.tree) NotVisible None d.1).0
+      (no_unless (is_visible_to_users w.isolated old new m.tree) NotVisible None d.1).0
 
   pub each_takes : (z : ℕ × ℕ) → In z (uses_of old m.tree) → Takes w.isolated new z m.tree
   each_takes z h =
-      let g = of_gather (λ (s : StandOf N T A). operand_uses old (stand_id s) 0 (head s.here).operands) z (stands [] m.tree) (subst (In z) (sym (stands_uses old [] m.tree)) h) in
+      let g = of_gather (λ (s : OpWithPathOf N T A). operand_uses old (op_with_path_id s) 0 (head s.here).operands) z (stands [] m.tree) (subst (In z) (sym (stands_uses old [] m.tree)) h) in
       record {
         here = g.0.here;
-        found = ap (λ y. find y m.tree) (user old (stand_id g.0) 0 (head g.0.here).operands z g.2) ∙ stand_found m.tree f.distinct g.0 g.1;
-        place = lt-ltb z.1 (length (head g.0.here).operands) (let n = below old (stand_id g.0) 0 (head g.0.here).operands z g.2 in omega (arith, n));
+        found = ap (λ y. find y m.tree) (user old (op_with_path_id g.0) 0 (head g.0.here).operands z g.2) ∙ stand_found m.tree f.distinct g.0 g.1;
+        place = lt-ltb z.1 (length (head g.0.here).operands) (let n = below old (op_with_path_id g.0) 0 (head g.0.here).operands z g.2 in omega (arith, n));
         dominated_by_it = all_each (λ u. visible w.isolated m.tree u.0 new) (uses_of old m.tree) uses_see z h;
       }
 

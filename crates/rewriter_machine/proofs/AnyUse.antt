@@ -16,9 +16,9 @@ use Rattle.ir_event.specs.trees.WellFormed.{ModuleOf, IsWellFormed}
 use Rattle.ir_event.proofs.of_trees.Heads.{head_find, head_visible, alike_operand}
 use Rattle.ir_event.proofs.of_trees.Replaced.{same_value_true}
 use Rattle.ir_event.specs.tree_laws.Members.{In}
-use Rattle.ir_event.specs.tree_laws.Stands.{StandOf, stand_id, stands, gather, dominated_by}
+use Rattle.ir_event.specs.tree_laws.Stands.{OpWithPathOf, op_with_path_id, stands, gather, dominated_by}
 use Rattle.ir_event.specs.tree_laws.Values.{region_at, arguments_of, arguments_at, type_of_value, has_value}
-use Rattle.ir_event.specs.tree_laws.Reasons.{set_operand_reason, users_see}
+use Rattle.ir_event.specs.tree_laws.Reasons.{set_operand_reason, is_visible_to_users}
 use Rattle.ir_event.proofs.of_tree_laws.Listed.{bool_cases, in_parts, one_any, all_each, each_all, both}
 use Rattle.ir_event.proofs.of_tree_laws.Readings.{stands_ids, stands_uses}
 use Rattle.ir_event.proofs.of_tree_laws.Members.{same_stand}
@@ -165,7 +165,7 @@ module _ (old : Value) where
 
       -- ---- in a tree
       module _ {N T A : Type 0} where
-        less_one : (u : ℕ × ℕ) (ss : List (StandOf N T A)) → IsDistinct eqb (map (λ (s : StandOf N T A). stand_id s) ss) → In u (gather (uses_here old new differ) ss) → suc (length (gather (uses_then old new differ u) ss)) ≡ length (gather (uses_here old new differ) ss)
+        less_one : (u : ℕ × ℕ) (ss : List (OpWithPathOf N T A)) → IsDistinct eqb (map (λ (s : OpWithPathOf N T A). op_with_path_id s) ss) → In u (gather (uses_here old new differ) ss) → suc (length (gather (uses_then old new differ u) ss)) ≡ length (gather (uses_here old new differ) ss)
         less_one u [] d h = absurd h
         less_one u (s ∷ ss) d h =
             let here = uses_here old new differ in
@@ -174,20 +174,20 @@ module _ (old : Value) where
             let b = length-append (here s) (gather here ss) in
             elim (in_parts u (here s) (gather here ss) h) [
               | inl k ↦
-                  let id : u.0 ≡ stand_id s = user old (stand_id s) 0 (head s.here).operands u k in
-                  let r = one_less (stand_id s) 0 u.1 (head s.here).operands (subst (λ x. In (x, u.1) (here s)) id k) in
+                  let id : u.0 ≡ op_with_path_id s = user old (op_with_path_id s) 0 (head s.here).operands u k in
+                  let r = one_less (op_with_path_id s) 0 u.1 (head s.here).operands (subst (λ x. In (x, u.1) (here s)) id k) in
                   let there : u.1 ≡ r.0 = (let n = r.1 in omega (arith, n)) in
                   let one : suc (length (then s)) ≡ length (here s) =
-                  ap (λ b. suc (length (operand_uses old (stand_id s) 0 (cond b (put_operand u.1 new (head s.here)) (head s.here)).operands))) (eq-eqb (stand_id s) u.0 (sym id))
-                  ∙ ap (λ k. suc (length (operand_uses old (stand_id s) 0 (slice_set (head s.here).operands k new)))) there ∙ r.2 in
-                  let others = ap length (gather_same then here ss (λ z m. elsewhere old new differ u z (ap (eqb (stand_id z)) id ∙ apart (stand_id s) ss d z m))) in
+                  ap (λ b. suc (length (operand_uses old (op_with_path_id s) 0 (cond b (put_operand u.1 new (head s.here)) (head s.here)).operands))) (eq-eqb (op_with_path_id s) u.0 (sym id))
+                  ∙ ap (λ k. suc (length (operand_uses old (op_with_path_id s) 0 (slice_set (head s.here).operands k new)))) there ∙ r.2 in
+                  let others = ap length (gather_same then here ss (λ z m. elsewhere old new differ u z (ap (eqb (op_with_path_id z)) id ∙ apart (op_with_path_id s) ss d z m))) in
                   omega (arith, a, b, one, others)
               | inr k ↦
                   let w = of_gather here u ss k in
-                  let id : u.0 ≡ stand_id w.0 = user old (stand_id w.0) 0 (head w.0.here).operands u w.2 in
-                  let other : eqb (stand_id s) u.0 ≡ false = ap (eqb (stand_id s)) id ∙ unequal (stand_id w.0) (stand_id s) (apart (stand_id s) ss d w.0 w.1) in
+                  let id : u.0 ≡ op_with_path_id w.0 = user old (op_with_path_id w.0) 0 (head w.0.here).operands u w.2 in
+                  let other : eqb (op_with_path_id s) u.0 ≡ false = ap (eqb (op_with_path_id s)) id ∙ unequal (op_with_path_id w.0) (op_with_path_id s) (apart (op_with_path_id s) ss d w.0 w.1) in
                   let one = ap length (elsewhere old new differ u s other) in
-                  let others = less_one u ss (IsDistinct-tail eqb (stand_id s) (map (λ (s : StandOf N T A). stand_id s) ss) d) k in
+                  let others = less_one u ss (IsDistinct-tail eqb (op_with_path_id s) (map (λ (s : OpWithPathOf N T A). op_with_path_id s) ss) d) k in
                   omega (arith, a, b, one, others)
             ]
 
@@ -200,16 +200,16 @@ module _ (old : Value) where
         pub uses_within : (u z : ℕ × ℕ) (t : OpOf N T A) → In z (uses_of old (with_operand u.0 u.1 new t)) → In z (uses_of old t)
         uses_within u z t h =
             let g = of_gather (uses_then old new differ u) z (stands [] t) (subst (In z) (uses_set old new differ u t) h) in
-            let there = elim (eqb (stand_id g.0) u.0) as (λ b. In z (operand_uses old (stand_id g.0) 0 (cond b (put_operand u.1 new (head g.0.here)) (head g.0.here)).operands) → In z (operand_uses old (stand_id g.0) 0 (head g.0.here).operands)) [
-              | true ↦ set_within (stand_id g.0) 0 u.1 (head g.0.here).operands z
+            let there = elim (eqb (op_with_path_id g.0) u.0) as (λ b. In z (operand_uses old (op_with_path_id g.0) 0 (cond b (put_operand u.1 new (head g.0.here)) (head g.0.here)).operands) → In z (operand_uses old (op_with_path_id g.0) 0 (head g.0.here).operands)) [
+              | true ↦ set_within (op_with_path_id g.0) 0 u.1 (head g.0.here).operands z
               | false ↦ λ k. k
             ] in
             subst (In z) (stands_uses old [] t) (in_gather (uses_here old new differ) z g.0 (stands [] t) g.1 (there g.2))
 
     -- whatever use is set first, the tree after the replacement is the same
     module _ {N T A : Type 0} where
-      abbrev users : StandOf N T A → List (ℕ × ℕ)
-      users s = operand_uses old (stand_id s) 0 (head s.here).operands
+      abbrev users : OpWithPathOf N T A → List (ℕ × ℕ)
+      users s = operand_uses old (op_with_path_id s) 0 (head s.here).operands
 
       with_list : HeadOf N T A → List Value → HeadOf N T A
       with_list h l = record h { operands = l }
@@ -217,15 +217,15 @@ module _ (old : Value) where
       pub replaced_same : (u : ℕ × ℕ) (t : OpOf N T A) → HasDistinctIds t → In u (uses_of old t) → with_value_replaced old new (with_operand u.0 u.1 new t) ≡ with_value_replaced old new t
       replaced_same u t d h = each_twice (at u.0 (put_operand u.1 new)) (put_values old new) t ∙ agree (λ h. put_values old new (at u.0 (put_operand u.1 new) h)) (put_values old new) [] t each
         where
-          each : (s : StandOf N T A) → In s (stands [] t) → put_values old new (at u.0 (put_operand u.1 new) (head s.here)) ≡ put_values old new (head s.here)
-          each s m = elim (bool_cases (eqb (stand_id s) u.0)) [
+          each : (s : OpWithPathOf N T A) → In s (stands [] t) → put_values old new (at u.0 (put_operand u.1 new) (head s.here)) ≡ put_values old new (head s.here)
+          each s m = elim (bool_cases (eqb (op_with_path_id s) u.0)) [
             | inr e ↦ ap (λ b. put_values old new (cond b (put_operand u.1 new (head s.here)) (head s.here))) e
             | inl e ↦
                 let g = of_gather users u (stands [] t) (subst (In u) (sym (stands_uses old [] t)) h) in
-                let id : u.0 ≡ stand_id g.0 = user old (stand_id g.0) 0 (head g.0.here).operands u g.2 in
-                let same : g.0 ≡ s = same_stand t d g.0 s g.1 m (sym id ∙ sym (eqb-true (stand_id s) u.0 e)) in
-                let k : In (stand_id s, u.1) (users s) = subst (λ (z : StandOf N T A). In (stand_id z, u.1) (users z)) same (subst (λ x. In (x, u.1) (users g.0)) id g.2) in
-                let r = set_before (stand_id s) 0 u.1 (head s.here).operands k in
+                let id : u.0 ≡ op_with_path_id g.0 = user old (op_with_path_id g.0) 0 (head g.0.here).operands u g.2 in
+                let same : g.0 ≡ s = same_stand t d g.0 s g.1 m (sym id ∙ sym (eqb-true (op_with_path_id s) u.0 e)) in
+                let k : In (op_with_path_id s, u.1) (users s) = subst (λ (z : OpWithPathOf N T A). In (op_with_path_id z, u.1) (users z)) same (subst (λ x. In (x, u.1) (users g.0)) id g.2) in
+                let r = set_before (op_with_path_id s) 0 u.1 (head s.here).operands k in
                 let there : u.1 ≡ r.0 = (let n = r.1 in omega (arith, n)) in
                 ap (λ b. put_values old new (cond b (put_operand u.1 new (head s.here)) (head s.here))) e
                 ∙ ap (λ k. put_values old new (put_operand k new (head s.here))) there
@@ -234,7 +234,7 @@ module _ (old : Value) where
 
       pub replaced_none : (t : OpOf N T A) → uses_of old t ≡ [] → with_value_replaced old new t ≡ t
       replaced_none t e =
-          agree (put_values old new) (λ h. h) [] t (λ s m. ap (λ l. record (head s.here) { operands = l }) (unused_kept (stand_id s) 0 (head s.here).operands (none_of users (stands [] t) (stands_uses old [] t ∙ e) s m)))
+          agree (put_values old new) (λ h. h) [] t (λ s m. ap (λ l. record (head s.here) { operands = l }) (unused_kept (op_with_path_id s) 0 (head s.here).operands (none_of users (stands [] t) (stands_uses old [] t ∙ e) s m)))
           ∙ unchanged t
 
       pub replaced_equal : (t : OpOf N T A) → same_value old new ≡ true → with_value_replaced old new t ≡ t
@@ -273,12 +273,12 @@ module _ {N T A : Type 0} (w : TestsOf N T) (old new : Value) (m : ModuleOf N T 
   same_types r None = refl
   same_types r (Some t) = r t
 
-  own_seen : users_see w.isolated old old m.tree ≡ true
+  own_seen : is_visible_to_users w.isolated old old m.tree ≡ true
   own_seen = each_all (λ z. visible w.isolated m.tree z.0 old) (uses_of old m.tree) (λ z k.
-      let g = of_gather (λ (s : StandOf N T A). operand_uses old (stand_id s) 0 (head s.here).operands) z (stands [] m.tree) (subst (In z) (sym (stands_uses old [] m.tree)) k) in
-      ap (λ x. visible w.isolated m.tree x old) (user old (stand_id g.0) 0 (head g.0.here).operands z g.2)
+      let g = of_gather (λ (s : OpWithPathOf N T A). operand_uses old (op_with_path_id s) 0 (head s.here).operands) z (stands [] m.tree) (subst (In z) (sym (stands_uses old [] m.tree)) k) in
+      ap (λ x. visible w.isolated m.tree x old) (user old (op_with_path_id g.0) 0 (head g.0.here).operands z g.2)
       ∙ visible_there w.isolated m.tree f.distinct g.0 g.1 old
-      ∙ all_each (dominated_by w.isolated g.0.path) (head g.0.here).operands ((from_wellformed w.isolated m.tree f.wellformed).dominated_by_own g.0 g.1) old (use_in_list old (stand_id g.0) 0 (head g.0.here).operands z g.2))
+      ∙ all_each (dominated_by w.isolated g.0.path) (head g.0.here).operands ((from_wellformed w.isolated m.tree f.wellformed).dominated_by_own g.0 g.1) old (use_in_list old (op_with_path_id g.0) 0 (head g.0.here).operands z g.2))
 
   pub equal_allowed : ((t : T) → w.same_type t t ≡ true) → same_value old new ≡ true → has_value old m.tree ≡ true → reason_by w (Replace old new) m ≡ None
   equal_allowed r e k =

@@ -8,7 +8,7 @@ use Rattle.ir_event.specs.trees.Limits.{every, regions_every, all_arguments_pass
 use Rattle.ir_event.specs.trees.Meaning.{IsSoundIn, is_name, is_type, is_attr, dictionaries_rise, key_before_in}
 use Rattle.ir_event.specs.trees.Passing.{head_passes, op_passes}
 use Rattle.ir_event.specs.tree_laws.Members.{In}
-use Rattle.ir_event.specs.tree_laws.Stands.{StandOf, stands}
+use Rattle.ir_event.specs.tree_laws.Stands.{OpWithPathOf, stands}
 use Rattle.ir_event.proofs.of_tree_laws.Listed.{all_each, both_hold}
 use Rattle.ir_event.proofs.of_tree_laws.Readings.{stands_every}
 use Rattle.ir_event.proofs.of_tree_laws.Reasoned.{none_every}
@@ -20,7 +20,7 @@ module _ {N T A : Type 0} where
   header_passes : (p : OpOf N T A → Bool) → ((z : OpOf N T A) → p (bare z) ≡ p z) → (place : Place) (o : OpOf N T A) → every p o ≡ true → (u : Place × OpOf N T A) → In u (headers place o) → every p u.1 ≡ true
   header_passes p same place o e u h =
       let s = header_of [] place o u h in
-      ap (every p) s.2 ∙ own s.0.here (same s.0.here ∙ all_each (λ (z : StandOf N T A). p z.here) (stands [] o) (stands_every p [] o ∙ e) s.0 s.1)
+      ap (every p) s.2 ∙ own s.0.here (same s.0.here ∙ all_each (λ (z : OpWithPathOf N T A). p z.here) (stands [] o) (stands_every p [] o ∙ e) s.0 s.1)
     where
       own : (z : OpOf N T A) → p (bare z) ≡ true → every p (bare z) ≡ true
       own (op h rs) k = both_hold (p (op h (bare_regions rs))) (regions_every p (bare_regions rs)) k (none_every p (bare_regions rs) (bare_holds (op h rs)))

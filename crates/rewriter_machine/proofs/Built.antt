@@ -12,7 +12,7 @@ use Rattle.ir_event.specs.tree_laws.Members.{In}
 use Rattle.ir_event.specs.tree_laws.Nested.{with_last}
 use Rattle.ir_event.specs.tree_laws.Reasons.{has_place, hold_none}
 use Rattle.ir_event.specs.tree_laws.Restores.{MayPut}
-use Rattle.ir_event.specs.tree_laws.Stands.{StepOf, StandOf, stand_id, stands, regions_stands, region_stands, ops_stands}
+use Rattle.ir_event.specs.tree_laws.Stands.{StepOf, OpWithPathOf, op_with_path_id, stands, regions_stands, region_stands, ops_stands}
 use Rattle.ir_event.specs.tree_laws.Values.{region_at}
 use Rattle.ir_event.proofs.of_tree_laws.Listed.{bool_cases, either, in_left, in_right, in_parts}
 use Rattle.ir_event.proofs.of_tree_laws.Readings.{step}
@@ -73,13 +73,13 @@ module _ {N T A : Type 0} where
   header_count place o = sym (length-map (headers place o) header_id) ∙ ap length (header_ids place o)
 
   -- each is the header of an operation of the tree
-  abbrev pub HeaderIn : Place × OpOf N T A → List (StandOf N T A) → Type 0
-  HeaderIn u ss = (s : StandOf N T A) × In s ss × (u.1 ≡ bare s.here)
+  abbrev pub HeaderIn : Place × OpOf N T A → List (OpWithPathOf N T A) → Type 0
+  HeaderIn u ss = (s : OpWithPathOf N T A) × In s ss × (u.1 ≡ bare s.here)
 
-  left_in : (u : Place × OpOf N T A) (xs ys : List (StandOf N T A)) → HeaderIn u xs → HeaderIn u (xs ++ ys)
+  left_in : (u : Place × OpOf N T A) (xs ys : List (OpWithPathOf N T A)) → HeaderIn u xs → HeaderIn u (xs ++ ys)
   left_in u xs ys w = (w.0, in_left w.0 xs ys w.1, w.2)
 
-  right_in : (u : Place × OpOf N T A) (xs ys : List (StandOf N T A)) → HeaderIn u ys → HeaderIn u (xs ++ ys)
+  right_in : (u : Place × OpOf N T A) (xs ys : List (OpWithPathOf N T A)) → HeaderIn u ys → HeaderIn u (xs ++ ys)
   right_in u xs ys w = (w.0, in_right w.0 xs ys w.1, w.2)
 
   mutual
@@ -109,7 +109,7 @@ module _ {N T A : Type 0} where
   pub header_within : (place : Place) (o : OpOf N T A) (u : Place × OpOf N T A) → In u (headers place o) → (y : ℕ) → has_id y u.1 ≡ true → has_id y o ≡ true
   header_within place o u h y k =
       let w = header_of [] place o u h in
-      let one : stand_id w.0 ≡ y = own_id (stand_id w.0) y (sym (ap (list_any (λ z. eqb z y)) (ap ids w.2 ∙ bare_ids w.0.here)) ∙ k) in
+      let one : op_with_path_id w.0 ≡ y = own_id (op_with_path_id w.0) y (sym (ap (list_any (λ z. eqb z y)) (ap ids w.2 ∙ bare_ids w.0.here)) ∙ k) in
       subst (λ z. has_id z o ≡ true) one (stand_present [] o w.0 w.1)
 
   -- ---- insertions one after another

@@ -12,7 +12,7 @@ use Rattle.ir_event.specs.trees.Frames.{owner_of}
 use Rattle.ir_event.specs.trees.Sites.{arguments, shows, results_of}
 use Rattle.ir_event.proofs.of_trees.Returns.{Present, absent_first}
 use Rattle.ir_event.specs.tree_laws.Members.{In}
-use Rattle.ir_event.specs.tree_laws.Stands.{StepOf, StandOf, stands, regions_stands, region_stands, ops_stands, dominated_by}
+use Rattle.ir_event.specs.tree_laws.Stands.{StepOf, OpWithPathOf, stands, regions_stands, region_stands, ops_stands, dominated_by}
 use Rattle.ir_event.proofs.of_tree_laws.Listed.{in_parts, both, either, or_left, or_right}
 use Rattle.ir_event.proofs.of_tree_laws.Readings.{step}
 
@@ -54,7 +54,7 @@ shown_argument (Arg y s k) x r n e = eqb-true y x (both (eqb y x) (eqb s r && na
 module _ {N T A : Type 0} (isolated : N → Bool) where
   -- a list of ids, split before an operation and after everything inside it; the owners of the values visible at it are
   -- in the front part, or pass a test
-  pub record Cut (xs : List ℕ) (s : StandOf N T A) (Test : Value → Type 0) : Type 0 where
+  pub record Cut (xs : List ℕ) (s : OpWithPathOf N T A) (Test : Value → Type 0) : Type 0 where
     pub preceding : List ℕ
     pub back : List ℕ
     pub is : xs ≡ preceding ++ (ids s.here ++ back)
@@ -69,7 +69,7 @@ module _ {N T A : Type 0} (isolated : N → Bool) where
   abbrev Following : OpOf N T A → List (StepOf N T A) → List (OpOf N T A) → Value → Type 0
   Following p path preceding v = Inside p path v ⊎ (list_any (λ o. shows v (results_of o)) preceding ≡ true)
 
-  cut_left : (xs ys : List ℕ) (s : StandOf N T A) (P Q : Value → Type 0) → ((v : Value) → P v → Q v) → Cut xs s P → Cut (xs ++ ys) s Q
+  cut_left : (xs ys : List ℕ) (s : OpWithPathOf N T A) (P Q : Value → Type 0) → ((v : Value) → P v → Q v) → Cut xs s P → Cut (xs ++ ys) s Q
   cut_left xs ys s P Q f c = record {
     preceding = c.preceding;
     back = c.back ++ ys;
@@ -77,7 +77,7 @@ module _ {N T A : Type 0} (isolated : N → Bool) where
     seen = λ v k. elim (c.seen v k) [ inl a ↦ inl (f v a) | inr a ↦ inr a ];
   }
 
-  cut_right : (xs ys : List ℕ) (s : StandOf N T A) (P Q : Value → Type 0) → ((v : Value) → P v → Q v ⊎ Present (owner_of v).0 xs) → Cut ys s P → Cut (xs ++ ys) s Q
+  cut_right : (xs ys : List ℕ) (s : OpWithPathOf N T A) (P Q : Value → Type 0) → ((v : Value) → P v → Q v ⊎ Present (owner_of v).0 xs) → Cut ys s P → Cut (xs ++ ys) s Q
   cut_right xs ys s P Q f c = record {
     preceding = xs ++ c.preceding;
     back = c.back;
@@ -112,30 +112,30 @@ module _ {N T A : Type 0} (isolated : N → Bool) where
   none_before p path v (inr a) = absurd (true≢false (sym a))
 
   mutual
-    pub op_cut : (path : List (StepOf N T A)) (t : OpOf N T A) (s : StandOf N T A) → In s (stands path t) → Cut (ids t) s (Above path)
+    pub op_cut : (path : List (StepOf N T A)) (t : OpOf N T A) (s : OpWithPathOf N T A) → In s (stands path t) → Cut (ids t) s (Above path)
     op_cut path (op h rs) s (inl e) = record {
       preceding = [];
       back = [];
-      is = ap (λ (z : StandOf N T A). ids z.here) (sym e) ∙ sym (append-nil (ids s.here));
-      seen = λ v k. inl (ap (λ (z : StandOf N T A). dominated_by isolated z.path v) (sym e) ∙ k);
+      is = ap (λ (z : OpWithPathOf N T A). ids z.here) (sym e) ∙ sym (append-nil (ids s.here));
+      seen = λ v k. inl (ap (λ (z : OpWithPathOf N T A). dominated_by isolated z.path v) (sym e) ∙ k);
     }
     op_cut path (op h rs) s (inr k) =
         cut_right (h.id ∷ []) (regions_ids rs) s (Inside (op h rs) path) (Above path)
         (λ v a. elim a [ inl b ↦ inl b | inr b ↦ inr (first_there h.id (owner_of v).0 [] b) ]) (regions_cut (op h rs) path 0 rs s k)
 
-    regions_cut : (p : OpOf N T A) (path : List (StepOf N T A)) (r : ℕ) (rs : RegionsOf N T A) (s : StandOf N T A) → In s (regions_stands p path r rs) → Cut (regions_ids rs) s (Inside p path)
+    regions_cut : (p : OpOf N T A) (path : List (StepOf N T A)) (r : ℕ) (rs : RegionsOf N T A) (s : OpWithPathOf N T A) → In s (regions_stands p path r rs) → Cut (regions_ids rs) s (Inside p path)
     regions_cut p path r no_regions s k = absurd k
     regions_cut p path r (region g rs) s k = elim (in_parts s (region_stands p path r g) (regions_stands p path (r + 1) rs) k) [
       | inl l ↦ cut_left (region_ids g) (regions_ids rs) s (Inside p path) (Inside p path) (λ v a. a) (region_cut p path r g s l)
       | inr l ↦ cut_right (region_ids g) (regions_ids rs) s (Inside p path) (Inside p path) (λ v a. inl a) (regions_cut p path (r + 1) rs s l)
     ]
 
-    region_cut : (p : OpOf N T A) (path : List (StepOf N T A)) (r : ℕ) (g : RegionOf N T A) (s : StandOf N T A) → In s (region_stands p path r g) → Cut (region_ids g) s (Inside p path)
+    region_cut : (p : OpOf N T A) (path : List (StepOf N T A)) (r : ℕ) (g : RegionOf N T A) (s : OpWithPathOf N T A) → In s (region_stands p path r g) → Cut (region_ids g) s (Inside p path)
     region_cut p path r empty s k = absurd k
     region_cut p path r (block args os) s k =
         cut_right [] (ops_ids os) s (Following p path []) (Inside p path) (λ v a. inl (none_before p path v a)) (ops_cut p path r args [] os s k)
 
-    ops_cut : (p : OpOf N T A) (path : List (StepOf N T A)) (r : ℕ) (args : List T) (preceding : List (OpOf N T A)) (os : OpsOf N T A) (s : StandOf N T A)
+    ops_cut : (p : OpOf N T A) (path : List (StepOf N T A)) (r : ℕ) (args : List T) (preceding : List (OpOf N T A)) (os : OpsOf N T A) (s : OpWithPathOf N T A)
         → In s (ops_stands p path r args preceding os) → Cut (ops_ids os) s (Following p path preceding)
     ops_cut p path r args preceding no_ops s k = absurd k
     ops_cut p path r args preceding (next o os) s k =
@@ -145,5 +145,5 @@ module _ {N T A : Type 0} (isolated : N → Bool) where
         ]
 
   -- in a whole tree
-  pub seen_earlier : (t : OpOf N T A) (s : StandOf N T A) (h : In s (stands [] t)) (v : Value) → dominated_by isolated s.path v ≡ true → Present (owner_of v).0 (op_cut [] t s h).preceding
+  pub seen_earlier : (t : OpOf N T A) (s : OpWithPathOf N T A) (h : In s (stands [] t)) (v : Value) → dominated_by isolated s.path v ≡ true → Present (owner_of v).0 (op_cut [] t s h).preceding
   seen_earlier t s h v e = elim ((op_cut [] t s h).seen v e) [ inl a ↦ absurd (true≢false (sym a)) | inr a ↦ a ]

@@ -13,7 +13,7 @@ use Rattle.ir_event.proofs.of_trees.Returns.{put_take}
 use Rattle.ir_event.specs.tree_laws.Members.{In}
 use Rattle.ir_event.specs.tree_laws.Reads.{is_within}
 use Rattle.ir_event.specs.tree_laws.Reasons.{leaves, take_reason, leaves_within, unused_outside}
-use Rattle.ir_event.specs.tree_laws.Stands.{StandOf, stands}
+use Rattle.ir_event.specs.tree_laws.Stands.{OpWithPathOf, stands}
 use Rattle.ir_event.proofs.of_tree_laws.Listed.{bool_cases, all_each, each_all, not_false}
 use Rattle.ir_event.proofs.of_tree_laws.Readings.{stands_every}
 use Rattle.ir_event.proofs.of_tree_laws.Members.{stand_found}
@@ -55,7 +55,7 @@ module _ {N T A : Type 0} (w : TestsOf N T) (x : ℕ) (m : ModuleOf N T A) (f : 
   pub erased : Erased
   erased = record { here = o; found = found; place = place; id = i.id; is = is; goes = goes }
     where
-      s : (s : StandOf N T A) × In s (stands [] m.tree) × ((head s.here).id ≡ x)
+      s : (s : OpWithPathOf N T A) × In s (stands [] m.tree) × ((head s.here).id ≡ x)
       s = present_stand [] m.tree x known
 
       o : OpOf N T A
@@ -79,9 +79,9 @@ module _ {N T A : Type 0} (w : TestsOf N T) (x : ℕ) (m : ModuleOf N T A) (f : 
         | inl k ↦ absurd (true≢false (sym h ∙ inside_goes m.tree f.distinct o i.step_in i.path i.there y (ap (λ z. has_id y (without z m.tree)) i.id ∙ k)))
       ]
 
-      spared : (y : ℕ) → has_id y o ≡ true → (s : StandOf N T A) → In s (stands [] (without x m.tree)) → leaves y (head s.here) ≡ true
+      spared : (y : ℕ) → has_id y o ≡ true → (s : OpWithPathOf N T A) → In s (stands [] (without x m.tree)) → leaves y (head s.here) ≡ true
       spared y h s k =
-          let all = all_each (λ (z : StandOf N T A). leaves_within (Some o) (head z.here)) (stands [] rest) (stands_every (λ z. leaves_within (Some o) (head z)) [] rest
+          let all = all_each (λ (z : OpWithPathOf N T A). leaves_within (Some o) (head z.here)) (stands [] rest) (stands_every (λ z. leaves_within (Some o) (head z)) [] rest
           ∙ sym (ap (λ q. every (λ z. leaves_within q (head z)) rest) found) ∙ alone) s k in
           each_all (λ v. not (eqb (owner_of v).0 y)) (head s.here).operands (λ v n. elim (bool_cases (eqb (owner_of v).0 y)) [
             | inr j ↦ ap not j

@@ -19,7 +19,7 @@ use Rattle.ir_event.specs.tree_laws.Reads.{around}
 use Rattle.ir_event.specs.tree_laws.Reasons.{has_place, fits_around, hold_none, leaves, put_reason, take_reason, with_id}
 use Rattle.ir_event.specs.tree_laws.Restores.{MayPut}
 use Rattle.ir_event.specs.tree_laws.Values.{has_value}
-use Rattle.ir_event.specs.tree_laws.Stands.{StepOf, StandOf, stands, dominated_by}
+use Rattle.ir_event.specs.tree_laws.Stands.{StepOf, OpWithPathOf, stands, dominated_by}
 use Rattle.ir_event.proofs.of_tree_laws.Listed.{all_each, each_all, both_hold}
 use Rattle.ir_event.proofs.of_tree_laws.Readings.{stands_every}
 use Rattle.ir_event.proofs.of_tree_laws.Members.{stand, within}
@@ -168,8 +168,8 @@ module _ {N T A : Type 0} (w : TestsOf N T) (place : Place) (o : OpOf N T A) (m 
       let full = put place o m.tree in
       let p = λ (q : OpOf N T A). list_all (visible w.isolated (put place o m.tree) (head q).id) (head q).operands in
       sym (stands_every p point_path o)
-      ∙ each_all (λ (s : StandOf N T A). p s.here) (stands point_path o) (λ s k.
-      all_each (λ (s : StandOf N T A). p s.here) (stands [] full) (stands_every p [] full ∙ sym (operands_visible_each w.isolated full (put_distinct place o m.tree may)) ∙ free.dominated_by_it) s
+      ∙ each_all (λ (s : OpWithPathOf N T A). p s.here) (stands point_path o) (λ s k.
+      all_each (λ (s : OpWithPathOf N T A). p s.here) (stands [] full) (stands_every p [] full ∙ sym (operands_visible_each w.isolated full (put_distinct place o m.tree may)) ∙ free.dominated_by_it) s
       (within o point_path s k [] full (landed place o m.tree may).there))
 
   pub whole_wellformed : IsWellFormed w.isolated (record { tree = put place o m.tree; next = m.next + op_count o })
@@ -177,7 +177,7 @@ module _ {N T A : Type 0} (w : TestsOf N T) (place : Place) (o : OpOf N T A) (m 
       insert_keeps w.isolated place o m f numbered free.point (record { dominated_by_own = dominated_by_own; levels = free.levels; count = leb-true (op_count m.tree + op_count o) most_ops free.headroom; fits = free.fits })
       (leb-true (m.next + op_count o) most_next free.next)
 
-  spared : (y : ℕ) → has_id y o ≡ true → (s : StandOf N T A) → In s (stands [] m.tree) → leaves y (head s.here) ≡ true
+  spared : (y : ℕ) → has_id y o ≡ true → (s : OpWithPathOf N T A) → In s (stands [] m.tree) → leaves y (head s.here) ≡ true
   spared y h s k =
       let g = from_wellformed w.isolated m.tree f.wellformed in
       each_all (λ v. not (eqb (owner_of v).0 y)) (head s.here).operands (λ v n. ap not (ne_eqb (owner_of v).0 y (λ same.

@@ -13,7 +13,7 @@ use Rattle.ir_event.proofs.of_trees.Moves.{take_put}
 use Rattle.ir_event.specs.tree_laws.Members.{In}
 use Rattle.ir_event.specs.tree_laws.Reads.{is_within}
 use Rattle.ir_event.specs.tree_laws.Reasons.{take_reason, leaves_within, unused_outside}
-use Rattle.ir_event.specs.tree_laws.Stands.{StandOf, stands}
+use Rattle.ir_event.specs.tree_laws.Stands.{OpWithPathOf, stands}
 use Rattle.ir_event.proofs.of_tree_laws.Listed.{bool_cases, all_each, each_all, not_false}
 use Rattle.ir_event.proofs.of_tree_laws.Readings.{stands_every}
 use Rattle.ir_event.proofs.of_tree_laws.Members.{found_stands}
@@ -52,9 +52,9 @@ module _ {N T A : Type 0} (isolated : N → Bool) (place : Place) (rest : OpOf N
   alone =
       (λ j. every (λ o. leaves_within (found j) (head o)) (goes_out j))
       ∙ sym (stands_every (λ o. leaves_within (Some q) (head o)) [] rest)
-      ∙ each_all (λ (s : StandOf N T A). leaves_within (Some q) (head s.here)) (stands [] rest) one
+      ∙ each_all (λ (s : OpWithPathOf N T A). leaves_within (Some q) (head s.here)) (stands [] rest) one
     where
-      one : (s : StandOf N T A) → In s (stands [] rest) → leaves_within (Some q) (head s.here) ≡ true
+      one : (s : OpWithPathOf N T A) → In s (stands [] rest) → leaves_within (Some q) (head s.here) ≡ true
       one s h = each_all (λ v. not (is_within (owner_of v).0 (Some q))) (head s.here).operands (λ v n. elim (bool_cases (has_id (owner_of v).0 q)) [
         | inr k ↦ ap not k
         | inl k ↦ (let y = (owner_of v).0 in

@@ -10,7 +10,7 @@ use Rattle.ir_event.specs.trees.Uses.{same_value, operand_uses, uses_of}
 use Rattle.ir_event.specs.trees.Edits.{each_head, at, put_operand, with_operand}
 use Rattle.ir_event.proofs.of_trees.Heads.{head_ids, alike_operand}
 use Rattle.ir_event.specs.tree_laws.Members.{In}
-use Rattle.ir_event.specs.tree_laws.Stands.{StandOf, stand_id, stands, gather, edit_stand}
+use Rattle.ir_event.specs.tree_laws.Stands.{OpWithPathOf, op_with_path_id, stands, gather, edit_stand}
 use Rattle.ir_event.proofs.of_tree_laws.Listed.{in_parts}
 use Rattle.ir_event.proofs.of_tree_laws.Readings.{stands_ids, stands_uses}
 use Rattle.ir_event.proofs.of_tree_laws.Heads.{each_stands}
@@ -67,35 +67,35 @@ module _ (old : Value) where
             (suc r.0, omega (arith, n), ap (λ b. cond b ((x, k) ∷ operand_uses old x (k + 1) (slice_set ws r.0 new)) (operand_uses old x (k + 1) (slice_set ws r.0 new))) q ∙ r.2)
 
     module _ {N T A : Type 0} where
-      abbrev pub uses_here : StandOf N T A → List (ℕ × ℕ)
-      uses_here s = operand_uses old (stand_id s) 0 (head s.here).operands
+      abbrev pub uses_here : OpWithPathOf N T A → List (ℕ × ℕ)
+      uses_here s = operand_uses old (op_with_path_id s) 0 (head s.here).operands
 
       -- the uses in an operation with an operand set
-      abbrev pub uses_then : ℕ × ℕ → StandOf N T A → List (ℕ × ℕ)
-      uses_then u s = operand_uses old (stand_id s) 0 (at u.0 (put_operand u.1 new) (head s.here)).operands
+      abbrev pub uses_then : ℕ × ℕ → OpWithPathOf N T A → List (ℕ × ℕ)
+      uses_then u s = operand_uses old (op_with_path_id s) 0 (at u.0 (put_operand u.1 new) (head s.here)).operands
 
-      pub elsewhere : (u : ℕ × ℕ) (s : StandOf N T A) → eqb (stand_id s) u.0 ≡ false → uses_then u s ≡ uses_here s
-      elsewhere u s e = ap (λ b. operand_uses old (stand_id s) 0 (cond b (put_operand u.1 new (head s.here)) (head s.here)).operands) e
+      pub elsewhere : (u : ℕ × ℕ) (s : OpWithPathOf N T A) → eqb (op_with_path_id s) u.0 ≡ false → uses_then u s ≡ uses_here s
+      elsewhere u s e = ap (λ b. operand_uses old (op_with_path_id s) 0 (cond b (put_operand u.1 new (head s.here)) (head s.here)).operands) e
 
-      first_gone : (u : ℕ × ℕ) (vs : List (ℕ × ℕ)) (ss : List (StandOf N T A)) → IsDistinct eqb (map (λ (s : StandOf N T A). stand_id s) ss) → gather uses_here ss ≡ u ∷ vs → gather (uses_then u) ss ≡ vs
+      first_gone : (u : ℕ × ℕ) (vs : List (ℕ × ℕ)) (ss : List (OpWithPathOf N T A)) → IsDistinct eqb (map (λ (s : OpWithPathOf N T A). op_with_path_id s) ss) → gather uses_here ss ≡ u ∷ vs → gather (uses_then u) ss ≡ vs
       first_gone u vs [] d e = absurd cc
-      first_gone u vs (s ∷ ss) d e = go (uses_here s) refl e (first_gone u vs ss (IsDistinct-tail eqb (stand_id s) (map (λ (s : StandOf N T A). stand_id s) ss) d))
+      first_gone u vs (s ∷ ss) d e = go (uses_here s) refl e (first_gone u vs ss (IsDistinct-tail eqb (op_with_path_id s) (map (λ (s : OpWithPathOf N T A). op_with_path_id s) ss) d))
         where
           go : (l : List (ℕ × ℕ)) → uses_here s ≡ l → l ++ gather uses_here ss ≡ u ∷ vs → (gather uses_here ss ≡ u ∷ vs → gather (uses_then u) ss ≡ vs) → gather (uses_then u) (s ∷ ss) ≡ vs
           go [] q h f =
               let w = of_gather uses_here u ss (subst (In u) (sym h) (inl refl)) in
-              let id : u.0 ≡ stand_id w.0 = user (stand_id w.0) 0 (head w.0.here).operands u w.2 in
-              let other : eqb (stand_id s) u.0 ≡ false = ap (eqb (stand_id s)) id ∙ unequal (stand_id w.0) (stand_id s) (apart (stand_id s) ss d w.0 w.1) in
+              let id : u.0 ≡ op_with_path_id w.0 = user (op_with_path_id w.0) 0 (head w.0.here).operands u w.2 in
+              let other : eqb (op_with_path_id s) u.0 ≡ false = ap (eqb (op_with_path_id s)) id ∙ unequal (op_with_path_id w.0) (op_with_path_id s) (apart (op_with_path_id s) ss d w.0 w.1) in
               (λ i. (elsewhere u s other ∙ q) i ++ f h i)
           go (v ∷ l) q h f =
               let b = one_first v u (l ++ gather uses_here ss) vs h in
-              let id : v.0 ≡ stand_id s = user (stand_id s) 0 (head s.here).operands v (subst (In v) (sym q) (inl refl)) in
-              let r = one_gone (stand_id s) 0 v.1 (head s.here).operands l (q ∙ λ i. (id i, v.1) ∷ l) in
+              let id : v.0 ≡ op_with_path_id s = user (op_with_path_id s) 0 (head s.here).operands v (subst (In v) (sym q) (inl refl)) in
+              let r = one_gone (op_with_path_id s) 0 v.1 (head s.here).operands l (q ∙ λ i. (id i, v.1) ∷ l) in
               let there : v.1 ≡ r.0 = (let n = r.1 in omega (arith, n)) in
               let here : uses_then v s ≡ l =
-              ap (λ b. operand_uses old (stand_id s) 0 (cond b (put_operand v.1 new (head s.here)) (head s.here)).operands) (eq-eqb (stand_id s) v.0 (sym id))
-              ∙ ap (λ k. operand_uses old (stand_id s) 0 (slice_set (head s.here).operands k new)) there ∙ r.2 in
-              let others : gather (uses_then v) ss ≡ gather uses_here ss = gather_same (uses_then v) uses_here ss (λ z m. elsewhere v z (ap (eqb (stand_id z)) id ∙ apart (stand_id s) ss d z m)) in
+              ap (λ b. operand_uses old (op_with_path_id s) 0 (cond b (put_operand v.1 new (head s.here)) (head s.here)).operands) (eq-eqb (op_with_path_id s) v.0 (sym id))
+              ∙ ap (λ k. operand_uses old (op_with_path_id s) 0 (slice_set (head s.here).operands k new)) there ∙ r.2 in
+              let others : gather (uses_then v) ss ≡ gather uses_here ss = gather_same (uses_then v) uses_here ss (λ z m. elsewhere v z (ap (eqb (op_with_path_id z)) id ∙ apart (op_with_path_id s) ss d z m)) in
               subst (λ z. gather (uses_then z) (s ∷ ss) ≡ vs) b.0 ((λ i. here i ++ others i) ∙ b.1)
 
       same_id : (u : ℕ × ℕ) (h : HeadOf N T A) → (at u.0 (put_operand u.1 new) h).id ≡ h.id

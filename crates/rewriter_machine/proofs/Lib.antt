@@ -16,7 +16,7 @@ pub mod Bare
 pub mod Stepped
 pub mod AnyUse
 pub mod AnyType
-pub mod Tried
+pub mod IsMadeOrRefused
 pub mod LastFirst
 pub mod Maps
 pub mod Keys

@@ -24,7 +24,7 @@ use Rattle.ir_event.proofs.of_trees.Mapped.{map_ids, map_find, map_every, map_de
 use Rattle.ir_event.proofs.of_trees.MappedEdits.{map_put, map_shifted, map_without, map_with_operand, map_with_value_replaced, map_with_entry}
 use Rattle.ir_event.specs.tree_laws.Values.{type_of_value}
 use Rattle.ir_event.specs.tree_laws.Reads.{is_within}
-use Rattle.ir_event.specs.tree_laws.Reasons.{unless, fits_around, with_id, set_entry_reason, leaves_within, unused_outside, users_see}
+use Rattle.ir_event.specs.tree_laws.Reasons.{unless, fits_around, with_id, set_entry_reason, leaves_within, unused_outside, is_visible_to_users}
 use Rattle.ir_event.proofs.of_tree_laws.Contents.{same_id, map_has_id, map_has_place, map_has_value, map_type_of_value, map_around, map_op_fits, map_with_id, map_entry_at, map_set_entry_reason, map_set_operand_reason, map_put_reason, map_shift_reason, all_alike, some_map}
 use Rattle.ir_event.specs.Modules.{module_meaning}
 use Rattle.ir_event.specs.types.SameTypes.{same_type}
@@ -119,7 +119,7 @@ module _ (c : ContextModel) where
   types_kept (Some a) None = refl
   types_kept (Some a) (Some b) = refl
 
-  users_kept : (old new : Value) (t : Op) → users_see is_isolated old new (meaning c t) ≡ users_see (isolated_in c) old new t
+  users_kept : (old new : Value) (t : Op) → is_visible_to_users is_isolated old new (meaning c t) ≡ is_visible_to_users (isolated_in c) old new t
   users_kept old new t =
       ap (list_all (λ u. visible is_isolated (meaning c t) u.0 new)) (map_uses (name_term c) (type_term c) (attr_term c) old t)
       ∙ all_alike (λ u. visible is_isolated (meaning c t) u.0 new) (λ u. visible (isolated_in c) t u.0 new) (λ u. map_visible (name_term c) (type_term c) (attr_term c) is_isolated t u.0 new) (uses_of old t)

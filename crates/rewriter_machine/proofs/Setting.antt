@@ -11,7 +11,7 @@ use Rattle.ir_event.specs.trees.Edits.{each_head, regions_each_head, region_each
 use Rattle.ir_event.proofs.of_trees.Returns.{absent_first}
 use Rattle.ir_event.proofs.of_tree_laws.Entries.{each_twice}
 use Rattle.ir_event.specs.tree_laws.Members.{In}
-use Rattle.ir_event.specs.tree_laws.Stands.{StepOf, StandOf, stand_id, stands, regions_stands, region_stands, ops_stands, gather}
+use Rattle.ir_event.specs.tree_laws.Stands.{StepOf, OpWithPathOf, op_with_path_id, stands, regions_stands, region_stands, ops_stands, gather}
 use Rattle.ir_event.proofs.of_tree_laws.Listed.{bool_cases, in_left, in_right, any_one}
 use Rattle.ir_event.proofs.of_tree_laws.Readings.{step, stands_ids, stands_uses}
 use Rattle.ir_event.proofs.of_tree_laws.Members.{stand}
@@ -44,8 +44,8 @@ module _ {N T A : Type 0} where
 
   -- two changes of heads that agree
   module _ (f g : HeadOf N T A → HeadOf N T A) where
-    abbrev pub Agree : List (StandOf N T A) → Type 0
-    Agree ss = (s : StandOf N T A) → In s ss → f (head s.here) ≡ g (head s.here)
+    abbrev pub Agree : List (OpWithPathOf N T A) → Type 0
+    Agree ss = (s : OpWithPathOf N T A) → In s ss → f (head s.here) ≡ g (head s.here)
 
     mutual
       pub agree : (path : List (StepOf N T A)) (t : OpOf N T A) → Agree (stands path t) → each_head f t ≡ each_head g t
@@ -85,15 +85,15 @@ module _ {N T A : Type 0} where
   all_set_more v (u ∷ us) ws t = all_set_more v us ws (with_operand u.0 u.1 v t)
 
   -- distinct ids
-  pub apart : (x : ℕ) (ss : List (StandOf N T A)) → IsDistinct eqb (x ∷ map (λ (s : StandOf N T A). stand_id s) ss) → (s : StandOf N T A) → In s ss → eqb (stand_id s) x ≡ false
-  apart x ss d s h = elim (bool_cases (eqb (stand_id s) x)) [
+  pub apart : (x : ℕ) (ss : List (OpWithPathOf N T A)) → IsDistinct eqb (x ∷ map (λ (s : OpWithPathOf N T A). op_with_path_id s) ss) → (s : OpWithPathOf N T A) → In s ss → eqb (op_with_path_id s) x ≡ false
+  apart x ss d s h = elim (bool_cases (eqb (op_with_path_id s) x)) [
     | inr k ↦ k
-    | inl k ↦ absurd (true≢false (sym (any_one (λ (u : StandOf N T A). eqb (stand_id u) x) ss s h k) ∙ sym (any_ids (λ (u : StandOf N T A). stand_id u) x ss) ∙ absent_first x (map (λ (s : StandOf N T A). stand_id s) ss) d))
+    | inl k ↦ absurd (true≢false (sym (any_one (λ (u : OpWithPathOf N T A). eqb (op_with_path_id u) x) ss s h k) ∙ sym (any_ids (λ (u : OpWithPathOf N T A). op_with_path_id u) x ss) ∙ absent_first x (map (λ (s : OpWithPathOf N T A). op_with_path_id s) ss) d))
   ]
 
   module _ (old new : Value) where
-    abbrev uses_here : StandOf N T A → List (ℕ × ℕ)
-    uses_here s = operand_uses old (stand_id s) 0 (head s.here).operands
+    abbrev uses_here : OpWithPathOf N T A → List (ℕ × ℕ)
+    uses_here s = operand_uses old (op_with_path_id s) 0 (head s.here).operands
 
     -- uses in another operation
     not_here : (h : HeadOf N T A) (x : ℕ) → eqb h.id x ≡ false → (k : ℕ) (ws : List Value) → set_all new (operand_uses old x k ws) h ≡ h
@@ -104,11 +104,11 @@ module _ {N T A : Type 0} where
           | false ↦ not_here h x e (k + 1) ws
         ]
 
-    none_here : (h : HeadOf N T A) (ss : List (StandOf N T A)) → ((s : StandOf N T A) → In s ss → eqb h.id (stand_id s) ≡ false) → set_all new (gather uses_here ss) h ≡ h
+    none_here : (h : HeadOf N T A) (ss : List (OpWithPathOf N T A)) → ((s : OpWithPathOf N T A) → In s ss → eqb h.id (op_with_path_id s) ≡ false) → set_all new (gather uses_here ss) h ≡ h
     none_here h [] f = refl
     none_here h (s ∷ ss) f =
         set_more new (uses_here s) (gather uses_here ss) h
-        ∙ ap (set_all new (gather uses_here ss)) (not_here h (stand_id s) (f s (inl refl)) 0 (head s.here).operands)
+        ∙ ap (set_all new (gather uses_here ss)) (not_here h (op_with_path_id s) (f s (inl refl)) 0 (head s.here).operands)
         ∙ none_here h ss (λ u m. f u (inr m))
 
     -- uses in the same operation
@@ -136,17 +136,17 @@ module _ {N T A : Type 0} where
             ∙ later w
             ∙ sym (ap (λ b. with_list h (vs ++ cond b new w ∷ map (put_value old new) ws)) e)
 
-    one_here : (ss : List (StandOf N T A)) → IsDistinct eqb (map (λ (s : StandOf N T A). stand_id s) ss) → (s : StandOf N T A) → In s ss → set_all new (gather uses_here ss) (head s.here) ≡ put_values old new (head s.here)
+    one_here : (ss : List (OpWithPathOf N T A)) → IsDistinct eqb (map (λ (s : OpWithPathOf N T A). op_with_path_id s) ss) → (s : OpWithPathOf N T A) → In s ss → set_all new (gather uses_here ss) (head s.here) ≡ put_values old new (head s.here)
     one_here [] d s h = absurd h
     one_here (u ∷ ss) d s (inl e) =
         set_more new (uses_here u) (gather uses_here ss) (head s.here)
-        ∙ ap (λ (z : StandOf N T A). set_all new (gather uses_here ss) (set_all new (uses_here z) (head s.here))) (sym e)
+        ∙ ap (λ (z : OpWithPathOf N T A). set_all new (gather uses_here ss) (set_all new (uses_here z) (head s.here))) (sym e)
         ∙ ap (set_all new (gather uses_here ss)) (all_here (head s.here) [] (head s.here).operands)
-        ∙ none_here (put_values old new (head s.here)) ss (λ q m. unequal (stand_id q) (stand_id s) (ap (λ (z : StandOf N T A). eqb (stand_id q) (stand_id z)) e ∙ apart (stand_id u) ss d q m))
+        ∙ none_here (put_values old new (head s.here)) ss (λ q m. unequal (op_with_path_id q) (op_with_path_id s) (ap (λ (z : OpWithPathOf N T A). eqb (op_with_path_id q) (op_with_path_id z)) e ∙ apart (op_with_path_id u) ss d q m))
     one_here (u ∷ ss) d s (inr h) =
         set_more new (uses_here u) (gather uses_here ss) (head s.here)
-        ∙ ap (set_all new (gather uses_here ss)) (not_here (head s.here) (stand_id u) (apart (stand_id u) ss d s h) 0 (head u.here).operands)
-        ∙ one_here ss (IsDistinct-tail eqb (stand_id u) (map (λ (s : StandOf N T A). stand_id s) ss) d) s h
+        ∙ ap (set_all new (gather uses_here ss)) (not_here (head s.here) (op_with_path_id u) (apart (op_with_path_id u) ss d s h) 0 (head u.here).operands)
+        ∙ one_here ss (IsDistinct-tail eqb (op_with_path_id u) (map (λ (s : OpWithPathOf N T A). op_with_path_id s) ss) d) s h
 
     -- in a whole tree
     pub all_replaced : (t : OpOf N T A) → HasDistinctIds t → all_set new (uses_of old t) t ≡ with_value_replaced old new t

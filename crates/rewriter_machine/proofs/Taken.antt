@@ -16,7 +16,7 @@ use Rattle.ir_event.proofs.of_trees.Returns.{Present, halves, absent_first}
 use Rattle.ir_event.specs.tree_laws.Members.{In}
 use Rattle.ir_event.specs.tree_laws.Reasons.{hold_none, holds_none, leaves, unused, take_reason}
 use Rattle.ir_event.specs.tree_laws.Restores.{MayPut}
-use Rattle.ir_event.specs.tree_laws.Stands.{StandOf, stand_id, stands, dominated_by, left_stand, dropping}
+use Rattle.ir_event.specs.tree_laws.Stands.{OpWithPathOf, op_with_path_id, stands, dominated_by, left_stand, dropping}
 use Rattle.ir_event.proofs.of_tree_laws.Listed.{bool_cases, either, all_each, each_all}
 use Rattle.ir_event.proofs.of_tree_laws.Readings.{stands_every}
 use Rattle.ir_event.proofs.of_tree_laws.Members.{found_stands, stand_found}
@@ -99,7 +99,7 @@ module _ {N T A : Type 0} where
     pub record Erasing (q : OpOf N T A) : Type 0 where
       pub may : MayPut place q rest
       pub wellformed : IsWellFormed isolated (record { tree = put place q rest; next = free })
-      pub spared : (y : ℕ) → has_id y q ≡ true → (s : StandOf N T A) → In s (stands [] rest) → leaves y (head s.here) ≡ true
+      pub spared : (y : ℕ) → has_id y q ≡ true → (s : OpWithPathOf N T A) → In s (stands [] rest) → leaves y (head s.here) ≡ true
 
     module _ (q : OpOf N T A) (i : Erasing q) (ys : List ℕ) (y : ℕ) (is : ids q ≡ ys ++ y ∷ []) where
       abbrev now : OpOf N T A
@@ -121,28 +121,28 @@ module _ {N T A : Type 0} where
           ∙ ne_eqb (head rest).id y (λ e. true≢false (sym (subst (λ z. has_id z rest ≡ true) e (own_id rest)) ∙ i.may.apart y (last_there q i.may.own ys y is)))
 
       -- the operations inside it come no later, so none of its values is visible at them
-      unseen : (s : StandOf N T A) → In s (stands [] (put place q rest)) → has_id (stand_id s) q ≡ true → (v : Value) → dominated_by isolated s.path v ≡ true → (owner_of v).0 ≡ y → ⊥
+      unseen : (s : OpWithPathOf N T A) → In s (stands [] (put place q rest)) → has_id (op_with_path_id s) q ≡ true → (v : Value) → dominated_by isolated s.path v ≡ true → (owner_of v).0 ≡ y → ⊥
       unseen s h k v e own =
           let c = op_cut isolated [] (put place q rest) s h in
           let o = put_order place q rest i.may in
           let d = put_distinct place q rest i.may in
           let early : Present y c.preceding = subst (λ z. Present z c.preceding) own (seen_earlier isolated (put place q rest) s h v e) in
-          let late : Present (stand_id s) (ids s.here ++ c.back) = present_left (stand_id s) (ids s.here) c.back (own_id s.here) in
-          elim (present_cases (stand_id s) ys (y ∷ []) (sym (ap (list_any (λ z. eqb z (stand_id s))) is) ∙ k)) [
-            | inr a ↦ (let same : stand_id s ≡ y = one a in
+          let late : Present (op_with_path_id s) (ids s.here ++ c.back) = present_left (op_with_path_id s) (ids s.here) c.back (own_id s.here) in
+          elim (present_cases (op_with_path_id s) ys (y ∷ []) (sym (ap (list_any (λ z. eqb z (op_with_path_id s))) is) ∙ k)) [
+            | inr a ↦ (let same : op_with_path_id s ≡ y = one a in
                 true≢false (sym (subst (λ z. Present z (ids s.here ++ c.back)) same late) ∙ (halves c.preceding (ids s.here ++ c.back) (subst (IsDistinct eqb) c.is d)).disjoint y early))
-            | inl a ↦ crossed y (stand_id s) c.preceding (ids s.here ++ c.back) (o.0 ++ ys) (y ∷ o.1) (subst (IsDistinct eqb) c.is d)
+            | inl a ↦ crossed y (op_with_path_id s) c.preceding (ids s.here ++ c.back) (o.0 ++ ys) (y ∷ o.1) (subst (IsDistinct eqb) c.is d)
                 (sym c.is ∙ o.3 ∙ ap (λ l. o.0 ++ (l ++ o.1)) is ∙ ap (λ l. o.0 ++ l) (append_assoc ys (y ∷ []) o.1) ∙ sym (append_assoc o.0 ys (y ∷ o.1)))
-                early late (present_right (stand_id s) o.0 ys a) (first_there y y o.1 refl)
+                early late (present_right (op_with_path_id s) o.0 ys a) (first_there y y o.1 refl)
           ]
         where
-          one : Present (stand_id s) (y ∷ []) → stand_id s ≡ y
-          one a = elim (either (eqb y (stand_id s)) false a) [ inl b ↦ sym (eqb-true y (stand_id s) b) | inr b ↦ absurd (true≢false (sym b)) ]
+          one : Present (op_with_path_id s) (y ∷ []) → op_with_path_id s ≡ y
+          one a = elim (either (eqb y (op_with_path_id s)) false a) [ inl b ↦ sym (eqb-true y (op_with_path_id s) b) | inr b ↦ absurd (true≢false (sym b)) ]
 
       left_alone : unused y (put place q rest) ≡ true
-      left_alone = sym (stands_every (λ o. leaves y (head o)) [] (put place q rest)) ∙ each_all (λ (s : StandOf N T A). leaves y (head s.here)) (stands [] (put place q rest)) one
+      left_alone = sym (stands_every (λ o. leaves y (head o)) [] (put place q rest)) ∙ each_all (λ (s : OpWithPathOf N T A). leaves y (head s.here)) (stands [] (put place q rest)) one
         where
-          one : (s : StandOf N T A) → In s (stands [] (put place q rest)) → leaves y (head s.here) ≡ true
+          one : (s : OpWithPathOf N T A) → In s (stands [] (put place q rest)) → leaves y (head s.here) ≡ true
           one s h = elim (put_cases place q rest i.may s h) [
             | inl k ↦ sym (ap (leaves y) (same_head (head q).id (dropping (head q).id) s.here)) ∙ i.spared y (last_there q i.may.own ys y is) (left_stand (head q).id s) k.0
             | inr k ↦ each_all (λ v. not (eqb (owner_of v).0 y)) (head s.here).operands (λ v m. ap not (ne_eqb (owner_of v).0 y (λ e.

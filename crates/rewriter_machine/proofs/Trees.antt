@@ -10,7 +10,7 @@ use Rattle.ir_event.proofs.of_trees.Moves.{absent_parts}
 use Rattle.ir_event.proofs.of_trees.Returns.{absent_join}
 use Rattle.ir_event.specs.tree_laws.Members.{In}
 use Rattle.ir_event.specs.tree_laws.Reasons.{hold_none}
-use Rattle.ir_event.specs.tree_laws.Stands.{StepOf, StandOf, stand_id, stand_in, stands}
+use Rattle.ir_event.specs.tree_laws.Stands.{StepOf, OpWithPathOf, op_with_path_id, find_op_with_path, stands}
 use Rattle.ir_event.proofs.of_tree_laws.Around.{absent_find, present_stand, stand_present}
 use Rattle.ir_event.proofs.of_tree_laws.Edited.{head_stays, taken_order}
 use Rattle.ir_event.proofs.of_tree_laws.Members.{stand, within, member, found_stands, stand_found}
@@ -52,13 +52,13 @@ module _ {N T A : Type 0} where
   inside : (x : ℕ) (t o : OpOf N T A) → HasDistinctIds t → find x t ≡ Some o → (y : ℕ) (z : OpOf N T A) → find y o ≡ Some z → find y t ≡ Some z
   inside x t o d f y z e = go w.0.path (subst (λ (q : OpOf N T A). In (stand q w.0.path) (stands [] t)) w.3 w.1)
     where
-      w : (s : StandOf N T A) × In s (stands [] t) × (stand_id s ≡ x) × (s.here ≡ o)
+      w : (s : OpWithPathOf N T A) × In s (stands [] t) × (op_with_path_id s ≡ x) × (s.here ≡ o)
       w = found_stands x t o f
 
       go : (path : List (StepOf N T A)) → In (stand o path) (stands [] t) → find y t ≡ Some z
-      go path there = at (stand_in y (stands path o)) refl (stands_find y path o ∙ e)
+      go path there = at (find_op_with_path y (stands path o)) refl (stands_find y path o ∙ e)
         where
-          at : (q : Option (StandOf N T A)) → stand_in y (stands path o) ≡ q → option_map (λ (s : StandOf N T A). s.here) q ≡ Some z → find y t ≡ Some z
+          at : (q : Option (OpWithPathOf N T A)) → find_op_with_path y (stands path o) ≡ q → option_map (λ (s : OpWithPathOf N T A). s.here) q ≡ Some z → find y t ≡ Some z
           at None k h = absurd cc
           at (Some s) k h = (let m = member y (stands path o) s k in ap (λ i. find i t) (sym m.1) ∙ stand_found t d s (within o path s m.0 [] t there) ∙ h)
 

@@ -20,7 +20,7 @@ use Rattle.ir_event.specs.trees.WellFormed.{ModuleOf}
 use Rattle.ir_event.specs.tree_laws.Values.{type_of_value, has_value}
 use Rattle.ir_event.specs.tree_laws.Reads.{around}
 use Rattle.ir_event.specs.tree_laws.Reasons.{unless, has_place, fits_around, with_id, put_reason, unused_outside}
-use Rattle.ir_event.specs.tree_laws.Reasons.{users_see, set_operand_reason, set_entry_reason, shift_reason}
+use Rattle.ir_event.specs.tree_laws.Reasons.{is_visible_to_users, set_operand_reason, set_entry_reason, shift_reason}
 
 -- the tests of names, keys and types that edits need
 pub record TestsOf (N T : Type 0) : Type 0 where
@@ -122,7 +122,7 @@ replace_reason w old new t =
     unless (has_value old t) NoSuchValue
     (unless (has_value new t) NoSuchValue
     (unless (option_eq w.same_type (type_of_value old t) (type_of_value new t)) TypeDiffers
-    (unless (users_see w.isolated old new t) NotVisible None)))
+    (unless (is_visible_to_users w.isolated old new t) NotVisible None)))
 
 -- the reason against an edit of a tree; `free` is the next free id
 abbrev pub tree_reason : {N T A : Type 0} → TestsOf N T → EditOf N T A → ℕ → OpOf N T A → Option Refusal

@@ -44,16 +44,16 @@ use Rattle.user_patterns_data.specs.declared.pattern.Expression.{Expression}
 use Rattle.user_patterns_data.specs.declared.pattern.Expression.TheVariants as form
 use Rattle.user_patterns_data.specs.declared.pattern.PatternOp.{PatternOp}
 use Rattle.user_patterns_data.specs.Fitting.{content_with, fits}
-use Rattle.user_patterns_data.specs.Matching.{Header, Standing, bound, nothing, ops_match, placed, standing, types_at, written}
+use Rattle.user_patterns_data.specs.Matching.{Header, BoundValues, bound, nothing, ops_match, placed, binding_at, types_at, written}
 use Rattle.user_patterns_data.specs.Names.{name_of, operands_of, predicate_of}
-use Rattle.user_patterns_data.specs.Planning.{Plan, all_made, constants_known, entries_by, extra_known, extra_place, is_numeric, kind_standing, made_as, new_place, old_place, outcomes, places, planned, typed, values_at}
+use Rattle.user_patterns_data.specs.Planning.{Plan, all_made, constants_known, entries_by, extra_known, extra_place, is_numeric, bound_type, made_as, new_place, old_place, outcomes, places, planned, typed, values_at}
 use Rattle.user_patterns_data.specs.Shapes.{PatternModel}
 use Rattle.user_patterns_apply.specs.Built.{plan_of}
 use Rattle.user_patterns_build.specs.CanBuild.{given_type, can_build, is_named, last_type, new_type, result_type, root_type, same_number, spares}
 use Rattle.user_patterns_apply.proofs.FoundBuilt.{bound_at, bound_from, given_is, made_many, standing_is, stands_there, types_hold, types_keep, values_many, values_pass, when_is}
 use Rattle.user_patterns_apply.proofs.Ordered.{planned_is}
-use Rattle.user_patterns_apply.specs.Own.{OwnAreAccepted, edits_for, is_one, own_edits}
-use Rattle.user_patterns_apply.proofs.Seen.{DominatedBy, begins, pattern_ops_see, stands}
+use Rattle.user_patterns_apply.specs.Own.{UserPatternsAreAccepted, edits_for, is_one, user_pattern_edits}
+use Rattle.user_patterns_apply.proofs.VisibleValues.{DominatedBy, begins, pattern_ops_see, stands}
 use Rattle.patterns_soundness.proofs.New.{few_flags}
 use Rattle.ir_event.proofs.of_types.Truths.{if_is}
 use Rattle.patterns_base.proofs.Facts.{when_some}
@@ -73,7 +73,7 @@ few_entries None name = few_flags name
 few_entries (Some n) name = refl
 
 -- the operation has operands that pass the test f, and a bound type
-record IsLeaf (f : Value → Bool) (ts : Standing TypeTerm) (w : NewValue) (o : Operation) : Type 0 where
+record IsLeaf (f : Value → Bool) (ts : BoundValues TypeTerm) (w : NewValue) (o : Operation) : Type 0 where
   name : List ℕ
   operands : List Value
   term : TypeTerm
@@ -82,13 +82,13 @@ record IsLeaf (f : Value → Bool) (ts : Standing TypeTerm) (w : NewValue) (o : 
   small : items_fit operands ≡ true
   short : items_fit properties ≡ true
   pass : list_all f operands ≡ true
-  typed : standing (new_type w) ts ≡ Some term
+  typed : binding_at (new_type w) ts ≡ Some term
 
-module _ (f : Value → Bool) (r : ℕ) (ts : Standing TypeTerm) (env : List Outcome) (b : Standing Value) (passes : (j : ℕ) (u : Value) → (j ≡ r → ⊥) → standing j b ≡ Some u → f u ≡ true) where
+module _ (f : Value → Bool) (r : ℕ) (ts : BoundValues TypeTerm) (env : List Outcome) (b : BoundValues Value) (passes : (j : ℕ) (u : Value) → (j ≡ r → ⊥) → binding_at j b ≡ Some u → f u ≡ true) where
   leaf : (w : NewValue) → spares r w ≡ true → (o : Operation) → made_as b ts env w ≡ Some o → IsLeaf f ts w o
   leaf (new.Operation p) spared o e =
       (let vs = given_is (values_at (operands_of p.form) b) _ o e in
-      let term = given_is (standing p.ty ts) _ o vs.2 in
+      let term = given_is (binding_at p.ty ts) _ o vs.2 in
       record {
         name = name_of p.form;
         operands = vs.0;
@@ -102,7 +102,7 @@ module _ (f : Value → Bool) (r : ℕ) (ts : Standing TypeTerm) (env : List Out
       })
   leaf (new.Constant k t) spared o e =
       (let x = given_is (given (slice_get env k) (λ x. x)) _ o e in
-      let term = given_is (standing t ts) _ o x.2 in
+      let term = given_is (binding_at t ts) _ o x.2 in
       record {
         name = codes "arith.constant";
         operands = [];
@@ -117,34 +117,34 @@ module _ (f : Value → Bool) (r : ℕ) (ts : Standing TypeTerm) (env : List Out
 
 -- ---- all new operations, and the value that replaces the result
 
-module _ (x : ℕ) (insertion : Place) (ty : TypeTerm) (root : ℕ) (ts : Standing TypeTerm) (env : List Outcome) where
-  abbrev DominatedByAll : Standing Value → Module → Type 0
+module _ (x : ℕ) (insertion : Place) (ty : TypeTerm) (root : ℕ) (ts : BoundValues TypeTerm) (env : List Outcome) where
+  abbrev DominatedByAll : BoundValues Value → Module → Type 0
   DominatedByAll b m = (j : ℕ) (u : Value) → (j ≡ root → ⊥) → slice_get b j ≡ Some (Some u) → dominated_by x u m ≡ true
 
-  still_dominated_by : (k : ℕ) (m n : Module) (b c : Standing Value) → bound same_value k (Result m.next 0) b ≡ Some c → DominatedByAll b m → ((v : Value) → dominated_by x v m ≡ true → dominated_by x v n ≡ true) → dominated_by x (Result m.next 0) n ≡ true → DominatedByAll c n
+  still_dominated_by : (k : ℕ) (m n : Module) (b c : BoundValues Value) → bound same_value k (Result m.next 0) b ≡ Some c → DominatedByAll b m → ((v : Value) → dominated_by x v m ≡ true → dominated_by x v n ≡ true) → dominated_by x (Result m.next 0) n ≡ true → DominatedByAll c n
   still_dominated_by k m n b c e all still new j u other at = elim (bound_from same_value same_value_true k (Result m.next 0) b c e j u at) [
     | inl h ↦ still u (all j u other h)
     | inr h ↦ ap (λ z. dominated_by x z n) h.1 ∙ new
   ]
 
   -- one new operation, and the operations after it
-  record Step (w : NewValue) (ws : List NewValue) (k : ℕ) (m : Module) (b : Standing Value) (os : List Operation) (c : Standing Value) : Type 0 where
+  record Step (w : NewValue) (ws : List NewValue) (k : ℕ) (m : Module) (b : BoundValues Value) (os : List Operation) (c : BoundValues Value) : Type 0 where
     made_here : Operation
     leaf_here : IsLeaf (λ u. visible is_isolated m.tree x u) ts w made_here
-    after : Standing Value
+    after : BoundValues Value
     bind : bound same_value k (Result m.next 0) b ≡ Some after
     others : List Operation
     all : os ≡ made_here ∷ others
     rest : all_made ts env (m.next + 1) (k + 1) ws after ≡ Some (others, c)
 
-  step : (w : NewValue) (ws : List NewValue) (k : ℕ) (m : Module) (b : Standing Value) → DominatedByAll b m → spares root w ≡ true → (os : List Operation) (c : Standing Value) → all_made ts env m.next k (w ∷ ws) b ≡ Some (os, c) → Step w ws k m b os c
+  step : (w : NewValue) (ws : List NewValue) (k : ℕ) (m : Module) (b : BoundValues Value) → DominatedByAll b m → spares root w ≡ true → (os : List Operation) (c : BoundValues Value) → all_made ts env m.next k (w ∷ ws) b ≡ Some (os, c) → Step w ws k m b os c
   step w ws k m b all spared os c e =
       (let o = given_is (made_as b ts env w) _ (os, c) e in
       let d = given_is (bound same_value k (Result m.next 0) b) _ (os, c) o.2 in
       go o.0 (leaf (λ u. visible is_isolated m.tree x u) root ts env b (λ j u n at. all j u n (standing_is j b u at)) w spared o.0 o.1) d.0 d.1 (all_made ts env (m.next + 1) (k + 1) ws d.0) refl d.2)
     where
-      go : (o : Operation) → IsLeaf (λ u. visible is_isolated m.tree x u) ts w o → (d : Standing Value) → bound same_value k (Result m.next 0) b ≡ Some d
-          → (r : Option (List Operation × Standing Value)) → all_made ts env (m.next + 1) (k + 1) ws d ≡ r → option_map {U = List Operation × Standing Value} (λ (r : List Operation × Standing Value). (o ∷ r.0, r.1)) r ≡ Some (os, c)
+      go : (o : Operation) → IsLeaf (λ u. visible is_isolated m.tree x u) ts w o → (d : BoundValues Value) → bound same_value k (Result m.next 0) b ≡ Some d
+          → (r : Option (List Operation × BoundValues Value)) → all_made ts env (m.next + 1) (k + 1) ws d ≡ r → option_map {U = List Operation × BoundValues Value} (λ (r : List Operation × BoundValues Value). (o ∷ r.0, r.1)) r ≡ Some (os, c)
           → Step w ws k m b os c
       go o l d bind None is e = absurd cc
       go o l d bind (Some r) is e =
@@ -155,19 +155,19 @@ module _ (x : ℕ) (insertion : Place) (ty : TypeTerm) (root : ℕ) (ts : Standi
             after = d;
             bind = bind;
             others = r.0;
-            all = sym (ap (λ (z : List Operation × Standing Value). z.0) two);
-            rest = is ∙ ap (λ z. Some (r.0, z)) (ap (λ (z : List Operation × Standing Value). z.1) two);
+            all = sym (ap (λ (z : List Operation × BoundValues Value). z.0) two);
+            rest = is ∙ ap (λ z. Some (r.0, z)) (ap (λ (z : List Operation × BoundValues Value). z.1) two);
           }
 
-  ends : (w : NewValue) (k : ℕ) (m : Module) → Fit x insertion ty 1 m → (b : Standing Value) (os : List Operation) (c : Standing Value) → Step w [] k m b os c → (t : ℕ) → last_type (w ∷ []) ≡ Some t → standing t ts ≡ Some ty
+  ends : (w : NewValue) (k : ℕ) (m : Module) → Fit x insertion ty 1 m → (b : BoundValues Value) (os : List Operation) (c : BoundValues Value) → Step w [] k m b os c → (t : ℕ) → last_type (w ∷ []) ≡ Some t → binding_at t ts ≡ Some ty
       → (v : Value) → slice_get c k ≡ Some (Some v) → Free (map (λ o. Make insertion o) os ++ give x v) m
   ends w k m f b os c s t last typed v at =
       let l = s.leaf_here in
       let two : Some ([], s.after) ≡ Some (s.others, c) = s.rest in
-      let none : s.others ≡ [] = ap (λ (z : List Operation × Standing Value). z.0) (sym (same_Some ([], s.after) (s.others, c) two)) in
-      let same : s.after ≡ c = ap (λ (z : List Operation × Standing Value). z.1) (same_Some ([], s.after) (s.others, c) two) in
+      let none : s.others ≡ [] = ap (λ (z : List Operation × BoundValues Value). z.0) (sym (same_Some ([], s.after) (s.others, c) two)) in
+      let same : s.after ≡ c = ap (λ (z : List Operation × BoundValues Value). z.1) (same_Some ([], s.after) (s.others, c) two) in
       let value : Result m.next 0 ≡ v = given_here (sym (bound_at same_value same_value_true k (Result m.next 0) b s.after s.bind) ∙ ap (λ z. slice_get z k) same ∙ at) in
-      let term : l.term ≡ ty = same_Some l.term ty (sym l.typed ∙ ap (λ z. standing z ts) (same_Some (new_type w) t last) ∙ typed) in
+      let term : l.term ≡ ty = same_Some l.term ty (sym l.typed ∙ ap (λ z. binding_at z ts) (same_Some (new_type w) t last) ∙ typed) in
       let these : Make insertion (made l.name l.operands l.term l.properties) ∷ give x (Result m.next 0) ≡ map (λ o. Make insertion o) os ++ give x v =
       (λ i. Make insertion (sym l.is i) ∷ give x (value i)) ∙ ap (λ z. map (λ o. Make insertion o) z ++ give x v) (sym (s.all ∙ ap (λ z. s.made_here ∷ z) none)) in
       subst (λ es. Free es m) these (fit.new_given x insertion ty 0 m f l.name l.operands l.term l.properties l.small l.short l.pass m.next refl (ap (same_type ty) term ∙ type_refl ty))
@@ -175,7 +175,7 @@ module _ (x : ℕ) (insertion : Place) (ty : TypeTerm) (root : ℕ) (ts : Standi
       given_here : {u w : Value} → Some (Some u) ≡ Some (Some w) → u ≡ w
       given_here e = cc
 
-  module _ (w : NewValue) (ws : List NewValue) (k : ℕ) (m : Module) (f : Fit x insertion ty (suc (suc (length ws))) m) (b : Standing Value) (all : DominatedByAll b m) (u : NewValue) (os : List Operation) (c : Standing Value) (s : Step w (u ∷ ws) k m b os c) where
+  module _ (w : NewValue) (ws : List NewValue) (k : ℕ) (m : Module) (f : Fit x insertion ty (suc (suc (length ws))) m) (b : BoundValues Value) (all : DominatedByAll b m) (u : NewValue) (os : List Operation) (c : BoundValues Value) (s : Step w (u ∷ ws) k m b os c) where
     abbrev l : IsLeaf (λ u. visible is_isolated m.tree x u) ts w s.made_here
     l = s.leaf_here
 
@@ -196,8 +196,8 @@ module _ (x : ℕ) (insertion : Place) (ty : TypeTerm) (root : ℕ) (ts : Standi
         (λ i. Make insertion (sym l.is i) ∷ (map (λ o. Make insertion o) s.others ++ give x v)) ∙ ap (λ z. map (λ o. Make insertion o) z ++ give x v) (sym s.all) in
         subst (λ es. Free es m) these (fit.make_first x insertion ty (suc (length ws)) m f l.name l.operands l.term l.properties l.small l.short l.pass (map (λ o. Make insertion o) s.others ++ give x v) rest)
 
-  all_free : (w : NewValue) (ws : List NewValue) (k : ℕ) (m : Module) → Fit x insertion ty (suc (length ws)) m → (b : Standing Value) → DominatedByAll b m → list_all (spares root) (w ∷ ws) ≡ true
-      → (os : List Operation) (c : Standing Value) → all_made ts env m.next k (w ∷ ws) b ≡ Some (os, c) → (t : ℕ) → last_type (w ∷ ws) ≡ Some t → standing t ts ≡ Some ty
+  all_free : (w : NewValue) (ws : List NewValue) (k : ℕ) (m : Module) → Fit x insertion ty (suc (length ws)) m → (b : BoundValues Value) → DominatedByAll b m → list_all (spares root) (w ∷ ws) ≡ true
+      → (os : List Operation) (c : BoundValues Value) → all_made ts env m.next k (w ∷ ws) b ≡ Some (os, c) → (t : ℕ) → last_type (w ∷ ws) ≡ Some t → binding_at t ts ≡ Some ty
       → (v : Value) → slice_get c (k + length ws) ≡ Some (Some v) → Free (map (λ o. Make insertion o) os ++ give x v) m
   all_free w [] k m f b all spared os c e t last typed v at =
       let place : k ≡ k + length {A = NewValue} [] = omega arith in
@@ -241,19 +241,19 @@ same_is (Some a) (Some b) e = (a, refl, ap Some (sym (eqb-true a b e)))
 
 -- the parts of a plan
 record Parts (t : Operation) (verified : Header → Bool) (n : ℕ) (p : PatternModel) (x : ℕ) (r : Plan) : Type 0 where
-  first : Standing Value
+  first : BoundValues Value
   begun : bound same_value p.root (Result x 0) (nothing (places p)) ≡ Some first
-  values : Standing Value
+  values : BoundValues Value
   matched : ops_match t verified (placed (old_place p) p.old) first ≡ Some values
-  of_values : Standing TypeTerm
+  of_values : BoundValues TypeTerm
   typed_values : types_at t verified 0 p.values values (map written p.value_types) ≡ Some of_values
-  types : Standing TypeTerm
+  types : BoundValues TypeTerm
   typed_old : types_at t verified (old_place p) (map PatternOp.ty p.old) values of_values ≡ Some types
   env : List Outcome
-  made : List Operation × Standing Value
+  made : List Operation × BoundValues Value
   all : all_made types env n (new_place p) p.new values ≡ Some made
   result : Value
-  gives : standing p.result made.1 ≡ Some result
+  gives : binding_at p.result made.1 ≡ Some result
   plan : r ≡ (made.0, result)
 
 parts : (t : Operation) (verified : Header → Bool) (n : ℕ) (p : PatternModel) (x : ℕ) (r : Plan) → planned t verified n p x ≡ Some r → Parts t verified n p x r
@@ -263,11 +263,11 @@ parts t verified n p x r e =
     let ts = given_is (typed t verified n p c.0) _ r c.2 in
     let us = given_is (types_at t verified 0 p.values c.0 (map written p.value_types)) _ ts.0 ts.1 in
     let a = when_is (list_all is_numeric ts.0) _ r ts.2 in
-    let w = when_is (fits (map kind_standing ts.0) p && constants_known t verified n p c.0) _ r a.1 in
-    let env = given_is (run (Content.given (content_with (map kind_standing ts.0) p)) (outcomes t verified n p 0 p.values c.0)) _ r w.1 in
+    let w = when_is (fits (map bound_type ts.0) p && constants_known t verified n p c.0) _ r a.1 in
+    let env = given_is (run (Content.given (content_with (map bound_type ts.0) p)) (outcomes t verified n p 0 p.values c.0)) _ r w.1 in
     let u = when_is (extra_known t verified n p (extra_place p) p.extra c.0 env.0) _ r env.2 in
     let made = given_is (all_made ts.0 env.0 n (new_place p) p.new c.0) _ r u.1 in
-    let v = given_is (standing p.result made.0.1) _ r made.2 in
+    let v = given_is (binding_at p.result made.0.1) _ r made.2 in
     record {
       first = b.0;
       begun = b.1;
@@ -322,7 +322,7 @@ module _ (p : PatternModel) (m : Module) (x : ℕ) (wellformed : IsWellFormed is
     root_typed =
         let h = types_hold type_is t verified (old_place p) (map PatternOp.ty p.old) q.values q.of_values q.types q.typed_old (p.root - old_place p) number (slice_get-map PatternOp.ty p.old (p.root - old_place p) ∙ root_at.1) in
         let place : old_place p + (p.root - old_place p) ≡ p.root = omega (arith, above) in
-        let value : h.0 ≡ Result x 0 = same_Some h.0 (Result x 0) (sym h.2 ∙ ap (λ z. standing z q.values) place ∙ stands_there p.root q.values (Result x 0) seen.at) in
+        let value : h.0 ≡ Result x 0 = same_Some h.0 (Result x 0) (sym h.2 ∙ ap (λ z. binding_at z q.values) place ∙ stands_there p.root q.values (Result x 0) seen.at) in
         let term : h.1 ≡ ty = same_Some h.1 ty (sym h.3 ∙ ap (λ z. type_of_value z m.tree) value ∙ own_type) in
         h.4 ∙ ap (λ z. Some (Some z)) term
 
@@ -334,16 +334,16 @@ module _ (p : PatternModel) (m : Module) (x : ℕ) (wellformed : IsWellFormed is
     variable empty headroom =
         let number_at : slice_get p.values p.result ≡ Some number = ap (given_type p) (sym empty) ∙ gives in
         let made_is : ([], q.values) ≡ q.made = same_Some ([], q.values) q.made (ap (λ z. all_made q.types q.env m.next (new_place p) z q.values) (sym empty) ∙ q.all) in
-        let value : standing p.result q.values ≡ Some q.result = ap (λ (z : List Operation × Standing Value). standing p.result z.1) made_is ∙ q.gives in
+        let value : binding_at p.result q.values ≡ Some q.result = ap (λ (z : List Operation × BoundValues Value). binding_at p.result z.1) made_is ∙ q.gives in
         let h = types_hold type_is t verified 0 p.values q.values (map written p.value_types) q.of_values q.typed_values p.result number number_at in
         let place : 0 + p.result ≡ p.result = omega arith in
-        let same : h.0 ≡ q.result = same_Some h.0 q.result (sym h.2 ∙ ap (λ z. standing z q.values) place ∙ value) in
+        let same : h.0 ≡ q.result = same_Some h.0 q.result (sym h.2 ∙ ap (λ z. binding_at z q.values) place ∙ value) in
         let kept = types_keep type_is t verified (old_place p) (map PatternOp.ty p.old) q.values q.of_values q.types q.typed_old number h.1 h.4 in
         let term : ty ≡ h.1 = same_Some ty h.1 (same_Some (Some ty) (Some h.1) (sym root_typed ∙ kept)) in
         let within : p.result < length p.values = slice_get_within p.values p.result number number_at in
         let apart : p.result ≡ p.root → ⊥ = λ e. absurd (omega (arith, e, within, above)) in
         let dominated_by_it = seen.other p.result q.result apart (standing_is p.result q.values q.result value) in
-        let these : give x q.result ≡ map (λ o. Make insertion o) r.0 ++ give x r.1 = (λ i. map (λ o. Make insertion o) (ap (λ (z : List Operation × Standing Value). z.0) made_is i) ++ give x q.result) ∙ ap (λ (z : Plan). map (λ o. Make insertion o) z.0 ++ give x z.1) (sym q.plan) in
+        let these : give x q.result ≡ map (λ o. Make insertion o) r.0 ++ give x r.1 = (λ i. map (λ o. Make insertion o) (ap (λ (z : List Operation × BoundValues Value). z.0) made_is i) ++ give x q.result) ∙ ap (λ (z : Plan). map (λ o. Make insertion o) z.0 ++ give x z.1) (sym q.plan) in
         subst (λ es. Free es m) these (fit.given x insertion ty 0 m (fits_here 0 headroom.0 headroom.1) q.result dominated_by_it h.1 (ap (λ z. type_of_value z m.tree) (sym same) ∙ h.3) (ap (same_type ty) (sym term) ∙ type_refl ty))
 
     -- otherwise the last new operation replaces the result
@@ -368,12 +368,12 @@ module _ (p : PatternModel) (m : Module) (x : ℕ) (wellformed : IsWellFormed is
             let l : length r.0 ≡ suc (length ws) = ap (λ (z : Plan). length z.0) q.plan ∙ many ∙ ap length is in
             made_last w ws is (let a = headroom.0 in let b = headroom.1 in (omega (arith, a, count, l), omega (arith, b, count, l)))
 
-own_is : (p : PatternModel) (m : Module) (x : ℕ) → own_edits p m x ≡ given_base (find x m.tree) (λ o. given_base (insertion_of x m.tree) (λ insertion. looks.when (is_one (head o).results) (edits_for insertion x (plan_of m.tree (is_verified m.tree) m.next p x))))
-unfolding own_edits
+own_is : (p : PatternModel) (m : Module) (x : ℕ) → user_pattern_edits p m x ≡ given_base (find x m.tree) (λ o. given_base (insertion_of x m.tree) (λ insertion. looks.when (is_one (head o).results) (edits_for insertion x (plan_of m.tree (is_verified m.tree) m.next p x))))
+unfolding user_pattern_edits
 own_is p m x = refl
 
-pub own_are_accepted : OwnAreAccepted
-own_are_accepted p m x wellformed es n e carried =
+pub user_patterns_are_accepted : UserPatternsAreAccepted
+user_patterns_are_accepted p m x wellformed es n e carried =
     let o = given_some (find x m.tree) _ es (sym (own_is p m x) ∙ e) in
     let insertion = given_some (insertion_of x m.tree) _ es o.2 in
     let w = when_some (is_one (head o.0).results) _ es insertion.2 in

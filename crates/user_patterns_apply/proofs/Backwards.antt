@@ -4,7 +4,7 @@ use Rattle.std.specs.Prelude.{is_none}
 use Rattle.ir_event.specs.trees.declared.value.Value.{Value}
 use Rattle.ir_event.specs.trees.Meaning.{Operation}
 use Rattle.user_patterns_check.specs.Outcomes.{given}
-use Rattle.user_patterns_data.specs.Matching.{Standing, op_matches, ops_match, placed}
+use Rattle.user_patterns_data.specs.Matching.{BoundValues, op_matches, ops_match, placed}
 use Rattle.dialects_int.specs.declared.operations.Cast.TheVariants.{Truncate}
 use Rattle.user_patterns_data.specs.declared.pattern.Expression.TheVariants as form
 use Rattle.user_patterns_data.specs.declared.pattern.PatternOp.{PatternOp}
@@ -36,7 +36,7 @@ module _ (t : Operation) (k : ℕ) (ps : List PatternOp) (left : ℕ) (some : 0 
     pub each_goes : r ≡ true → each f m (placed k (take (left - 1) ps)) ≡ total
     each_goes e = ap (λ z. first_of (unless z (m (k + (left - 1), get_or ps (left - 1) d))) (each f m (placed k (take (left - 1) ps)))) (sym e) ∙ here
 
-  module _ (b : Standing Value) (total : Option (Standing Value)) (same : ops_match t any (placed k (take left ps)) b ≡ total) (d : PatternOp) (new : Standing Value) (r : Bool) (stands : Stands (op_matches t any (k + (left - 1), get_or ps (left - 1) d) b) new r) where
+  module _ (b : BoundValues Value) (total : Option (BoundValues Value)) (same : ops_match t any (placed k (take left ps)) b ≡ total) (d : PatternOp) (new : BoundValues Value) (r : Bool) (stands : Stands (op_matches t any (k + (left - 1), get_or ps (left - 1) d) b) new r) where
     split : given (op_matches t any (k + (left - 1), get_or ps (left - 1) d) b) (ops_match t any (placed k (take (left - 1) ps))) ≡ total
     split = sym (ap (λ z. ops_match t any z b) (last d)) ∙ same
 
@@ -49,7 +49,7 @@ module _ (t : Operation) (k : ℕ) (ps : List PatternOp) (left : ℕ) (some : 0 
     pattern_ops_go e = ap (λ o. given o (ops_match t any (placed k (take (left - 1) ps)))) (sym (stands_yes (op_matches t any (k + (left - 1), get_or ps (left - 1) d) b) new r stands e)) ∙ split
 
   -- the tests of the pattern ops
-  module _ (b : Standing Value) (total : Test) (same : ops_tests t (placed k (take left ps)) b ≡ total) (d : PatternOp) (new : Standing Value) (r : Test) (is : r ≡ op_tests t (k + (left - 1), get_or ps (left - 1) d) b) where
+  module _ (b : BoundValues Value) (total : Test) (same : ops_tests t (placed k (take left ps)) b ≡ total) (d : PatternOp) (new : BoundValues Value) (r : Test) (is : r ≡ op_tests t (k + (left - 1), get_or ps (left - 1) d) b) where
     abbrev rest : Test
     rest = on_value (op_matches t any (k + (left - 1), get_or ps (left - 1) d) b) (ops_tests t (placed k (take (left - 1) ps)))
 

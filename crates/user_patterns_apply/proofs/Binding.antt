@@ -4,7 +4,7 @@ use Rattle.std.specs.Prelude.{option_map}
 use Rattle.std.proofs.lemmas.List.{map-set}
 use Rattle.std.proofs.lemmas.Option.{slice_get-map, slice_get-get_or, slice_get_past}
 use Rattle.user_patterns_check.specs.Outcomes.{given}
-use Rattle.user_patterns_data.specs.Matching.{Standing, bound, bound_over, standing, when}
+use Rattle.user_patterns_data.specs.Matching.{BoundValues, bound, bound_over, binding_at, when}
 use Rattle.user_patterns_apply.specs.Stands.{Stands}
 
 pub stands_yes : {X : Type 0} (r : Option X) (new : X) (b : Bool) → Stands r new b → b ≡ true → r ≡ Some new
@@ -23,15 +23,15 @@ module _ {A V : Type 0} (f : A → V) where
   past os k l = slice_get-map (option_map f) os k ∙ ap (option_map (option_map f)) (slice_get_past os k l)
 
   -- reading a place
-  pub stands_at : (os : List (Option A)) (k : ℕ) (d o : Option A) → k < length os → get_or os k d ≡ o → option_map f o ≡ standing k (map (option_map f) os)
+  pub stands_at : (os : List (Option A)) (k : ℕ) (d o : Option A) → k < length os → get_or os k d ≡ o → option_map f o ≡ binding_at k (map (option_map f) os)
   stands_at os k d o l e = sym (ap (λ s. given s (λ x. x)) (at os k d o l e))
 
-  pub stands_past : (os : List (Option A)) (k : ℕ) → length os ≤ k → None ≡ standing k (map (option_map f) os)
+  pub stands_past : (os : List (Option A)) (k : ℕ) → length os ≤ k → None ≡ binding_at k (map (option_map f) os)
   stands_past os k l = sym (ap (λ s. given s (λ x. x)) (past os k l))
 
   -- binding at a place
   module _ (same : V → V → Bool) (os : List (Option A)) (k : ℕ) (v : V) where
-    pub bound_past : (new : Standing V) → length os ≤ k → Stands (bound same k v (map (option_map f) os)) new false
+    pub bound_past : (new : BoundValues V) → length os ≤ k → Stands (bound same k v (map (option_map f) os)) new false
     bound_past new l = subst (λ s. Stands (bound_over same s k v (map (option_map f) os)) new false) (sym (past os k l)) refl
 
     pub bound_there : (d : Option A) (u : A) (r : Bool) → k < length os → get_or os k d ≡ Some u → r ≡ same (f u) v → Stands (bound same k v (map (option_map f) os)) (map (option_map f) os) r

@@ -19,8 +19,8 @@ use Rattle.user_patterns_data.specs.Planning.{Plan}
 use Rattle.user_patterns_data.specs.Shapes.{PatternModel}
 use Rattle.user_patterns_apply.specs.Built.{plan_in, plan_of}
 use Rattle.user_patterns_apply.specs.declared.rewrite_plan.BuildPlan.{BuildPlan}
-use Rattle.user_patterns_apply.specs.Own.{edits_for, is_one, own_edits, own_rewrite}
-use Rattle.user_patterns_apply.specs.Mismatches.{Test, first_failing, first_of, own_mismatch, plan_tests, point_of, point_tests, tests_at, unless, with_value}
+use Rattle.user_patterns_apply.specs.Own.{edits_for, is_one, user_pattern_edits, user_pattern_rewrite}
+use Rattle.user_patterns_apply.specs.Mismatches.{Test, first_failing, first_of, user_pattern_mismatch, plan_tests, point_of, point_tests, tests_at, unless, with_value}
 use Rattle.user_patterns_apply.specs.declared.mismatch.Mismatch.{Mismatch}
 use Rattle.user_patterns_apply.specs.declared.mismatch.Mismatch.TheVariants as fails
 use Rattle.user_patterns_check.specs.Outcomes.{given as given_data}
@@ -32,12 +32,12 @@ module _ (p : PatternModel) (m : Module) (x : ℕ) where
   abbrev plan : Option Plan
   plan = plan_of m.tree (is_verified m.tree) m.next p x
 
-  edits_are : own_edits p m x ≡ given (find x m.tree) (λ o. given (insertion_of x m.tree) (λ insertion. when (is_one (head o).results) (edits_for insertion x (plan_of m.tree (is_verified m.tree) m.next p x))))
-  unfolding own_edits
+  edits_are : user_pattern_edits p m x ≡ given (find x m.tree) (λ o. given (insertion_of x m.tree) (λ insertion. when (is_one (head o).results) (edits_for insertion x (plan_of m.tree (is_verified m.tree) m.next p x))))
+  unfolding user_pattern_edits
   edits_are = refl
 
   -- the edits at the insertion point of the operation
-  edits_at : own_edits p m x ≡ given (point_of x m.tree) (λ point. edits_for point x (plan_of m.tree (is_verified m.tree) m.next p x))
+  edits_at : user_pattern_edits p m x ≡ given (point_of x m.tree) (λ point. edits_for point x (plan_of m.tree (is_verified m.tree) m.next p x))
   edits_at = edits_are ∙ go (find x m.tree)
     where
       in_one : (z : Bool) (f : Option Place) → given f (λ point. when z (edits_for point x plan)) ≡ given (when_data z f) (λ point. edits_for point x plan)
@@ -51,33 +51,33 @@ module _ (p : PatternModel) (m : Module) (x : ℕ) where
       go None = refl
       go (Some o) = in_one (is_one (head o).results) (insertion_of x m.tree)
 
-  mismatch_is : own_mismatch p m x ≡ first_of (plan_tests m.tree (is_verified m.tree) m.next p x) (point_tests x m.tree)
-  unfolding own_mismatch
+  mismatch_is : user_pattern_mismatch p m x ≡ first_of (plan_tests m.tree (is_verified m.tree) m.next p x) (point_tests x m.tree)
+  unfolding user_pattern_mismatch
   mismatch_is = refl
 
   -- without a plan
-  pub no_plan : None ≡ plan_of m.tree (is_verified m.tree) m.next p x → None ≡ own_edits p m x
+  pub no_plan : None ≡ plan_of m.tree (is_verified m.tree) m.next p x → None ≡ user_pattern_edits p m x
   no_plan e = go (point_of x m.tree) ∙ ap (λ q. given (point_of x m.tree) (λ point. edits_for point x q)) e ∙ sym edits_at
     where
       go : (f : Option Place) → None ≡ given f (λ point. edits_for point x None)
       go None = refl
       go (Some f) = refl
 
-  pub plan_fails : (r : Mismatch) → Some r ≡ plan_tests m.tree (is_verified m.tree) m.next p x → Some r ≡ own_mismatch p m x
+  pub plan_fails : (r : Mismatch) → Some r ≡ plan_tests m.tree (is_verified m.tree) m.next p x → Some r ≡ user_pattern_mismatch p m x
   plan_fails r e = ap (λ z. first_of z (point_tests x m.tree)) e ∙ sym mismatch_is
 
   -- without an insertion point
-  pub no_point : None ≡ point_of x m.tree → None ≡ own_edits p m x
+  pub no_point : None ≡ point_of x m.tree → None ≡ user_pattern_edits p m x
   no_point e = ap (λ f. given f (λ point. edits_for point x (plan_of m.tree (is_verified m.tree) m.next p x))) e ∙ sym edits_at
 
   module _ (passes : None ≡ plan_tests m.tree (is_verified m.tree) m.next p x) where
-    by_point : point_tests x m.tree ≡ own_mismatch p m x
+    by_point : point_tests x m.tree ≡ user_pattern_mismatch p m x
     by_point = ap (λ z. first_of z (point_tests x m.tree)) passes ∙ sym mismatch_is
 
-    pub point_fails : (r : Test) → r ≡ point_tests x m.tree → r ≡ own_mismatch p m x
+    pub point_fails : (r : Test) → r ≡ point_tests x m.tree → r ≡ user_pattern_mismatch p m x
     point_fails r e = e ∙ by_point
 
-  pub some_plan : (c : ContextModel) (f : Place) → Some f ≡ point_of x m.tree → (built : BuildPlan) → Some (plan_in c m.next built) ≡ plan_of m.tree (is_verified m.tree) m.next p x → Some (planned_edits c m.next x (record { point = f; built = built })) ≡ own_edits p m x
+  pub some_plan : (c : ContextModel) (f : Place) → Some f ≡ point_of x m.tree → (built : BuildPlan) → Some (plan_in c m.next built) ≡ plan_of m.tree (is_verified m.tree) m.next p x → Some (planned_edits c m.next x (record { point = f; built = built })) ≡ user_pattern_edits p m x
   some_plan c f at built is =
       ap (edits_for f x) is ∙ ap (λ z. given z (λ point. edits_for point x (plan_of m.tree (is_verified m.tree) m.next p x))) at ∙ sym edits_at
 
@@ -128,29 +128,29 @@ module _ (x : ℕ) (t : Operation) where
 
 -- ---- the rewriter's IR state, and the module that it holds
 
-rewrite_is : (p : PatternModel) (m : Module) (x : ℕ) → own_rewrite p m x ≡ rewrite_by (own_edits p m x) m
-unfolding own_rewrite
+rewrite_is : (p : PatternModel) (m : Module) (x : ℕ) → user_pattern_rewrite p m x ≡ rewrite_by (user_pattern_edits p m x) m
+unfolding user_pattern_rewrite
 rewrite_is p m x = refl
 
-module _ (w : World) (h : TransactionModel) (ctx : w.ctx ≡ h.ctx) (store : w.store ≡ h.store) (x : ℕ) (p : PatternModel) (r : Option PlacedBuild) (is : option_map (planned_edits w.ctx (module_in w).next x) r ≡ own_edits p (module_in w) x) where
+module _ (w : World) (h : TransactionModel) (ctx : w.ctx ≡ h.ctx) (store : w.store ≡ h.store) (x : ℕ) (p : PatternModel) (r : Option PlacedBuild) (is : option_map (planned_edits w.ctx (module_in w).next x) r ≡ user_pattern_edits p (module_in w) x) where
   same : module_in w ≡ module_held h
   same = same_module w h ctx store x
 
-  rewritten : own_rewrite p (module_held h) x ≡ rewrite_by (option_map (planned_edits w.ctx (module_in w).next x) r) (module_held h)
-  rewritten = rewrite_is p (module_held h) x ∙ ap (λ m. rewrite_by (own_edits p m x) (module_held h)) (sym same) ∙ ap (λ q. rewrite_by q (module_held h)) (sym is)
+  rewritten : user_pattern_rewrite p (module_held h) x ≡ rewrite_by (option_map (planned_edits w.ctx (module_in w).next x) r) (module_held h)
+  rewritten = rewrite_is p (module_held h) x ∙ ap (λ m. rewrite_by (user_pattern_edits p m x) (module_held h)) (sym same) ∙ ap (λ q. rewrite_by q (module_held h)) (sym is)
 
-  pub was_none : r ≡ None → RewriteOutcome (own_rewrite p (module_held h) x) false (module_held h) (module_held h)
+  pub was_none : r ≡ None → RewriteOutcome (user_pattern_rewrite p (module_held h) x) false (module_held h) (module_held h)
   was_none n =
       subst (λ a. RewriteOutcome a false (module_held h) (module_held h))
       (sym (rewritten ∙ ap (λ q. rewrite_by (option_map (planned_edits w.ctx (module_in w).next x) q) (module_held h)) n))
       (refl, refl)
 
-  pub rewrite_due : (q : PlacedBuild) → r ≡ Some q → own_rewrite p (module_held h) x ≡ carried_out (planned_edits h.ctx (module_held h).next x q) (module_held h)
+  pub rewrite_due : (q : PlacedBuild) → r ≡ Some q → user_pattern_rewrite p (module_held h) x ≡ carried_out (planned_edits h.ctx (module_held h).next x q) (module_held h)
   rewrite_due q found =
       rewritten ∙ ap (λ q. rewrite_by (option_map (planned_edits w.ctx (module_in w).next x) q) (module_held h)) found
       ∙ λ i. carried_out (planned_edits (ctx i) (same i).next x q) (module_held h)
 
-  pub edits_due : (q : PlacedBuild) → r ≡ Some q → own_edits p (module_held h) x ≡ Some (planned_edits h.ctx (module_held h).next x q)
+  pub edits_due : (q : PlacedBuild) → r ≡ Some q → user_pattern_edits p (module_held h) x ≡ Some (planned_edits h.ctx (module_held h).next x q)
   edits_due q found =
-      ap (λ m. own_edits p m x) (sym same) ∙ sym is ∙ ap (option_map (planned_edits w.ctx (module_in w).next x)) found
+      ap (λ m. user_pattern_edits p m x) (sym same) ∙ sym is ∙ ap (option_map (planned_edits w.ctx (module_in w).next x)) found
       ∙ λ i. Some (planned_edits (ctx i) (same i).next x q)

@@ -1,4 +1,4 @@
-pub mod Seen
+pub mod VisibleValues
 pub mod Accepted
 pub mod Makings
 pub mod Carried

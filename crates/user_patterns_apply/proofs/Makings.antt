@@ -21,7 +21,7 @@ use Rattle.patterns_lowering.specs.declared.edit.Edit.TheVariants as coded
 use Rattle.rewriter_machine.specs.Edits as edit
 use Rattle.patterns_base.specs.Made.{Entries, made, value_entry}
 use Rattle.patterns_base.specs.Makes.{give}
-use Rattle.patterns.specs.Making.{StandsFor}
+use Rattle.patterns.specs.Making.{EditsDenote}
 use Rattle.patterns.specs.Interned.{IsAttrOf, IsNameOf, IsTypeOf}
 use Rattle.patterns.specs.New.{new_op}
 use Rattle.patterns.proofs.Adding.{added_none, added_on}
@@ -33,7 +33,7 @@ use Rattle.user_patterns_apply.specs.declared.rewrite_plan.Property.{Property}
 use Rattle.user_patterns_apply.specs.declared.rewrite_plan.Property.TheVariants as property
 use Rattle.user_patterns_apply.specs.declared.types.BoundType.{BoundType}
 use Rattle.user_patterns_apply.specs.declared.types.BoundType.TheVariants as bound
-use Rattle.user_patterns_apply.specs.Planned.{EditStands, EntryStands, entries_of, makings, planned_edits}
+use Rattle.user_patterns_apply.specs.Planned.{EditDenotes, EntryDenotes, entries_of, makings, planned_edits}
 use Rattle.user_patterns_apply.specs.declared.match_pattern.PlacedBuild.{PlacedBuild}
 use Rattle.patterns_base.proofs.EditFacts.{edits_more}
 
@@ -87,10 +87,10 @@ meaning_more c [] e = refl
 meaning_more c (d ∷ es) e = ap (λ z. edit_meaning c (numbered d) ∷ z) (meaning_more c es e)
 
 -- one more edit after edits that fit an earlier context
-pub pushed_meaning : (c d : ContextModel) → Holds c → IsExtendedBy c d → (es after : List Coded) → AllFit c es → (e : Coded) (q : Edit) → EditStands d e q → after ≡ es ++ e ∷ [] → edits_meaning d after ≡ edits_meaning c es ++ q ∷ []
+pub pushed_meaning : (c d : ContextModel) → Holds c → IsExtendedBy c d → (es after : List Coded) → AllFit c es → (e : Coded) (q : Edit) → EditDenotes d e q → after ≡ es ++ e ∷ [] → edits_meaning d after ≡ edits_meaning c es ++ q ∷ []
 pushed_meaning c d holds g es after h e q s is = ap (edits_meaning d) is ∙ meaning_more d es e ∙ (λ i. (edits_stay c d g holds es h).1 i ++ s.meaning i ∷ [])
 
-pub pushed_fit : (c d : ContextModel) → Holds c → IsExtendedBy c d → (es after : List Coded) → AllFit c es → (e : Coded) (q : Edit) → EditStands d e q → after ≡ es ++ e ∷ [] → AllFit d after
+pub pushed_fit : (c d : ContextModel) → Holds c → IsExtendedBy c d → (es after : List Coded) → AllFit c es → (e : Coded) (q : Edit) → EditDenotes d e q → after ≡ es ++ e ∷ [] → AllFit d after
 pushed_fit c d holds g es after h e q s is = subst (AllFit d) (sym is) (fit_more d es e (edits_stay c d g holds es h).0 s.fits)
 
 -- ---- a new operation
@@ -117,7 +117,7 @@ module _ (c : ContextModel) (name : ℕ) (bytes : List ℕ) (ty : ℕ) (term : T
         bare = refl;
       }
 
-  pub op_stands : (entry : Option (ℕ × ℕ)) (es : Entries) → EntryStands c entry es → Stands (new_op name operands ty entry) (made bytes operands term es)
+  pub op_stands : (entry : Option (ℕ × ℕ)) (es : Entries) → EntryDenotes c entry es → Stands (new_op name operands ty entry) (made bytes operands term es)
   op_stands None es e = subst (λ z. Stands (new_op name operands ty None) (made bytes operands term z)) (sym e) bare_stands
   op_stands (Some k) es e = subst (λ z. Stands (new_op name operands ty (Some k)) (made bytes operands term z)) (sym e.4) (entry_stands k.0 k.1 e.0 e.1 e.2 e.3)
 
@@ -127,11 +127,11 @@ entries_are b c m ty e property.Flags = refl
 entries_are b c m ty e (property.Predicate p) = refl
 entries_are b c m ty e (property.Bits bits) = ap (λ z. value_entry z bits) e
 
-pub making_stands : (a b c : ContextModel) (m : NewOp) (insertion : Place) (n ty name : ℕ) (entry : Option (ℕ × ℕ)) → IsTypeOf b ty (type_in a m.ty) → IsTypeOf c ty (type_in a m.ty) → IsNameOf c name (word_bytes m.word) → EntryStands c entry (entries_of b m.word ty m.property)
-    → (o : Op) → o ≡ new_op name (map (operand_in n) m.operands.items) ty entry → EditStands c (coded.Make insertion o) (edit.Make insertion (made_in a n m))
+pub making_stands : (a b c : ContextModel) (m : NewOp) (insertion : Place) (n ty name : ℕ) (entry : Option (ℕ × ℕ)) → IsTypeOf b ty (type_in a m.ty) → IsTypeOf c ty (type_in a m.ty) → IsNameOf c name (word_bytes m.word) → EntryDenotes c entry (entries_of b m.word ty m.property)
+    → (o : Op) → o ≡ new_op name (map (operand_in n) m.operands.items) ty entry → EditDenotes c (coded.Make insertion o) (edit.Make insertion (made_in a n m))
 making_stands a b c m insertion n ty name entry before t named e o is =
-    let s = op_stands c name (word_bytes m.word) ty (type_in a m.ty) (map (operand_in n) m.operands.items) named t entry (entries_in a m m.property) (subst (EntryStands c entry) (entries_are a b m ty before.1 m.property) e) in
-    subst (λ z. EditStands c (coded.Make insertion z) (edit.Make insertion (made_in a n m))) (sym is) (record { meaning = ap (edit.Make insertion) s.means; fits = (s.sound, s.bare) })
+    let s = op_stands c name (word_bytes m.word) ty (type_in a m.ty) (map (operand_in n) m.operands.items) named t entry (entries_in a m m.property) (subst (EntryDenotes c entry) (entries_are a b m ty before.1 m.property) e) in
+    subst (λ z. EditDenotes c (coded.Make insertion z) (edit.Make insertion (made_in a n m))) (sym is) (record { meaning = ap (edit.Make insertion) s.means; fits = (s.sound, s.bare) })
 
 -- ---- in sequence
 
@@ -180,8 +180,8 @@ fit_joined c [] fs h f = f
 fit_joined c (e ∷ es) fs h f = (h.0, fit_joined c es fs h.1 f)
 
 pub given_stands : (a c : ContextModel) (n x : ℕ) (p : PlacedBuild) (es after : List Coded) → edits_meaning c es ≡ makings a n p.point p.built.made.items → AllFit c es
-    → after ≡ es ++ coded.Replace (Result x 0) (operand_in n p.built.result) ∷ coded.Erase x ∷ [] → StandsFor c after (planned_edits a n x p)
+    → after ≡ es ++ coded.Replace (Result x 0) (operand_in n p.built.result) ∷ coded.Erase x ∷ [] → EditsDenote c after (planned_edits a n x p)
 given_stands a c n x p es after meaning fit is =
     let last = coded.Replace (Result x 0) (operand_in n p.built.result) ∷ coded.Erase x ∷ [] in
-    subst (λ z. StandsFor c z (planned_edits a n x p)) (sym is)
+    subst (λ z. EditsDenote c z (planned_edits a n x p)) (sym is)
     (record { meaning = edits_more c es last ∙ ap (λ z. z ++ give x (operand_in n p.built.result)) meaning; fit = fit_joined c es last fit (tt, (tt, tt)) })

@@ -8,21 +8,21 @@ use Rattle.user_patterns_check.specs.Contents.{Content}
 use Rattle.user_patterns_check.specs.Outcomes.{Outcome, given, run}
 use Rattle.user_patterns_check.specs.declared.step.Step.{Step}
 use Rattle.user_patterns_data.specs.Fitting.{content_with}
-use Rattle.user_patterns_data.specs.Matching.{Header, Standing}
-use Rattle.user_patterns_data.specs.Planning.{kind_standing, outcomes, typed}
+use Rattle.user_patterns_data.specs.Matching.{Header, BoundValues}
+use Rattle.user_patterns_data.specs.Planning.{bound_type, outcomes, typed}
 use Rattle.user_patterns_data.specs.Shapes.{PatternModel}
 use Rattle.user_patterns_apply.specs.Matched.{any, matched}
 use Rattle.user_patterns_apply.specs.Numbers.{numbers_at, or_empty}
 use Rattle.user_patterns_apply.proofs.Planned.{not_ran, ran}
 
-module _ (t : Operation) (verified : Header → Bool) (n : ℕ) (p : PatternModel) (x most : ℕ) (b : Standing Value) (match_is : Some b ≡ matched t any p x) (ts : Standing TypeTerm) (types_are : Some ts ≡ typed t verified n p b) where
-  computed : or_empty (run (take most (Content.given (content_with (map kind_standing ts) p))) (outcomes t verified n p 0 p.values b)) ≡ numbers_at t verified n p x most
+module _ (t : Operation) (verified : Header → Bool) (n : ℕ) (p : PatternModel) (x most : ℕ) (b : BoundValues Value) (match_is : Some b ≡ matched t any p x) (ts : BoundValues TypeTerm) (types_are : Some ts ≡ typed t verified n p b) where
+  computed : or_empty (run (take most (Content.given (content_with (map bound_type ts) p))) (outcomes t verified n p 0 p.values b)) ≡ numbers_at t verified n p x most
   computed =
-      ap (λ z. or_empty (given z (λ ts. run (take most (Content.given (content_with (map kind_standing ts) p))) (outcomes t verified n p 0 p.values b)))) types_are
-      ∙ ap (λ z. or_empty (given z (λ b. given (typed t verified n p b) (λ ts. run (take most (Content.given (content_with (map kind_standing ts) p))) (outcomes t verified n p 0 p.values b))))) match_is
+      ap (λ z. or_empty (given z (λ ts. run (take most (Content.given (content_with (map bound_type ts) p))) (outcomes t verified n p 0 p.values b)))) types_are
+      ∙ ap (λ z. or_empty (given z (λ b. given (typed t verified n p b) (λ ts. run (take most (Content.given (content_with (map bound_type ts) p))) (outcomes t verified n p 0 p.values b))))) match_is
 
-  module _ (steps : List Step) (are : steps ≡ take most (Content.given (content_with (map kind_standing ts) p))) (env : List Outcome) (start : env ≡ outcomes t verified n p 0 p.values b) (after : List Outcome) (done : Bool) (stands : check.Stands (run steps env) after done) where
-    same : run (take most (Content.given (content_with (map kind_standing ts) p))) (outcomes t verified n p 0 p.values b) ≡ run steps env
+  module _ (steps : List Step) (are : steps ≡ take most (Content.given (content_with (map bound_type ts) p))) (env : List Outcome) (start : env ≡ outcomes t verified n p 0 p.values b) (after : List Outcome) (done : Bool) (stands : check.Stands (run steps env) after done) where
+    same : run (take most (Content.given (content_with (map bound_type ts) p))) (outcomes t verified n p 0 p.values b) ≡ run steps env
     same = λ i. run (sym are i) (sym start i)
 
     pub all_numbers : done ≡ true → after ≡ numbers_at t verified n p x most

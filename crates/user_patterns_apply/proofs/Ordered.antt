@@ -20,10 +20,10 @@ use Rattle.user_patterns_check.specs.Contents.{Content}
 use Rattle.user_patterns_check.specs.Outcomes.{given, run}
 use Rattle.user_patterns_data.specs.declared.pattern.PatternOp.{PatternOp}
 use Rattle.user_patterns_data.specs.Fitting.{content_with, fits}
-use Rattle.user_patterns_data.specs.Matching.{Header, Standing, bound, defining_op_head, header_matched, known, nothing, ops_match, placed, standing, value_matched, when}
-use Rattle.user_patterns_data.specs.Planning.{Plan, is_numeric, kind_standing, old_place, outcomes, places, planned, planned_by, planned_from, typed}
+use Rattle.user_patterns_data.specs.Matching.{Header, BoundValues, bound, defining_op_head, header_matched, known, nothing, ops_match, placed, binding_at, value_matched, when}
+use Rattle.user_patterns_data.specs.Planning.{Plan, is_numeric, bound_type, old_place, outcomes, places, planned, planned_by, planned_from, typed}
 use Rattle.user_patterns_data.specs.Shapes.{PatternModel}
-use Rattle.user_patterns_data.proofs.Standing.{pattern_ops_stand}
+use Rattle.user_patterns_data.proofs.BoundValues.{pattern_ops_stand}
 use Rattle.user_patterns_apply.specs.Built.{plan_of}
 use Rattle.user_patterns_build.specs.CanBuild.{can_build}
 use Rattle.user_patterns_apply.specs.Matched.{all_verified, any, is_verified_value, is_constant_value, is_first, matched}
@@ -48,22 +48,22 @@ module _ (t : Operation) (verified : Header → Bool) where
           and_true false = refl
       go (Some h) false = ap (λ b. when b (Some h)) (and_false (verified h))
 
-  abbrev Cleaned : List (ℕ × PatternOp) → Standing Value → Type 0
+  abbrev Cleaned : List (ℕ × PatternOp) → BoundValues Value → Type 0
   Cleaned ps b = given (ops_match t any ps b) (λ c. when (all_verified t verified c ps) (Some c)) ≡ ops_match t verified ps b
 
-  module _ (p : ℕ × PatternOp) (ps : List (ℕ × PatternOp)) (more : (b : Standing Value) → Cleaned ps b) (b : Standing Value) where
-    abbrev rest_with : Bool → Standing Value → Option (Standing Value)
+  module _ (p : ℕ × PatternOp) (ps : List (ℕ × PatternOp)) (more : (b : BoundValues Value) → Cleaned ps b) (b : BoundValues Value) where
+    abbrev rest_with : Bool → BoundValues Value → Option (BoundValues Value)
     rest_with first c = when (first && all_verified t verified c ps) (Some c)
 
     -- if there is a defining operation
-    module _ (v : Value) (h : Header) (c : Standing Value) (there : slice_get b p.0 ≡ Some (Some v)) (defining : defining_op_head t any v ≡ Some h) (is : header_matched t any p.1 h b ≡ Some c) where
+    module _ (v : Value) (h : Header) (c : BoundValues Value) (there : slice_get b p.0 ≡ Some (Some v)) (defining : defining_op_head t any v ≡ Some h) (is : header_matched t any p.1 h b ≡ Some c) where
       whole : ops_match t any (p ∷ ps) b ≡ ops_match t any ps c
       whole =
           ap (λ s. given (given (given s (λ x. x)) (λ v. value_matched t any p.1 v b)) (ops_match t any ps)) there
           ∙ ap (λ g. given (given g (λ h. header_matched t any p.1 h b)) (ops_match t any ps)) defining
           ∙ ap (λ r. given r (ops_match t any ps)) is
 
-      own : (d : Standing Value) → ops_match t any ps c ≡ Some d → is_verified_value t verified (standing p.0 d) ≡ verified h
+      own : (d : BoundValues Value) → ops_match t any ps c ≡ Some d → is_verified_value t verified (binding_at p.0 d) ≡ verified h
       own d e =
           ap (λ s. is_verified_value t verified (given s (λ x. x))) (pattern_ops_stand t any (p ∷ ps) b d (whole ∙ e) p.0 v there)
           ∙ ap is_some (defining_op_split v ∙ ap (λ g. given g (λ h. when (verified h) (Some h))) defining) ∙ test (verified h)
@@ -72,7 +72,7 @@ module _ (t : Operation) (verified : Header → Bool) where
           test true = refl
           test false = refl
 
-      ends : (r : Option (Standing Value)) → ops_match t any ps c ≡ r → (z : Bool) → verified h ≡ z
+      ends : (r : Option (BoundValues Value)) → ops_match t any ps c ≡ r → (z : Bool) → verified h ≡ z
           → given r (λ d. when (all_verified t verified d (p ∷ ps)) (Some d)) ≡ given (when z (Some c)) (ops_match t verified ps)
       ends None e true f = ap (λ r. given r (λ d. when (all_verified t verified d ps) (Some d))) (sym e) ∙ more c
       ends None e false f = refl
@@ -81,7 +81,7 @@ module _ (t : Operation) (verified : Header → Bool) where
           ∙ ap (λ r. given r (λ d. when (all_verified t verified d ps) (Some d))) (sym e) ∙ more c
       ends (Some d) e false f = ap (λ z. when (z && all_verified t verified d ps) (Some d)) (own d e ∙ f)
 
-    by_header : (v : Value) (h : Header) → slice_get b p.0 ≡ Some (Some v) → defining_op_head t any v ≡ Some h → (r : Option (Standing Value)) → header_matched t any p.1 h b ≡ r
+    by_header : (v : Value) (h : Header) → slice_get b p.0 ≡ Some (Some v) → defining_op_head t any v ≡ Some h → (r : Option (BoundValues Value)) → header_matched t any p.1 h b ≡ r
         → given (given r (ops_match t any ps)) (λ d. when (all_verified t verified d (p ∷ ps)) (Some d)) ≡ given (given (when (verified h) (Some h)) (λ h. header_matched t verified p.1 h b)) (ops_match t verified ps)
     by_header v h there defining None e = sym (ends_none (verified h))
       where
@@ -112,7 +112,7 @@ module _ (t : Operation) (verified : Header → Bool) where
     one_more : Cleaned (p ∷ ps) b
     one_more = by_value (slice_get b p.0) refl
 
-  pattern_ops_verified : (ps : List (ℕ × PatternOp)) (b : Standing Value) → Cleaned ps b
+  pattern_ops_verified : (ps : List (ℕ × PatternOp)) (b : BoundValues Value) → Cleaned ps b
   pattern_ops_verified [] b = refl
   pattern_ops_verified (p ∷ ps) b = one_more p ps (pattern_ops_verified ps) b
 
@@ -122,7 +122,7 @@ module _ (t : Operation) (verified : Header → Bool) where
     abbrev ps : List (ℕ × PatternOp)
     ps = placed (old_place p) p.old
 
-    abbrev after_types : Standing Value → Option Plan
+    abbrev after_types : BoundValues Value → Option Plan
     after_types c = given (typed t verified n p c) (planned_by t verified n p c)
 
     pub planned_is : planned t verified n p x ≡ given (bound same_value p.root (Result x 0) (nothing (places p))) (λ b. given (ops_match t verified (placed (old_place p) p.old) b) (λ c. given (typed t verified n p c) (planned_by t verified n p c)))
@@ -133,15 +133,15 @@ module _ (t : Operation) (verified : Header → Bool) where
     pub in_order : planned t verified n p x ≡ given (matched t any p x) (λ c. when (all_verified t verified c (placed (old_place p) p.old)) (given (typed t verified n p c) (planned_by t verified n p c)))
     in_order = planned_is ∙ go (bound same_value p.root (Result x 0) (nothing (places p)))
       where
-        chosen : (c : Standing Value) (z : Bool) → given (when z (Some c)) after_types ≡ when z (after_types c)
+        chosen : (c : BoundValues Value) (z : Bool) → given (when z (Some c)) after_types ≡ when z (after_types c)
         chosen c true = refl
         chosen c false = refl
 
-        moved : (r : Option (Standing Value)) → given (given r (λ c. when (all_verified t verified c ps) (Some c))) after_types ≡ given r (λ c. when (all_verified t verified c ps) (after_types c))
+        moved : (r : Option (BoundValues Value)) → given (given r (λ c. when (all_verified t verified c ps) (Some c))) after_types ≡ given r (λ c. when (all_verified t verified c ps) (after_types c))
         moved None = refl
         moved (Some c) = chosen c (all_verified t verified c ps)
 
-        go : (b : Option (Standing Value)) → given b (λ b. given (ops_match t verified ps b) after_types) ≡ given (given b (λ b. ops_match t any ps b)) (λ c. when (all_verified t verified c ps) (after_types c))
+        go : (b : Option (BoundValues Value)) → given b (λ b. given (ops_match t verified ps b) after_types) ≡ given (given b (λ b. ops_match t any ps b)) (λ c. when (all_verified t verified c ps) (after_types c))
         go None = refl
         go (Some b) = ap (λ r. given r after_types) (sym (pattern_ops_verified ps b)) ∙ moved (ops_match t any ps b)
 
@@ -157,7 +157,7 @@ module _ (t : Operation) (verified : Header → Bool) where
     pub not_matched : None ≡ matched t any p x → None ≡ plan_of t verified n p x
     not_matched e = plan_of_none (in_order ∙ ap (λ r. given r (λ c. when (all_verified t verified c ps) (after_types c))) (sym e))
 
-    module _ (c : Standing Value) (is : Some c ≡ matched t any p x) where
+    module _ (c : BoundValues Value) (is : Some c ≡ matched t any p x) where
       here : planned t verified n p x ≡ when (all_verified t verified c ps) (after_types c)
       here = in_order ∙ ap (λ r. given r (λ c. when (all_verified t verified c ps) (after_types c))) (sym is)
 
@@ -167,7 +167,7 @@ module _ (t : Operation) (verified : Header → Bool) where
       pub not_typed : None ≡ typed t verified n p c → None ≡ plan_of t verified n p x
       not_typed e = plan_of_none (here ∙ ap (λ r. when (all_verified t verified c ps) (given r (planned_by t verified n p c))) (sym e) ∙ when_none (all_verified t verified c ps))
 
-      pub makes : (a : Bool) → a ≡ can_build p → a ≡ true → (b : Bool) → b ≡ all_verified t verified c (placed (old_place p) p.old) → b ≡ true → (ts : Standing TypeTerm) → Some ts ≡ typed t verified n p c
+      pub makes : (a : Bool) → a ≡ can_build p → a ≡ true → (b : Bool) → b ≡ all_verified t verified c (placed (old_place p) p.old) → b ≡ true → (ts : BoundValues TypeTerm) → Some ts ≡ typed t verified n p c
           → (r : Option Plan) → r ≡ planned_by t verified n p c ts → r ≡ plan_of t verified n p x
       makes a e f b g h ts typed_is r by =
           by ∙ ap (λ s. given s (planned_by t verified n p c)) typed_is ∙ sym (here ∙ ap (λ z. when z (after_types c)) (sym g ∙ h)) ∙ ap (λ z. when z (planned t verified n p x)) (sym (sym e ∙ f))
@@ -191,26 +191,26 @@ module _ (t : Operation) (verified : Header → Bool) where
   unknown_at None e = refl
   unknown_at (Some v) e = unknown v e
 
-  some_unknown : (c : Standing Value) (ks : List ℕ) → list_all (λ (k : ℕ). is_constant_value t (standing k c)) ks ≡ false → list_all (λ k. is_some (given (standing k c) (known t verified))) ks ≡ false
+  some_unknown : (c : BoundValues Value) (ks : List ℕ) → list_all (λ (k : ℕ). is_constant_value t (binding_at k c)) ks ≡ false → list_all (λ k. is_some (given (binding_at k c) (known t verified))) ks ≡ false
   some_unknown c [] e = absurd (true≢false e)
-  some_unknown c (k ∷ ks) e = go (some_unknown c ks) (is_constant_value t (standing k c)) refl e
+  some_unknown c (k ∷ ks) e = go (some_unknown c ks) (is_constant_value t (binding_at k c)) refl e
     where
-      go : (list_all (λ (k : ℕ). is_constant_value t (standing k c)) ks ≡ false → list_all (λ k. is_some (given (standing k c) (known t verified))) ks ≡ false) → (z : Bool) → is_constant_value t (standing k c) ≡ z → (z && list_all (λ (k : ℕ). is_constant_value t (standing k c)) ks) ≡ false → list_all (λ k. is_some (given (standing k c) (known t verified))) (k ∷ ks) ≡ false
-      go more true f e = ap (λ z. is_some (given (standing k c) (known t verified)) && z) (more e) ∙ and_false (is_some (given (standing k c) (known t verified)))
-      go more false f e = ap (λ r. is_some r && list_all (λ k. is_some (given (standing k c) (known t verified))) ks) (unknown_at (standing k c) f)
+      go : (list_all (λ (k : ℕ). is_constant_value t (binding_at k c)) ks ≡ false → list_all (λ k. is_some (given (binding_at k c) (known t verified))) ks ≡ false) → (z : Bool) → is_constant_value t (binding_at k c) ≡ z → (z && list_all (λ (k : ℕ). is_constant_value t (binding_at k c)) ks) ≡ false → list_all (λ k. is_some (given (binding_at k c) (known t verified))) (k ∷ ks) ≡ false
+      go more true f e = ap (λ z. is_some (given (binding_at k c) (known t verified)) && z) (more e) ∙ and_false (is_some (given (binding_at k c) (known t verified)))
+      go more false f e = ap (λ r. is_some r && list_all (λ k. is_some (given (binding_at k c) (known t verified))) ks) (unknown_at (binding_at k c) f)
 
   module _ (n : ℕ) (p : PatternModel) where
-    unknown_plan : (c : Standing Value) → list_all (λ (k : ℕ). is_constant_value t (standing k c)) p.constants ≡ false → (ts : Standing TypeTerm) → planned_by t verified n p c ts ≡ None
+    unknown_plan : (c : BoundValues Value) → list_all (λ (k : ℕ). is_constant_value t (binding_at k c)) p.constants ≡ false → (ts : BoundValues TypeTerm) → planned_by t verified n p c ts ≡ None
     unknown_plan c e ts =
-        ap (when (list_all is_numeric ts)) (ap (λ z. when (fits (map kind_standing ts) p && z) (given (run (Content.given (content_with (map kind_standing ts) p)) (outcomes t verified n p 0 p.values c)) (planned_from t verified n p c ts))) (some_unknown c p.constants e)
-        ∙ ap (λ z. when z (given (run (Content.given (content_with (map kind_standing ts) p)) (outcomes t verified n p 0 p.values c)) (planned_from t verified n p c ts))) (and_false (fits (map kind_standing ts) p)))
+        ap (when (list_all is_numeric ts)) (ap (λ z. when (fits (map bound_type ts) p && z) (given (run (Content.given (content_with (map bound_type ts) p)) (outcomes t verified n p 0 p.values c)) (planned_from t verified n p c ts))) (some_unknown c p.constants e)
+        ∙ ap (λ z. when z (given (run (Content.given (content_with (map bound_type ts) p)) (outcomes t verified n p 0 p.values c)) (planned_from t verified n p c ts))) (and_false (fits (map bound_type ts) p)))
         ∙ when_none (list_all is_numeric ts)
 
-    pub not_constants : (x : ℕ) (c : Standing Value) → Some c ≡ matched t any p x → (b : Bool) → b ≡ list_all (λ (k : ℕ). is_constant_value t (standing k c)) p.constants → b ≡ false → None ≡ plan_of t verified n p x
+    pub not_constants : (x : ℕ) (c : BoundValues Value) → Some c ≡ matched t any p x → (b : Bool) → b ≡ list_all (λ (k : ℕ). is_constant_value t (binding_at k c)) p.constants → b ≡ false → None ≡ plan_of t verified n p x
     not_constants x c is b e f =
         plan_of_none t verified n p x (here t verified n p x c is ∙ ap (when (all_verified t verified c (placed (old_place p) p.old))) (go (typed t verified n p c)) ∙ when_none (all_verified t verified c (placed (old_place p) p.old)))
       where
-        go : (r : Option (Standing TypeTerm)) → given r (planned_by t verified n p c) ≡ None
+        go : (r : Option (BoundValues TypeTerm)) → given r (planned_by t verified n p c) ≡ None
         go None = refl
         go (Some ts) = unknown_plan c (sym e ∙ f) ts
 

@@ -10,12 +10,12 @@ use Rattle.ir_event.proofs.of_trees.Replaced.{same_value_true}
 use Rattle.patterns_base.specs.Words.{named}
 use Rattle.user_patterns_check.specs.Outcomes.{given}
 use Rattle.user_patterns_data.specs.declared.pattern.PatternOp.{PatternOp}
-use Rattle.user_patterns_data.specs.Matching.{Header, Standing, all_bound, asks_alike, bound, defining_op_head, header_matched, nothing, op_matches, ops_match, placed, standing, value_matched, when}
+use Rattle.user_patterns_data.specs.Matching.{Header, BoundValues, all_bound, constraints_agree, bound, defining_op_head, header_matched, nothing, op_matches, ops_match, placed, binding_at, value_matched, when}
 use Rattle.user_patterns_data.specs.Names.{name_of, operands_of}
 use Rattle.user_patterns_data.specs.Planning.{old_place, places}
 use Rattle.user_patterns_data.specs.Shapes.{PatternModel}
 use Rattle.user_patterns_apply.specs.Matched.{any, matched}
-use Rattle.user_patterns_apply.specs.Mismatches.{asked_tests, first_of, header_tests, matched_tests, on_value, op_tests, ops_tests, unless, with_value}
+use Rattle.user_patterns_apply.specs.Mismatches.{constraint_tests, first_of, header_tests, matched_tests, on_value, op_tests, ops_tests, unless, with_value}
 use Rattle.user_patterns_apply.specs.declared.mismatch.Mismatch.TheVariants as fails
 use Rattle.user_patterns_apply.proofs.FoundBuilt.{bound_at, stands_there}
 use Rattle.user_patterns_apply.proofs.Placed.{placed_last}
@@ -31,29 +31,29 @@ module _ (t : Operation) (p : PatternModel) (x : ℕ) (d : PatternOp) (some : 0 
       sym (ap (placed (old_place p)) (take-length p.old)) ∙ ap (λ n. placed (old_place p) (take n p.old)) one
       ∙ placed_last (old_place p) p.old (length p.old - 1) d (omega (arith, some))
 
-  unlike : (b : Standing Value) → header_matched t any last h b ≡ None
-  unlike b = ap (λ z. when (z && asks_alike t any last h) (all_bound same_value (operands_of last.form) h.operands b)) other
+  unlike : (b : BoundValues Value) → header_matched t any last h b ≡ None
+  unlike b = ap (λ z. when (z && constraints_agree t any last h) (all_bound same_value (operands_of last.form) h.operands b)) other
 
-  stops : (b : Standing Value) → standing p.root b ≡ Some (Result x 0) → op_matches t any (old_place p + (length p.old - 1), last) b ≡ None
+  stops : (b : BoundValues Value) → binding_at p.root b ≡ Some (Result x 0) → op_matches t any (old_place p + (length p.old - 1), last) b ≡ None
   stops b at =
-      ap (λ k. given (standing k b) (λ v. value_matched t any last v b)) (sym root)
+      ap (λ k. given (binding_at k b) (λ v. value_matched t any last v b)) (sym root)
       ∙ ap (λ z. given z (λ v. value_matched t any last v b)) at
       ∙ ap (λ z. given z (λ g. header_matched t any last g b)) gives ∙ unlike b
 
-  go : (r : Option (Standing Value)) → bound same_value p.root (Result x 0) (nothing (places p)) ≡ r → given r (λ b. ops_match t any (placed (old_place p) p.old) b) ≡ None
+  go : (r : Option (BoundValues Value)) → bound same_value p.root (Result x 0) (nothing (places p)) ≡ r → given r (λ b. ops_match t any (placed (old_place p) p.old) b) ≡ None
   go None e = refl
   go (Some b) e =
       let at = stands_there p.root b (Result x 0) (bound_at same_value same_value_true p.root (Result x 0) (nothing (places p)) b e) in
       ap (λ z. ops_match t any z b) first ∙ ap (λ z. given z (ops_match t any (placed (old_place p) (take (length p.old - 1) p.old)))) (stops b at)
 
-  tests_stop : (b : Standing Value) → standing p.root b ≡ Some (Result x 0) → op_tests t (old_place p + (length p.old - 1), last) b ≡ Some (fails.Operation p.root)
+  tests_stop : (b : BoundValues Value) → binding_at p.root b ≡ Some (Result x 0) → op_tests t (old_place p + (length p.old - 1), last) b ≡ Some (fails.Operation p.root)
   tests_stop b at =
       ap (λ k. op_tests t (k, last) b) (sym root)
       ∙ ap (λ z. with_value (given z (defining_op_head t any)) (fails.Operation p.root) (λ h. header_tests t p.root last h b)) at
       ∙ ap (λ z. with_value z (fails.Operation p.root) (λ h. header_tests t p.root last h b)) gives
-      ∙ ap (λ z. first_of (unless z (fails.Operation p.root)) (asked_tests t p.root last h b)) other
+      ∙ ap (λ z. first_of (unless z (fails.Operation p.root)) (constraint_tests t p.root last h b)) other
 
-  tests_go : (r : Option (Standing Value)) → bound same_value p.root (Result x 0) (nothing (places p)) ≡ r → with_value r (fails.Operation p.root) (ops_tests t (placed (old_place p) p.old)) ≡ Some (fails.Operation p.root)
+  tests_go : (r : Option (BoundValues Value)) → bound same_value p.root (Result x 0) (nothing (places p)) ≡ r → with_value r (fails.Operation p.root) (ops_tests t (placed (old_place p) p.old)) ≡ Some (fails.Operation p.root)
   tests_go None e = refl
   tests_go (Some b) e =
       let at = stands_there p.root b (Result x 0) (bound_at same_value same_value_true p.root (Result x 0) (nothing (places p)) b e) in

@@ -14,8 +14,8 @@ use Rattle.user_patterns_check.specs.declared.step.Step.{Step}
 use Rattle.user_patterns_data.specs.declared.pattern.ExtraConstant.{ExtraConstant}
 use Rattle.user_patterns_data.specs.declared.pattern.PatternOp.{PatternOp}
 use Rattle.user_patterns_data.specs.Fitting.{content_with, fits}
-use Rattle.user_patterns_data.specs.Matching.{Standing, placed, standing}
-use Rattle.user_patterns_data.specs.Planning.{all_made, are_same, constants_known, extra_known, extra_place, is_numeric, kind_standing, known_at, new_place, old_place, outcomes, typed}
+use Rattle.user_patterns_data.specs.Matching.{BoundValues, placed, binding_at}
+use Rattle.user_patterns_data.specs.Planning.{all_made, are_same, constants_known, extra_known, extra_place, is_numeric, bound_type, known_at, new_place, old_place, outcomes, typed}
 use Rattle.user_patterns_data.specs.Shapes.{PatternModel}
 use Rattle.user_patterns_build.specs.CanBuild.{can_build}
 use Rattle.user_patterns_apply.specs.Built.{AllMade}
@@ -49,7 +49,7 @@ each_all f m (x ∷ xs) = go (f x) (each_all f m xs)
     go true more = more
     go false more = refl
 
-pub extra_all : (t : Operation) (verified : Header → Bool) (n : ℕ) (p : PatternModel) (k : ℕ) (fs : List ExtraConstant) (b : Standing Value) (env : List Outcome) → is_none (extra_tests t verified n p k fs b env) ≡ extra_known t verified n p k fs b env
+pub extra_all : (t : Operation) (verified : Header → Bool) (n : ℕ) (p : PatternModel) (k : ℕ) (fs : List ExtraConstant) (b : BoundValues Value) (env : List Outcome) → is_none (extra_tests t verified n p k fs b env) ≡ extra_known t verified n p k fs b env
 extra_all t verified n p k [] b env = refl
 extra_all t verified n p k (f ∷ fs) b env = go (are_same (known_at t verified n p b k) (slice_get env k)) (extra_all t verified n p (k + 1) fs b env)
   where
@@ -58,17 +58,17 @@ extra_all t verified n p k (f ∷ fs) b env = go (are_same (known_at t verified 
     go false more = refl
 
 module _ (t : Operation) (verified : Header → Bool) (n : ℕ) (p : PatternModel) where
-  pub extra_by : (b : Standing Value) (env : List Outcome) (m : Test) → m ≡ extra_tests t verified n p (extra_place p) p.extra b env → is_none m ≡ extra_known t verified n p (extra_place p) p.extra b env
+  pub extra_by : (b : BoundValues Value) (env : List Outcome) (m : Test) → m ≡ extra_tests t verified n p (extra_place p) p.extra b env → is_none m ≡ extra_known t verified n p (extra_place p) p.extra b env
   extra_by b env m e = ap is_none e ∙ extra_all t verified n p (extra_place p) p.extra b env
 
-  pub known_by : (b : Standing Value) (m : Test) → m ≡ known_tests t verified n p b → is_none m ≡ constants_known t verified n p b
+  pub known_by : (b : BoundValues Value) (m : Test) → m ≡ known_tests t verified n p b → is_none m ≡ constants_known t verified n p b
   known_by b m e = ap is_none e ∙ each_all (λ k. is_some (known_at t verified n p b k)) (λ k. fails.Unknown k) p.constants
 
-  pub constants_by : (ks : List ℕ) (b : Standing Value) (m : Test) → m ≡ constants_tests t ks b → is_none m ≡ list_all (λ (k : ℕ). is_constant_value t (standing k b)) ks
-  constants_by ks b m e = ap is_none e ∙ each_all (λ (k : ℕ). is_constant_value t (standing k b)) (λ k. fails.Constant k) ks
+  pub constants_by : (ks : List ℕ) (b : BoundValues Value) (m : Test) → m ≡ constants_tests t ks b → is_none m ≡ list_all (λ (k : ℕ). is_constant_value t (binding_at k b)) ks
+  constants_by ks b m e = ap is_none e ∙ each_all (λ (k : ℕ). is_constant_value t (binding_at k b)) (λ k. fails.Constant k) ks
 
-  pub verified_by : (ps : List (ℕ × PatternOp)) (b : Standing Value) (m : Test) → m ≡ verified_tests t verified ps b → is_none m ≡ all_verified t verified b ps
-  verified_by ps b m e = ap is_none e ∙ each_all (λ (p : ℕ × PatternOp). is_verified_value t verified (standing p.0 b)) (λ p. fails.NotVerified p.0) ps
+  pub verified_by : (ps : List (ℕ × PatternOp)) (b : BoundValues Value) (m : Test) → m ≡ verified_tests t verified ps b → is_none m ≡ all_verified t verified b ps
+  verified_by ps b m e = ap is_none e ∙ each_all (λ (p : ℕ × PatternOp). is_verified_value t verified (binding_at p.0 b)) (λ p. fails.NotVerified p.0) ps
 
 -- ---- steps, one at a time
 
@@ -130,15 +130,15 @@ ran_is ss env total is after done stands e = sym (ap (run ss) is) ∙ ran (run s
 
 module _ (t : Operation) (verified : Header → Bool) (n : ℕ) (p : PatternModel) where
   -- after the numbers are computed
-  module _ (b : Standing Value) (ts : Standing TypeTerm) (env : List Outcome) where
+  module _ (b : BoundValues Value) (ts : BoundValues TypeTerm) (env : List Outcome) where
     abbrev made : Option AllMade
     made = all_made ts env n (new_place p) p.new b
 
     abbrev result_at : AllMade → Option Value
-    result_at r = standing p.result r.1
+    result_at r = binding_at p.result r.1
 
     abbrev last : List Test
-    last = unless (is_some (given (all_made ts env n (new_place p) p.new b) (λ (r : AllMade). standing p.result r.1))) fails.Unbuildable ∷ []
+    last = unless (is_some (given (all_made ts env n (new_place p) p.new b) (λ (r : AllMade). binding_at p.result r.1))) fails.Unbuildable ∷ []
 
     pub extra_stops : (m : Mismatch) → Some m ≡ extra_tests t verified n p (extra_place p) p.extra b env → Some m ≡ planned_tests t verified n p b ts env
     extra_stops m e = stops (extra_tests t verified n p (extra_place p) p.extra b env) last m e
@@ -149,18 +149,18 @@ module _ (t : Operation) (verified : Header → Bool) (n : ℕ) (p : PatternMode
           sym (ap (λ z. first_failing (unless (is_some (given z result_at)) fails.Unbuildable ∷ [])) e)
           ∙ passes (extra_tests t verified n p (extra_place p) p.extra b env) last extra
 
-      pub result_stops : (r : AllMade) → made ≡ Some r → standing p.result r.1 ≡ None → Some fails.Unbuildable ≡ planned_tests t verified n p b ts env
+      pub result_stops : (r : AllMade) → made ≡ Some r → binding_at p.result r.1 ≡ None → Some fails.Unbuildable ≡ planned_tests t verified n p b ts env
       result_stops r e g =
           sym (ap (λ z. first_failing (unless (is_some (given z result_at)) fails.Unbuildable ∷ [])) e ∙ ap (λ z. first_failing (unless (is_some z) fails.Unbuildable ∷ [])) g)
           ∙ passes (extra_tests t verified n p (extra_place p) p.extra b env) last extra
 
-      pub planned_passes : (r : AllMade) (v : Value) → made ≡ Some r → standing p.result r.1 ≡ Some v → None ≡ planned_tests t verified n p b ts env
+      pub planned_passes : (r : AllMade) (v : Value) → made ≡ Some r → binding_at p.result r.1 ≡ Some v → None ≡ planned_tests t verified n p b ts env
       planned_passes r v e g =
           sym (ap (λ z. first_failing (unless (is_some (given z result_at)) fails.Unbuildable ∷ [])) e ∙ ap (λ z. first_failing (unless (is_some z) fails.Unbuildable ∷ [])) g)
           ∙ passes (extra_tests t verified n p (extra_place p) p.extra b env) last extra
 
   -- after the types are bound
-  module _ (b : Standing Value) (ts : Standing TypeTerm) (ks : List BitsKind) (value_types : ks ≡ map kind_standing ts) where
+  module _ (b : BoundValues Value) (ts : BoundValues TypeTerm) (ks : List BitsKind) (value_types : ks ≡ map bound_type ts) where
     abbrev steps : List Step
     steps = Content.given (content_with ks p)
 
@@ -214,7 +214,7 @@ module _ (t : Operation) (verified : Header → Bool) (n : ℕ) (p : PatternMode
               whole (Some m) = refl
 
   -- after the match
-  module _ (b : Standing Value) where
+  module _ (b : BoundValues Value) where
     abbrev verifying : Test
     verifying = verified_tests t verified (placed (old_place p) p.old) b
 
@@ -257,7 +257,7 @@ module _ (t : Operation) (verified : Header → Bool) (n : ℕ) (p : PatternMode
           pub typed_stop : (m : Mismatch) → Some m ≡ typed_tests t verified p b → Some m ≡ values_tests t verified n p b
           typed_stop m e = stops (typed_tests t verified p b) after_typed m e ∙ third_passes
 
-          pub typed_pass : None ≡ typed_tests t verified p b → (ts : Standing TypeTerm) → Some ts ≡ typed t verified n p b → fitting_tests t verified n p b ts ≡ values_tests t verified n p b
+          pub typed_pass : None ≡ typed_tests t verified p b → (ts : BoundValues TypeTerm) → Some ts ≡ typed t verified n p b → fitting_tests t verified n p b ts ≡ values_tests t verified n p b
           typed_pass e ts is =
               whole (fitting_tests t verified n p b ts) ∙ ap (λ z. first_failing (on_value z (fitting_tests t verified n p b) ∷ [])) is
               ∙ passes (typed_tests t verified p b) after_typed e ∙ third_passes
@@ -271,7 +271,7 @@ module _ (t : Operation) (verified : Header → Bool) (n : ℕ) (p : PatternMode
   pub matched_stops : (x : ℕ) (m : Mismatch) → Some m ≡ matched_tests t p x → Some m ≡ plan_tests t verified n p x
   matched_stops x m e = ap (λ z. first_of z (on_value (matched t any p x) (values_tests t verified n p))) e
 
-  pub matched_passes : (x : ℕ) (b : Standing Value) → None ≡ matched_tests t p x → Some b ≡ matched t any p x → values_tests t verified n p b ≡ plan_tests t verified n p x
+  pub matched_passes : (x : ℕ) (b : BoundValues Value) → None ≡ matched_tests t p x → Some b ≡ matched t any p x → values_tests t verified n p b ≡ plan_tests t verified n p x
   matched_passes x b e is =
       ap (λ z. on_value z (values_tests t verified n p)) is
       ∙ ap (λ z. first_of z (on_value (matched t any p x) (values_tests t verified n p))) e

@@ -10,10 +10,10 @@ use Rattle.ir_event.specs.trees.Meaning.{meaning}
 use Rattle.ir_event.specs.tree_laws.Values.{type_of_value}
 use Rattle.ir_event.proofs.of_tree_laws.Contents.{map_type_of_value}
 use Rattle.user_patterns_check.specs.Outcomes.{given}
-use Rattle.user_patterns_data.specs.Matching.{Header, Standing, bound, standing, type_at}
+use Rattle.user_patterns_data.specs.Matching.{Header, BoundValues, bound, binding_at, type_at}
 use Rattle.user_patterns_apply.specs.Stands.{Stands}
 
-module _ (c : ContextModel) (t : Op) (verified : Header → Bool) (k n : ℕ) (b : Standing Value) (ts new : Standing TypeTerm) (v : Value) (at : Some v ≡ standing k b) where
+module _ (c : ContextModel) (t : Op) (verified : Header → Bool) (k n : ℕ) (b : BoundValues Value) (ts new : BoundValues TypeTerm) (v : Value) (at : Some v ≡ binding_at k b) where
   here : (o : Option ℕ) → o ≡ type_of_value v t → type_at (meaning c t) verified k n b ts ≡ given (option_map (type_term c) o) (λ term. bound same_type n term ts)
   here o e =
       ap (λ s. given s (λ v. given (type_of_value v (meaning c t)) (λ term. bound same_type n term ts))) (sym at)

@@ -8,7 +8,7 @@ use Rattle.ir_event.specs.types.Terms.{TypeTerm, Integer, Index, Function, Memre
 use Rattle.ir_event.specs.types.SameTypes.{same_type}
 use Rattle.ir_verify_base.specs.Types as types
 use Rattle.dialects_int.specs.Folds.{kind_of}
-use Rattle.user_patterns_data.specs.Planning.{is_numeric, kind_standing}
+use Rattle.user_patterns_data.specs.Planning.{is_numeric, bound_type}
 use Rattle.user_patterns_apply.specs.Types.{is_kind}
 
 pub of_width : (ty : TypeTerm) (w : ℕ) → types.width_of ty ≡ Some w → Some (kind.Int w) ≡ kind_of ty
@@ -54,7 +54,7 @@ written_same kind.Index (Memref ds t) = refl
 written_same kind.Index (OpaqueType s) = refl
 
 -- a bound type has a kind or none
-pub written_kind : (k : BitsKind) → k ≡ kind_standing (Some (type_of k))
+pub written_kind : (k : BitsKind) → k ≡ bound_type (Some (type_of k))
 written_kind (kind.Int w) = refl
 written_kind kind.Index = refl
 
@@ -63,7 +63,7 @@ pub written_numeric : (k : BitsKind) → true ≡ is_numeric (Some (type_of k))
 written_numeric (kind.Int w) = refl
 written_numeric kind.Index = refl
 
-pub found_kind : (ty : TypeTerm) (k : BitsKind) → Some k ≡ kind_of ty → k ≡ kind_standing (Some ty)
+pub found_kind : (ty : TypeTerm) (k : BitsKind) → Some k ≡ kind_of ty → k ≡ bound_type (Some ty)
 found_kind (Integer Signless v) k e = cc
 found_kind (Integer Signed v) k e = absurd cc
 found_kind (Integer Unsigned v) k e = absurd cc
@@ -72,7 +72,7 @@ found_kind (Function is os) k e = absurd cc
 found_kind (Memref ds t) k e = absurd cc
 found_kind (OpaqueType s) k e = absurd cc
 
-pub kind_lost : (ty : TypeTerm) → None ≡ kind_of ty → kind.Int 0 ≡ kind_standing (Some ty)
+pub kind_lost : (ty : TypeTerm) → None ≡ kind_of ty → kind.Int 0 ≡ bound_type (Some ty)
 kind_lost (Integer Signless v) e = absurd cc
 kind_lost (Integer Signed v) e = refl
 kind_lost (Integer Unsigned v) e = refl

@@ -11,7 +11,7 @@ use Rattle.patterns_base.specs.Made.{Entries, flags, made, predicate_entry, valu
 use Rattle.ir_event.specs.types.Terms.{TypeTerm}
 use Rattle.user_patterns_check.specs.Outcomes.{Outcome, given}
 use Rattle.user_patterns_data.specs.declared.pattern.NewValue.{NewValue}
-use Rattle.user_patterns_data.specs.Matching.{Standing, standing, when}
+use Rattle.user_patterns_data.specs.Matching.{BoundValues, binding_at, when}
 use Rattle.user_patterns_data.specs.Matching as matching
 use Rattle.user_patterns_data.specs.Planning.{Plan, all_made, and_more, planned}
 use Rattle.user_patterns_data.specs.Names.{predicate_number}
@@ -32,7 +32,7 @@ abbrev pub operand_in : ℕ → Operand → Value
 operand_in n (operand.Existing v) = v
 operand_in n (operand.New i) = Result (n + i) 0
 
-abbrev pub operands_in : ℕ → List (Option Operand) → Standing Value
+abbrev pub operands_in : ℕ → List (Option Operand) → BoundValues Value
 operands_in n os = map (option_map (operand_in n)) os
 
 -- the new operation with its properties
@@ -68,7 +68,7 @@ IsPlanned =
 
 -- the new operations, and the values bound after them
 abbrev pub AllMade : Type 0
-AllMade = List Operation × Standing Value
+AllMade = List Operation × BoundValues Value
 
 -- the code made all new operations and bound their results, or returned `None` because something is unbound
 abbrev pub AreAllMade : ContextModel → ℕ → Option AllMade → Option (List NewOp) → List (Option Operand) → Type 0
@@ -81,12 +81,12 @@ property_for (form.Compare p i j) = property.Predicate (predicate_number p)
 property_for _ = property.Flags
 
 -- existing values as operands, and the operands bound at places
-abbrev pub as_operands : Standing Value → List (Option Operand)
+abbrev pub as_operands : BoundValues Value → List (Option Operand)
 as_operands vs = map (option_map operand.Existing) vs
 
 abbrev pub operands_at : List ℕ → List (Option Operand) → Option (List Operand)
 operands_at [] os = Some []
-operands_at (k ∷ ks) os = given (standing k os) (λ o. and_more o (operands_at ks os))
+operands_at (k ∷ ks) os = given (binding_at k os) (λ o. and_more o (operands_at ks os))
 
 -- a list prepended to another list, if there is one
 abbrev pub with_more : {X : Type 0} → List X → Option (List X) → Option (List X)
@@ -99,7 +99,7 @@ trailing os None = None
 trailing os (Some r) = Some (os ++ r.0, r.1)
 
 -- the operations made after `made`, starting at a place
-abbrev pub made_after : ContextModel → ℕ → Standing TypeTerm → List Outcome → ℕ → List NewValue → List NewOp
+abbrev pub made_after : ContextModel → ℕ → BoundValues TypeTerm → List Outcome → ℕ → List NewValue → List NewOp
     → List (Option Operand) → Option AllMade
 made_after c n ts env k ws made os =
     trailing (map (made_in c n) made) (all_made ts env (n + length made) k ws (operands_in n os))

@@ -21,9 +21,9 @@ use Rattle.user_patterns_check.specs.declared.step.Step.{Step}
 use Rattle.user_patterns_data.specs.declared.pattern.ExtraConstant.{ExtraConstant}
 use Rattle.user_patterns_data.specs.declared.pattern.PatternOp.{PatternOp}
 use Rattle.user_patterns_data.specs.Fitting.{content_with, fits}
-use Rattle.user_patterns_data.specs.Matching.{Header, Standing, bound, defining_op_head, nothing, op_matches, placed, predicate_is, standing, type_at, types_at, when, written}
+use Rattle.user_patterns_data.specs.Matching.{Header, BoundValues, bound, defining_op_head, nothing, op_matches, placed, predicate_is, binding_at, type_at, types_at, when, written}
 use Rattle.user_patterns_data.specs.Names.{are_none, name_of, operands_of, predicate_of}
-use Rattle.user_patterns_data.specs.Planning.{all_made, are_same, extra_place, is_numeric, kind_standing, known_at, new_place, old_place, outcomes, places, typed}
+use Rattle.user_patterns_data.specs.Planning.{all_made, are_same, extra_place, is_numeric, bound_type, known_at, new_place, old_place, outcomes, places, typed}
 use Rattle.user_patterns_data.specs.Shapes.{PatternModel}
 use Rattle.user_patterns_build.specs.CanBuild.{can_build}
 use Rattle.user_patterns_apply.specs.Built.{AllMade}
@@ -68,12 +68,12 @@ each f m (x ∷ xs) = first_of (unless (f x) (m x)) (each f m xs)
 -- ---- operations, the root first
 
 -- the index, if a value can't be bound, or a later index
-abbrev pub or_index : ℕ → Option (Standing Value) → (Standing Value → Option ℕ) → Option ℕ
+abbrev pub or_index : ℕ → Option (BoundValues Value) → (BoundValues Value → Option ℕ) → Option ℕ
 or_index i None f = Some i
 or_index i (Some c) f = f c
 
 -- the index of the first operand that can't be bound at its place; the first operand has index i
-abbrev pub first_unbound : ℕ → List ℕ → List Value → Standing Value → Option ℕ
+abbrev pub first_unbound : ℕ → List ℕ → List Value → BoundValues Value → Option ℕ
 first_unbound i [] [] b = None
 first_unbound i [] (v ∷ vs) b = Some i
 first_unbound i (k ∷ ks) [] b = Some i
@@ -85,22 +85,22 @@ operand_test k (Some i) = Some (fails.Operand k i)
 
 module _ (t : Operation) where
   -- an operation has the predicate of the pattern op at place k, no flags if the pattern op needs none, and its operands
-  abbrev pub asked_tests : ℕ → PatternOp → Header → Standing Value → Test
-  asked_tests k p h b = first_failing (
+  abbrev pub constraint_tests : ℕ → PatternOp → Header → BoundValues Value → Test
+  constraint_tests k p h b = first_failing (
       unless (predicate_is t any (predicate_of p.form) (property_of (codes "predicate") h.properties)) (fails.Predicate k)
       ∷ unless (not p.bare || are_none (next_to (codes "overflowFlags") h.properties)) (fails.Flags k)
       ∷ operand_test k (first_unbound 0 (operands_of p.form) h.operands b)
       ∷ [])
 
   -- an operation has the name of the pattern op, and passes the other tests
-  abbrev pub header_tests : ℕ → PatternOp → Header → Standing Value → Test
-  header_tests k p h b = first_of (unless (named (name_of p.form) h.name) (fails.Operation k)) (asked_tests k p h b)
+  abbrev pub header_tests : ℕ → PatternOp → Header → BoundValues Value → Test
+  header_tests k p h b = first_of (unless (named (name_of p.form) h.name) (fails.Operation k)) (constraint_tests k p h b)
 
   -- an operation defines the value at the place, and passes
-  abbrev pub op_tests : ℕ × PatternOp → Standing Value → Test
-  op_tests p b = with_value (given (standing p.0 b) (defining_op_head t any)) (fails.Operation p.0) (λ h. header_tests p.0 p.1 h b)
+  abbrev pub op_tests : ℕ × PatternOp → BoundValues Value → Test
+  op_tests p b = with_value (given (binding_at p.0 b) (defining_op_head t any)) (fails.Operation p.0) (λ h. header_tests p.0 p.1 h b)
 
-  abbrev pub ops_tests : List (ℕ × PatternOp) → Standing Value → Test
+  abbrev pub ops_tests : List (ℕ × PatternOp) → BoundValues Value → Test
   ops_tests [] b = None
   ops_tests (p ∷ ps) b = first_of (op_tests p b) (on_value (op_matches t any p b) (ops_tests ps))
 
@@ -112,25 +112,25 @@ module _ (t : Operation) where
 -- ---- constants, verified operations and types
 
 -- constants, verified or not, define the values at the places of the pattern's constants
-abbrev pub constants_tests : Operation → List ℕ → Standing Value → Test
-constants_tests t ks b = each (λ (k : ℕ). is_constant_value t (standing k b)) (λ k. fails.Constant k) ks
+abbrev pub constants_tests : Operation → List ℕ → BoundValues Value → Test
+constants_tests t ks b = each (λ (k : ℕ). is_constant_value t (binding_at k b)) (λ k. fails.Constant k) ks
 
 module _ (t : Operation) (verified : Header → Bool) where
   -- each pattern op is at a verified operation
-  abbrev pub verified_tests : List (ℕ × PatternOp) → Standing Value → Test
-  verified_tests ps b = each (λ (p : ℕ × PatternOp). is_verified_value t verified (standing p.0 b)) (λ p. fails.NotVerified p.0) ps
+  abbrev pub verified_tests : List (ℕ × PatternOp) → BoundValues Value → Test
+  verified_tests ps b = each (λ (p : ℕ × PatternOp). is_verified_value t verified (binding_at p.0 b)) (λ p. fails.NotVerified p.0) ps
 
   -- the values from place k on have the types with these numbers
-  abbrev pub types_tests : ℕ → List ℕ → Standing Value → Standing TypeTerm → Test
+  abbrev pub types_tests : ℕ → List ℕ → BoundValues Value → BoundValues TypeTerm → Test
   types_tests k [] b ts = None
   types_tests k (ty ∷ tys) b ts = with_value (type_at t verified k ty b ts) (fails.Type k) (types_tests (k + 1) tys b)
 
   -- the types of the variables and of the matched operations
-  abbrev pub typed_tests_over : PatternModel → Standing Value → Standing TypeTerm → Test
+  abbrev pub typed_tests_over : PatternModel → BoundValues Value → BoundValues TypeTerm → Test
   typed_tests_over p b ts = first_of (types_tests 0 p.values b ts)
       (on_value (types_at t verified 0 p.values b ts) (types_tests (old_place p) (map PatternOp.ty p.old) b))
 
-  abbrev pub typed_tests : PatternModel → Standing Value → Test
+  abbrev pub typed_tests : PatternModel → BoundValues Value → Test
   typed_tests p b = typed_tests_over p b (map written p.value_types)
 
 -- ---- numbers
@@ -142,24 +142,24 @@ steps_tests i (s ∷ ss) env = with_value (step_of s env) (fails.Condition i) (�
 
 module _ (t : Operation) (verified : Header → Bool) (n : ℕ) (p : PatternModel) where
   -- the numbers of all constants are known
-  abbrev pub known_tests : Standing Value → Test
+  abbrev pub known_tests : BoundValues Value → Test
   known_tests b = each (λ k. is_some (known_at t verified n p b k)) (λ k. fails.Unknown k) p.constants
 
   -- the extra constants from place k on have the computed numbers
-  abbrev pub extra_tests : ℕ → List ExtraConstant → Standing Value → List Outcome → Test
+  abbrev pub extra_tests : ℕ → List ExtraConstant → BoundValues Value → List Outcome → Test
   extra_tests k [] b env = None
   extra_tests k (f ∷ fs) b env =
       first_of (unless (are_same (known_at t verified n p b k) (slice_get env k)) (fails.Number k)) (extra_tests (k + 1) fs b env)
 
   -- the extra constants have their numbers, and the pattern can be built
-  abbrev pub planned_tests : Standing Value → Standing TypeTerm → List Outcome → Test
+  abbrev pub planned_tests : BoundValues Value → BoundValues TypeTerm → List Outcome → Test
   planned_tests b ts env = first_failing (
       extra_tests (extra_place p) p.extra b env
-      ∷ unless (is_some (given (all_made ts env n (new_place p) p.new b) (λ (r : AllMade). standing p.result r.1))) fails.Unbuildable
+      ∷ unless (is_some (given (all_made ts env n (new_place p) p.new b) (λ (r : AllMade). binding_at p.result r.1))) fails.Unbuildable
       ∷ [])
 
   -- the types are numeric and fit, the constants have numbers, and the numbers that the pattern computes are defined
-  abbrev pub fitting_tests_at : List BitsKind → Standing Value → Standing TypeTerm → Test
+  abbrev pub fitting_tests_at : List BitsKind → BoundValues Value → BoundValues TypeTerm → Test
   fitting_tests_at ks b ts = first_failing (
       unless (list_all is_numeric ts) fails.NotNumeric
       ∷ unless (fits ks p) fails.Types
@@ -168,13 +168,13 @@ module _ (t : Operation) (verified : Header → Bool) (n : ℕ) (p : PatternMode
       ∷ on_value (run (Content.given (content_with ks p)) (outcomes t verified n p 0 p.values b)) (planned_tests b ts)
       ∷ [])
 
-  abbrev pub fitting_tests : Standing Value → Standing TypeTerm → Test
-  fitting_tests b ts = fitting_tests_at (map kind_standing ts) b ts
+  abbrev pub fitting_tests : BoundValues Value → BoundValues TypeTerm → Test
+  fitting_tests b ts = fitting_tests_at (map bound_type ts) b ts
 
   -- ---- all tests
 
   -- the tests on the values that a match binds
-  abbrev pub values_tests : Standing Value → Test
+  abbrev pub values_tests : BoundValues Value → Test
   values_tests b = first_failing (
       constants_tests t p.constants b
       ∷ unless (can_build p) fails.Unbuildable
@@ -201,5 +201,5 @@ abbrev pub point_of : ℕ → Operation → Option Place
 point_of x t = given (find x t) (λ o. when (is_one (head o).results) (insertion_of x t))
 
 -- the first test of a pattern that fails at operation x; none fails exactly if the pattern applies there
-unfoldable pub own_mismatch : PatternModel → Module → ℕ → Test
-own_mismatch p m x = first_of (plan_tests m.tree (is_verified m.tree) m.next p x) (point_tests x m.tree)
+unfoldable pub user_pattern_mismatch : PatternModel → Module → ℕ → Test
+user_pattern_mismatch p m x = first_of (plan_tests m.tree (is_verified m.tree) m.next p x) (point_tests x m.tree)

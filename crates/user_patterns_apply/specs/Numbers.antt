@@ -14,7 +14,7 @@ use Rattle.user_patterns_check.specs.Contents.{Content}
 use Rattle.user_patterns_check.specs.Outcomes.{Outcome, given, run}
 use Rattle.user_patterns_data.specs.Fitting.{content_with}
 use Rattle.user_patterns_data.specs.Matching.{Header}
-use Rattle.user_patterns_data.specs.Planning.{kind_standing, outcomes, typed}
+use Rattle.user_patterns_data.specs.Planning.{bound_type, outcomes, typed}
 use Rattle.user_patterns_data.specs.Shapes.{PatternModel}
 use Rattle.user_patterns_apply.specs.Matched.{any, matched}
 
@@ -26,7 +26,7 @@ or_empty (Some env) = env
 -- x, their types agree, and these numbers are defined
 abbrev pub numbers_at : Operation → (Header → Bool) → ℕ → PatternModel → ℕ → ℕ → List Outcome
 numbers_at t verified n p x most = or_empty (given (matched t any p x) (λ b. given (typed t verified n p b) (λ ts.
-    run (take most (Content.given (content_with (map kind_standing ts) p))) (outcomes t verified n p 0 p.values b))))
+    run (take most (Content.given (content_with (map bound_type ts) p))) (outcomes t verified n p 0 p.values b))))
 
 -- the same in a module
 abbrev pub numbers_in : Module → PatternModel → ℕ → ℕ → List Outcome

@@ -29,17 +29,17 @@ edits_for point x None = None
 edits_for point x (Some p) = Some (map (λ o. Make point o) p.0 ++ give x p.1)
 
 -- the edits of a pattern at operation x, which has one result and isn't the module's root
-unfoldable pub own_edits : PatternModel → Module → ℕ → Option (List Edit)
-own_edits p m x = given (find x m.tree)
+unfoldable pub user_pattern_edits : PatternModel → Module → ℕ → Option (List Edit)
+user_pattern_edits p m x = given (find x m.tree)
     (λ o. given (insertion_of x m.tree) (λ point. when (is_one (head o).results)
     (edits_for point x (plan_of m.tree (is_verified m.tree) m.next p x))))
 
 -- the rewrite of a pattern at operation x
-unfoldable pub own_rewrite : PatternModel → Module → ℕ → Rewrite
-own_rewrite p m x = rewrite_by (own_edits p m x) m
+unfoldable pub user_pattern_rewrite : PatternModel → Module → ℕ → Rewrite
+user_pattern_rewrite p m x = rewrite_by (user_pattern_edits p m x) m
 
 -- a well-formed module accepts each edit of a pattern at an operation, if the new operations are within the limits
-abbrev pub OwnAreAccepted : Type 0
-OwnAreAccepted =
+abbrev pub UserPatternsAreAccepted : Type 0
+UserPatternsAreAccepted =
     (p : PatternModel) (m : Module) (x : ℕ) → IsWellFormed is_isolated m
-    → (es : List Edit) (n : Module) → own_edits p m x ≡ Some es → carried_out es m ≡ becomes n → Free es m
+    → (es : List Edit) (n : Module) → user_pattern_edits p m x ≡ Some es → carried_out es m ≡ becomes n → Free es m

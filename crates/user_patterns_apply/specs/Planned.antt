@@ -29,13 +29,13 @@ entries_of c word ty (property.Predicate p) = predicate_entry p
 entries_of c word ty (property.Bits bits) = value_entry (type_term c ty) bits
 
 -- the interned entry, or no entry, represents the properties
-abbrev pub EntryStands : ContextModel → Option (ℕ × ℕ) → Entries → Type 0
-EntryStands c None es = es ≡ []
-EntryStands c (Some e) es =
+abbrev pub EntryDenotes : ContextModel → Option (ℕ × ℕ) → Entries → Type 0
+EntryDenotes c None es = es ≡ []
+EntryDenotes c (Some e) es =
     (key : List ℕ) × (value : AttrTerm) × IsNameOf c e.0 key × IsAttrOf c e.1 value × (es ≡ (key, value) ∷ [])
 
 -- an edit of the code fits the context and represents this edit
-pub record EditStands (c : ContextModel) (e : Coded) (edit : Edit) : Type 0 where
+pub record EditDenotes (c : ContextModel) (e : Coded) (edit : Edit) : Type 0 where
   pub meaning : edit_meaning c (numbered e) ≡ edit
   pub fits : Fits c e
 

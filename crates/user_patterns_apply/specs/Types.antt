@@ -9,7 +9,7 @@ use Rattle.dialects_int.specs.Folds.{same_kind}
 use Rattle.ir_event.specs.trees.declared.value.Value.{Value}
 use Rattle.ir_event.specs.trees.Meaning.{Operation}
 use Rattle.user_patterns_check.specs.Outcomes.{given}
-use Rattle.user_patterns_data.specs.Matching.{Header, Standing, types_at}
+use Rattle.user_patterns_data.specs.Matching.{Header, BoundValues, types_at}
 use Rattle.user_patterns_data.specs.Planning.{old_place}
 use Rattle.user_patterns_data.specs.Shapes.{PatternModel}
 use Rattle.user_patterns_data.specs.declared.pattern.PatternOp.{PatternOp}
@@ -23,7 +23,7 @@ abbrev pub type_in : ContextModel → BoundType → TypeTerm
 type_in c (bound.Matched n) = type_term c n
 type_in c (bound.Concrete k) = type_of k
 
-abbrev pub types_in : ContextModel → List (Option BoundType) → Standing TypeTerm
+abbrev pub types_in : ContextModel → List (Option BoundType) → BoundValues TypeTerm
 types_in c ts = map (option_map (type_in c)) ts
 
 -- the type's number is in the context, and so are the numbers of a list
@@ -45,7 +45,7 @@ is_kind k None = false
 is_kind k (Some own) = same_kind k own
 
 -- the types of the matched values, added to the types that the pattern names
-abbrev pub typed_over : Operation → (Header → Bool) → PatternModel → Standing Value → Standing TypeTerm
-    → Option (Standing TypeTerm)
+abbrev pub typed_over : Operation → (Header → Bool) → PatternModel → BoundValues Value → BoundValues TypeTerm
+    → Option (BoundValues TypeTerm)
 typed_over t verified p b ts =
     given (types_at t verified 0 p.values b ts) (types_at t verified (old_place p) (map PatternOp.ty p.old) b)

@@ -6,7 +6,7 @@ ghost use Rattle.patterns_lowering.specs.RewriterCalls.{JournalAfter};
 ghost use Rattle.patterns_lowering.specs.Held.{module_held};
 ghost use Rattle.patterns.specs.Applied.{Applied, RewriteOutcome, IsReason};
 ghost use Rattle.user_patterns_data.specs.Shapes.{pattern_model};
-ghost use Rattle.user_patterns_apply.specs.Own.{own_rewrite};
+ghost use Rattle.user_patterns_apply.specs.Own.{user_pattern_rewrite};
 
 use crate::apply_plan::apply_plan;
 use crate::laws::pattern_edits_are_accepted;
@@ -30,10 +30,10 @@ pub fn apply_pattern<L: Analysis>(
     op: OpId,
 ) -> Result<bool, Refusal>
     ensures there { has_id op (module_held bench.old.transaction).tree ≡ false → result ≡ Err NoSuchOp }
-    ensures ok { IfOk result (λ done. RewriteOutcome (own_rewrite (pattern_model pattern.now) (module_held bench.old.transaction) op) done
+    ensures ok { IfOk result (λ done. RewriteOutcome (user_pattern_rewrite (pattern_model pattern.now) (module_held bench.old.transaction) op) done
         (module_held bench.old.transaction) (module_held bench.new.transaction)) }
     ensures err { OnErr result (module_held bench.new.transaction ≡ module_held bench.old.transaction) }
-    ensures refused { IfErr result (λ e. IsReason (own_rewrite (pattern_model pattern.now) (module_held bench.old.transaction) op) op
+    ensures refused { IfErr result (λ e. IsReason (user_pattern_rewrite (pattern_model pattern.now) (module_held bench.old.transaction) op) op
         (module_held bench.old.transaction) bench.new.transaction.ctx e) }
     ensures stays { Applied L.meaning bench.old bench.new }
     ensures journal { JournalAfter L.meaning result bench.old bench.new }

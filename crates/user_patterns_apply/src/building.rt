@@ -5,7 +5,7 @@ ghost use Rattle.ir_event.specs.trees.declared.value.Value.TheVariants.{Result a
 ghost use Rattle.ir_event.specs.trees.Uses.{same_value};
 ghost use Rattle.ir_event.specs.types.Things.{ContextModel};
 ghost use Rattle.dialects_int.specs.Folds.{known_of};
-ghost use Rattle.user_patterns_data.specs.Matching.{bound, standing};
+ghost use Rattle.user_patterns_data.specs.Matching.{bound, binding_at};
 ghost use Rattle.user_patterns_data.specs.Names.{operands_of};
 ghost use Rattle.user_patterns_data.specs.Planning.{all_made, made_as};
 ghost use Rattle.user_patterns_apply.specs.Built.{AreAllMade, AreMadeOf, IsMadeNext, as_operands, made_after, made_in};
@@ -56,7 +56,7 @@ fn as_operand(value: &Option<Value>) -> Option<Operand>
 
 /// Returns the operand bound at `place`, or `None` if no operand is bound there.
 pub(crate) fn operand_at(operands: &[Option<Operand>], place: usize) -> Option<Operand>
-    ensures { result ≡ standing place operands.now }
+    ensures { result ≡ binding_at place operands.now }
 {
     if place < operands.len() {
         operands[place]
@@ -118,7 +118,7 @@ fn bind_made(next: u32, place: u128, number: usize, operands: &mut [Option<Opera
 
 /// Returns the type bound to type `number` of the pattern, or `None` if it is unbound.
 fn type_at(types: &[Option<BoundType>], number: usize) -> Option<BoundType>
-    ensures is { (c : ContextModel) → option_map (type_in c) result ≡ standing number (types_in c types.now) }
+    ensures is { (c : ContextModel) → option_map (type_in c) result ≡ binding_at number (types_in c types.now) }
     ensures of { (c : ContextModel) → AreTypesOf c types.now → IfSome result (TypeIsOf c) }
 {
     if number < types.len() {

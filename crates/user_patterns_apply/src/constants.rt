@@ -10,7 +10,7 @@ ghost use Rattle.user_patterns_apply.specs.Matched.{outcome_at};
 ghost use Rattle.user_patterns_apply.specs.Mismatches.{extra_tests, known_tests};
 
 use crate::mismatch::Mismatch;
-use crate::places::standing;
+use crate::places::binding_at;
 use crate::types::same_kind;
 use crate::verified_operands::is_first;
 use ir_event::trees::value::Value;
@@ -32,7 +32,7 @@ fn known_at(
     ensures { IfOk result (λ k. known_of k ≡ known_at (module_in world.now).tree (is_verified (module_in world.now).tree)
         (module_in world.now).next (pattern_model pattern.now) values.now place) }
 {
-    let Some(value) = standing(values, place) else {
+    let Some(value) = binding_at(values, place) else {
         return Ok(None);
     };
     if !is_first(&value) {

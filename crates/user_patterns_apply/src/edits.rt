@@ -3,12 +3,12 @@ ghost use Rattle.std.specs.Prelude.{◌≡◌, ◌++◌, [], ◌∷◌, IfErr, I
 ghost use Rattle.patterns_lowering.specs.Interning.{Added, IsCapacityRefusal};
 ghost use Rattle.patterns_lowering.specs.Lists.{AllFit, edits_meaning};
 ghost use Rattle.rewriter_machine.specs.Edits.{Make as Making};
-ghost use Rattle.patterns.specs.Making.{StandsFor};
+ghost use Rattle.patterns.specs.Making.{EditsDenote};
 ghost use Rattle.ir_event.specs.trees.declared.value.Value.TheVariants.{Result as ResultOf};
 ghost use Rattle.patterns_lowering.specs.declared.edit.Edit.TheVariants.{Erase as Erasing, Replace as Replacing};
 ghost use Rattle.user_patterns_apply.specs.Built.{AreMadeOf, BuiltIsOf, made_in, operand_in};
 ghost use Rattle.user_patterns_apply.specs.Types.{TypeIsOf};
-ghost use Rattle.user_patterns_apply.specs.Planned.{EditStands, makings, planned_edits};
+ghost use Rattle.user_patterns_apply.specs.Planned.{EditDenotes, makings, planned_edits};
 
 use crate::intern::{entry, type_number};
 use crate::match_pattern::PlacedBuild;
@@ -35,7 +35,7 @@ fn making<L: Analysis>(
     made: &NewOp,
 ) -> Result<Edit, Refusal>
     requires of { TypeIsOf bench.old.transaction.ctx made.now.ty }
-    ensures stands { IfOk result (λ e. EditStands bench.new.transaction.ctx e
+    ensures stands { IfOk result (λ e. EditDenotes bench.new.transaction.ctx e
         (Making point.now (made_in bench.old.transaction.ctx next made.now))) }
     ensures refused { IfErr result (λ e. IsCapacityRefusal bench.new.transaction.ctx e) }
     ensures added { Added L.meaning bench.old bench.new }
@@ -153,7 +153,7 @@ pub(crate) fn edits_for<L: Analysis>(
     planned: &PlacedBuild,
 ) -> Result<Vec<Edit>, Refusal>
     requires of { BuiltIsOf bench.old.transaction.ctx planned.now.built }
-    ensures stands { IfOk result (λ es. StandsFor bench.new.transaction.ctx es.items
+    ensures stands { IfOk result (λ es. EditsDenote bench.new.transaction.ctx es.items
         (planned_edits bench.old.transaction.ctx next op planned.now)) }
     ensures refused { IfErr result (λ e. IsCapacityRefusal bench.new.transaction.ctx e) }
     ensures added { Added L.meaning bench.old bench.new }

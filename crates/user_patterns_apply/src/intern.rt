@@ -8,7 +8,7 @@ ghost use Rattle.patterns_base.specs.Made.{flags, predicate_entry};
 ghost use Rattle.patterns_lowering.specs.Interning.{Added, IsCapacityRefusal};
 ghost use Rattle.patterns.specs.Interned.{IsAttrOf, IsPlain, IsTypeOf};
 ghost use Rattle.user_patterns_apply.specs.Types.{TypeIsOf as IsBoundOf, type_in};
-ghost use Rattle.user_patterns_apply.specs.Planned.{EntryStands, entries_of};
+ghost use Rattle.user_patterns_apply.specs.Planned.{EntryDenotes, entries_of};
 
 use crate::operations::is_flagged;
 use crate::rewrite_plan::Property;
@@ -92,7 +92,7 @@ pub(crate) fn type_number<L: Analysis>(
 
 /// Returns the overflow flags of a new operation, none of them set, or `None` if operations named `word` have no flags.
 fn flags<L: Analysis>(bench: &mut Bench<L>, word: Word) -> Result<Option<(NameId, AttrId)>, Refusal>
-    ensures ok { IfOk result (λ e. EntryStands bench.new.transaction.ctx e (flags (word_bytes word))) }
+    ensures ok { IfOk result (λ e. EntryDenotes bench.new.transaction.ctx e (flags (word_bytes word))) }
     ensures refused { IfErr result (λ e. IsCapacityRefusal bench.new.transaction.ctx e) }
     ensures added { Added L.meaning bench.old bench.new }
 {
@@ -119,7 +119,7 @@ fn integer<L: Analysis>(
     value: u128,
 ) -> Result<Option<(NameId, AttrId)>, Refusal>
     requires { IsType bench.old.transaction.ctx ty }
-    ensures ok { IfOk result (λ e. EntryStands bench.new.transaction.ctx e
+    ensures ok { IfOk result (λ e. EntryDenotes bench.new.transaction.ctx e
         ((word_bytes key, IntegerOf (type_term bench.old.transaction.ctx ty) value) ∷ [])) }
     ensures refused { IfErr result (λ e. IsCapacityRefusal bench.new.transaction.ctx e) }
     ensures added { Added L.meaning bench.old bench.new }
@@ -137,7 +137,7 @@ fn predicate<L: Analysis>(
     bench: &mut Bench<L>,
     number: u128,
 ) -> Result<Option<(NameId, AttrId)>, Refusal>
-    ensures ok { IfOk result (λ e. EntryStands bench.new.transaction.ctx e (predicate_entry number)) }
+    ensures ok { IfOk result (λ e. EntryDenotes bench.new.transaction.ctx e (predicate_entry number)) }
     ensures refused { IfErr result (λ e. IsCapacityRefusal bench.new.transaction.ctx e) }
     ensures added { Added L.meaning bench.old bench.new }
 {
@@ -157,7 +157,7 @@ pub(crate) fn entry<L: Analysis>(
     property: Property,
 ) -> Result<Option<(NameId, AttrId)>, Refusal>
     requires { IsType bench.old.transaction.ctx ty }
-    ensures ok { IfOk result (λ e. EntryStands bench.new.transaction.ctx e (entries_of bench.old.transaction.ctx word ty property)) }
+    ensures ok { IfOk result (λ e. EntryDenotes bench.new.transaction.ctx e (entries_of bench.old.transaction.ctx word ty property)) }
     ensures refused { IfErr result (λ e. IsCapacityRefusal bench.new.transaction.ctx e) }
     ensures added { Added L.meaning bench.old bench.new }
 {

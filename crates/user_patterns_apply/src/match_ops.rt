@@ -20,7 +20,7 @@ ghost use Rattle.user_patterns_apply.specs.declared.mismatch.Mismatch.TheVariant
 
 use crate::mismatch::Mismatch;
 use crate::names::{is_named, predicate_number};
-use crate::places::{bind, bind_all, nothing_at, standing};
+use crate::places::{bind, bind_all, binding_at, nothing_at};
 use ir_event::store::node::Node;
 use ir_event::trees::value::Value;
 use ir_event::types::context::Context;
@@ -145,7 +145,7 @@ fn match_pattern_op(
     ensures stands { Stands (op_matches (module_in world.now).tree any (place, pattern_op.now) values.old) values.new (is_none result) }
     ensures tests { result ≡ op_tests (module_in world.now).tree (place, pattern_op.now) values.old }
 {
-    let Some(value) = standing(values, place) else {
+    let Some(value) = binding_at(values, place) else {
         return Some(Mismatch::Operation(place));
     };
     let Some(node) = defining_op(world, &value) else {

@@ -6,8 +6,8 @@ ghost use Rattle.ir_event.specs.Modules.{module_in};
 ghost use Rattle.patterns_matchers.specs.Reads.{header_of_node};
 ghost use Rattle.user_patterns_data.specs.Shapes.{pattern_model};
 ghost use Rattle.user_patterns_apply.specs.Built.{BuiltIsOf};
-ghost use Rattle.user_patterns_apply.specs.Mismatches.{own_mismatch, point_of, point_tests};
-ghost use Rattle.user_patterns_apply.specs.Own.{is_one, own_edits};
+ghost use Rattle.user_patterns_apply.specs.Mismatches.{user_pattern_mismatch, point_of, point_tests};
+ghost use Rattle.user_patterns_apply.specs.Own.{is_one, user_pattern_edits};
 ghost use Rattle.user_patterns_apply.specs.Planned.{planned_edits};
 
 use crate::mismatch::Mismatch;
@@ -61,8 +61,8 @@ pub(crate) fn find_plan(
     op: OpId,
 ) -> Result<Result<PlacedBuild, Mismatch>, AllocError>
     ensures edits { IfOk result (λ p. option_map (planned_edits world.now.ctx (module_in world.now).next op) (result_ok p)
-        ≡ own_edits (pattern_model pattern.now) (module_in world.now) op) }
-    ensures tests { IfOk result (λ p. result_err p ≡ own_mismatch (pattern_model pattern.now) (module_in world.now) op) }
+        ≡ user_pattern_edits (pattern_model pattern.now) (module_in world.now) op) }
+    ensures tests { IfOk result (λ p. result_err p ≡ user_pattern_mismatch (pattern_model pattern.now) (module_in world.now) op) }
     ensures of { IfOk result (λ p. IfOk p (λ p. BuiltIsOf world.now.ctx p.built)) }
 {
     let built = match plan(alloc, world, pattern, op)? {
@@ -84,8 +84,8 @@ pub fn find_mismatch(
     pattern: &Pattern,
     op: OpId,
 ) -> Result<Option<Mismatch>, AllocError>
-    ensures tests { IfOk result (λ m. m ≡ own_mismatch (pattern_model pattern.now) (module_in world.now) op) }
-    ensures applies { IfOk result (λ m. is_none m ≡ is_some (own_edits (pattern_model pattern.now) (module_in world.now) op)) }
+    ensures tests { IfOk result (λ m. m ≡ user_pattern_mismatch (pattern_model pattern.now) (module_in world.now) op) }
+    ensures applies { IfOk result (λ m. is_none m ≡ is_some (user_pattern_edits (pattern_model pattern.now) (module_in world.now) op)) }
 {
     match find_plan(alloc, world, pattern, op)? {
         Ok(_) => Ok(None),

@@ -1,7 +1,7 @@
 //! Values at places.
 ghost use Rattle.std.specs.Prelude.{◌≡◌, ◌++◌, IfOk, OnOk, is_none};
 ghost use Rattle.ir_event.specs.trees.Uses.{same_value};
-ghost use Rattle.user_patterns_data.specs.Matching.{all_bound, bound, nothing, standing};
+ghost use Rattle.user_patterns_data.specs.Matching.{all_bound, bound, nothing, binding_at};
 ghost use Rattle.user_patterns_data.specs.Planning.{places};
 ghost use Rattle.user_patterns_data.specs.Shapes.{pattern_model};
 ghost use Rattle.user_patterns_apply.specs.Mismatches.{first_unbound};
@@ -13,8 +13,8 @@ use std::alloc::{AllocError, Global};
 use user_patterns_data::pattern::Pattern;
 
 /// Returns the value bound at `place`, or `None` if no value is bound there.
-pub(crate) fn standing(values: &[Option<Value>], place: u128) -> Option<Value>
-    ensures { result ≡ standing place values.now }
+pub(crate) fn binding_at(values: &[Option<Value>], place: u128) -> Option<Value>
+    ensures { result ≡ binding_at place values.now }
 {
     if place < values.len() as u128 {
         values[place as usize]

@@ -9,7 +9,7 @@ ghost use Rattle.user_patterns_check.specs.Checks.{Stands};
 ghost use Rattle.user_patterns_check.specs.Contents.{Content};
 ghost use Rattle.user_patterns_check.specs.Outcomes.{run};
 ghost use Rattle.user_patterns_data.specs.Fitting.{content_with};
-ghost use Rattle.user_patterns_data.specs.Planning.{kind_standing, planned_by, planned_from};
+ghost use Rattle.user_patterns_data.specs.Planning.{bound_type, planned_by, planned_from};
 ghost use Rattle.user_patterns_data.specs.Shapes.{pattern_model};
 ghost use Rattle.user_patterns_apply.specs.Matched.{any, matched};
 ghost use Rattle.user_patterns_apply.specs.Mismatches.{fitting_tests, plan_tests, planned_tests, steps_tests, values_tests};
@@ -127,7 +127,7 @@ fn plan_with(
 ) -> Result<Result<BuildPlan, Mismatch>, AllocError>
     requires names { list_all is_named (pattern_model pattern.now).new ≡ true }
     requires of { AreTypesOf world.now.ctx types.now }
-    requires value_types { value_types.now ≡ map kind_standing (types_in world.now.ctx types.now) }
+    requires value_types { value_types.now ≡ map bound_type (types_in world.now.ctx types.now) }
     ensures plan { IfOk result (λ p. option_map (plan_in world.now.ctx (module_in world.now).next) (result_ok p)
         ≡ planned_by (module_in world.now).tree (is_verified (module_in world.now).tree) (module_in world.now).next
         (pattern_model pattern.now) values.now (types_in world.now.ctx types.now)) }

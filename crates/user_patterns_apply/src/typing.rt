@@ -8,7 +8,7 @@ ghost use Rattle.ir_event.specs.types.SameTypes.{same_type};
 ghost use Rattle.ir_event.specs.Modules.{module_in};
 ghost use Rattle.patterns_base.specs.Looks.{is_verified};
 ghost use Rattle.user_patterns_data.specs.Matching.{bound, type_at, types_at};
-ghost use Rattle.user_patterns_data.specs.Planning.{is_numeric, kind_standing, typed};
+ghost use Rattle.user_patterns_data.specs.Planning.{is_numeric, bound_type, typed};
 ghost use Rattle.user_patterns_data.specs.Shapes.{pattern_model};
 ghost use Rattle.user_patterns_data.specs.declared.pattern.PatternOp.{PatternOp};
 ghost use Rattle.user_patterns_apply.specs.Mismatches.{typed_tests, typed_tests_over, types_tests};
@@ -17,7 +17,7 @@ ghost use Rattle.user_patterns_apply.specs.Types.{AreTypesOf, TypeIsOf, type_in,
 
 use crate::match_ops::old_begins;
 use crate::mismatch::Mismatch;
-use crate::places::standing;
+use crate::places::binding_at;
 use crate::types::{BoundType, is_same, kind_of};
 use ir_event::trees::value::Value;
 use ir_event::types::bits::BitsKind;
@@ -85,7 +85,7 @@ fn bind_type_at(
         values.now (types_in world.now.ctx types.old)) (types_in world.now.ctx types.new) result }
     ensures of { AreTypesOf world.now.ctx types.new }
 {
-    let Some(value) = standing(values, place) else {
+    let Some(value) = binding_at(values, place) else {
         return false;
     };
     let Some(ty) = world.store.value_type(value) else {
@@ -193,9 +193,9 @@ pub(crate) fn bound_types(
 }
 
 /// Returns the kind of a bound type. A type that isn't bound has a kind without values.
-fn kind_standing(ctx: &Context, bound: &Option<BoundType>) -> BitsKind
+fn bound_type(ctx: &Context, bound: &Option<BoundType>) -> BitsKind
     requires { IfSome bound.now (λ t. TypeIsOf ctx.now t) }
-    ensures { result ≡ kind_standing (option_map (type_in ctx.now) bound.now) }
+    ensures { result ≡ bound_type (option_map (type_in ctx.now) bound.now) }
 {
     match bound {
         Some(BoundType::Matched(ty)) => match kind_of(ctx, *ty) {
@@ -242,12 +242,12 @@ pub(crate) fn kinds_of(
     types: &[Option<BoundType>],
 ) -> Result<Vec<BitsKind>, AllocError>
     requires { AreTypesOf ctx.now types.now }
-    ensures { IfOk result (λ value_types. value_types.items ≡ map kind_standing (types_in ctx.now types.now)) }
+    ensures { IfOk result (λ value_types. value_types.items ≡ map bound_type (types_in ctx.now types.now)) }
 {
     let mut value_types = Vec::with_capacity(alloc, types.len())?;
     let mut rest = types;
     'types: while let [first, tail @ ..] = rest {
-        value_types.push(kind_standing(ctx, first))?;
+        value_types.push(bound_type(ctx, first))?;
         rest = tail;
     }
     Ok(value_types)

@@ -2,12 +2,12 @@
 ghost use Rattle.std.specs.Prelude.{◌≡◌, ◌<◌, ◌^◌, IfOk};
 ghost use Rattle.ir_event.specs.Modules.{module_in};
 ghost use Rattle.patterns_base.specs.Looks.{is_verified};
-ghost use Rattle.user_patterns_data.specs.Matching.{placed, standing};
+ghost use Rattle.user_patterns_data.specs.Matching.{placed, binding_at};
 ghost use Rattle.user_patterns_apply.specs.Matched.{is_verified_value, is_constant_value, is_first};
 ghost use Rattle.user_patterns_apply.specs.Mismatches.{constants_tests, verified_tests};
 
 use crate::mismatch::Mismatch;
-use crate::places::standing;
+use crate::places::binding_at;
 use ir_event::trees::value::Value;
 use ir_event::world::World;
 use patterns_matchers::constants::verified_defining_op;
@@ -61,7 +61,7 @@ pub(crate) fn test_verified(
     'old: while left > 0 {
         left -= 1;
         let place = begins + left as u128;
-        let value = standing(values, place);
+        let value = binding_at(values, place);
         if !is_verified_value(alloc, world, &value)? {
             return Ok(Some(Mismatch::NotVerified(place)));
         }
@@ -71,9 +71,9 @@ pub(crate) fn test_verified(
 
 /// Returns whether the value at `place` is defined by a constant operation, verified or not.
 fn is_constant_at(world: &World, place: usize, values: &[Option<Value>]) -> bool
-    ensures { result ≡ is_constant_value (module_in world.now).tree (standing place values.now) }
+    ensures { result ≡ is_constant_value (module_in world.now).tree (binding_at place values.now) }
 {
-    match standing(values, place as u128) {
+    match binding_at(values, place as u128) {
         Some(value) => is_constant(world, &value),
         None => false,
     }

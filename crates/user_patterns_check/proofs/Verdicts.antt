@@ -6,7 +6,7 @@ use Rattle.user_patterns_check.specs.Cases.{AreBelow, first_failing}
 use Rattle.user_patterns_check.proofs.Found.{finds, fails, true_false}
 use Rattle.user_patterns_check.specs.Contents.{Content}
 use Rattle.user_patterns_check.specs.Checks.{AlwaysKeeps, AlwaysUndefined, bits, counts, first_broken, first_defined_input, is_few, is_undefined, keeps, most_bits}
-use Rattle.user_patterns_check.specs.Families.{Family, AreWidths, TooMany, bounds, few_at, kept_at, silent_at, width_at, widths_at}
+use Rattle.user_patterns_check.specs.Families.{Family, AreWidths, TooMany, bounds, few_at, kept_at, is_vacuous_at, width_at, widths_at}
 
 -- ---- widths, and the numbers that represent them
 
@@ -78,15 +78,15 @@ module _ (f : Family) (n most : ℕ) (low : most ≤ most_width) where
           let b = widths_below most low n ws a in
           subst (λ (us : List ℕ). AlwaysKeeps (f us)) b.2 (kept (f (widths_at b.0)) (finds (few_at f) (bounds n most) few b.0 b.1) (finds (kept_at f) (bounds n most) broken b.0 b.1))
 
-    pub all_silent : first_failing (silent_at f) (bounds n most) ≡ None → (ws : List ℕ) → AreWidths n most ws → AlwaysUndefined (f ws)
+    pub all_silent : first_failing (is_vacuous_at f) (bounds n most) ≡ None → (ws : List ℕ) → AreWidths n most ws → AlwaysUndefined (f ws)
     all_silent quiet ws a =
         let b = widths_below most low n ws a in
-        subst (λ (us : List ℕ). AlwaysUndefined (f us)) b.2 (silent (f (widths_at b.0)) (finds (few_at f) (bounds n most) few b.0 b.1) (finds (silent_at f) (bounds n most) quiet b.0 b.1))
+        subst (λ (us : List ℕ). AlwaysUndefined (f us)) b.2 (silent (f (widths_at b.0)) (finds (few_at f) (bounds n most) few b.0 b.1) (finds (is_vacuous_at f) (bounds n most) quiet b.0 b.1))
 
-  pub some_notified : (vs : List ℕ) → first_failing (silent_at f) (bounds n most) ≡ Some vs
+  pub some_notified : (vs : List ℕ) → first_failing (is_vacuous_at f) (bounds n most) ≡ Some vs
       → (ws : List ℕ) × (values : List ℕ) × AreWidths n most ws × AreBelow (counts (f ws)) values × (is_undefined (f ws) values ≡ false)
   some_notified vs e =
-      let t = fails (silent_at f) (bounds n most) vs e in
+      let t = fails (is_vacuous_at f) (bounds n most) vs e in
       let h = notified (f (widths_at vs)) t.1 in
       (widths_at vs, h.0, below_widths most low n vs t.0, h.1, h.2)
 

@@ -57,12 +57,12 @@ abbrev pub keeps : Content → List ℕ → Bool
 keeps s values = old_ran s (old_steps s values [])
 
 -- whether the pattern may not be applied to these values, or the old steps are undefined
-abbrev pub old_silent : Content → Option (List Outcome) → Bool
-old_silent s None = true
-old_silent s (Some env) = is_none (slice_get env s.old_result)
+abbrev pub old_is_vacuous : Content → Option (List Outcome) → Bool
+old_is_vacuous s None = true
+old_is_vacuous s (Some env) = is_none (slice_get env s.old_result)
 
 abbrev pub is_undefined : Content → List ℕ → Bool
-is_undefined s values = old_silent s (old_steps s values [])
+is_undefined s values = old_is_vacuous s (old_steps s values [])
 
 -- the number of values of each variable, and the bits of all variables together
 abbrev pub counts : Content → List ℕ

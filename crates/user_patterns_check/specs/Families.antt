@@ -39,8 +39,8 @@ few_at f vs = is_few (f (widths_at vs))
 abbrev pub kept_at : Family → List ℕ → Bool
 kept_at f vs = is_none (first_broken (f (widths_at vs)))
 
-abbrev pub silent_at : Family → List ℕ → Bool
-silent_at f vs = is_none (first_defined_input (f (widths_at vs)))
+abbrev pub is_vacuous_at : Family → List ℕ → Bool
+is_vacuous_at f vs = is_none (first_defined_input (f (widths_at vs)))
 
 -- widths with too many values, or too many lists of widths
 abbrev pub TooMany : Family → ℕ → ℕ → Type 0

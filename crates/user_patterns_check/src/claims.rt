@@ -210,9 +210,9 @@ pub(crate) struct UndefinedAt<'a, F: Family> {
 }
 
 impl<'a, F: Family> Claim for UndefinedAt<'a, F> {
-    ghost use Rattle.user_patterns_check.specs.Families.{silent_at};
+    ghost use Rattle.user_patterns_check.specs.Families.{is_vacuous_at};
 
-    ghost holds = { λ c values. silent_at (F.family c.pattern.now) values };
+    ghost holds = { λ c values. is_vacuous_at (F.family c.pattern.now) values };
 
     fn holds(&self, alloc: Global, values: &[u128]) -> Result<bool, AllocError> {
         let widths = widths_at(alloc, values)?;

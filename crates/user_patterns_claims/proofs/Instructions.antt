@@ -103,12 +103,12 @@ module _ (W : ℕ) (most : most_width ≤ W) (vs : List ℕ) (value_types : List
   abbrev pub ws : List ℕ
   ws = map width_of js
 
-  abbrev pub StandsFor : List Expr → Operand → Outcome → Type 0
-  StandsFor ps o x = Stands W vs js refl ps o x
+  abbrev pub EditsDenote : List Expr → Operand → Outcome → Type 0
+  EditsDenote ps o x = Stands W vs js refl ps o x
 
   -- operands represent outcomes, if they are known
   abbrev pub StandsIf : Bool → List Expr → Operand → Outcome → Type 0
-  StandsIf true ps o x = StandsFor ps o x
+  StandsIf true ps o x = EditsDenote ps o x
   StandsIf false ps o x = Unit {0}
 
   abbrev pub AllStand : List Expr → List Operand → List Outcome → Type 0
@@ -130,7 +130,7 @@ module _ (W : ℕ) (most : most_width ≤ W) (vs : List ℕ) (value_types : List
   if_still ps qs o x g true s = stands_still W vs js refl ps qs o x g s
   if_still ps qs o x g false s = tt
 
-  if_stands : (ps : List Expr) (o : Operand) (x : Outcome) → StandsFor ps o x → (b : Bool) → StandsIf b ps o x
+  if_stands : (ps : List Expr) (o : Operand) (x : Outcome) → EditsDenote ps o x → (b : Bool) → StandsIf b ps o x
   if_stands ps o x s true = s
   if_stands ps o x s false = tt
 
@@ -158,7 +158,7 @@ module _ (W : ℕ) (most : most_width ≤ W) (vs : List ℕ) (value_types : List
   pub record Found (ps : List Expr) (o : Operand) (x : Option Outcome) : Type 0 where
     pub outcome : Outcome
     pub is : x ≡ Some outcome
-    pub stands : StandsFor ps o outcome
+    pub stands : EditsDenote ps o outcome
 
   pub found : (ps : List Expr) (os : List Operand) (xs : List Outcome) (i : ℕ) (o : Operand) → AllStand ps os xs → operand_at os i ≡ Some o → Found ps o (slice_get xs i)
   found ps [] xs i o a e = absurd (none-some o e)
@@ -166,7 +166,7 @@ module _ (W : ℕ) (most : most_width ≤ W) (vs : List ℕ) (value_types : List
   found ps (p ∷ os) (x ∷ xs) zero o a e = here p.known a.0 e
     where
       here : (b : Bool) → StandsIf b ps p x → (if b then Some p else None) ≡ Some o → Found ps o (Some x)
-      here true s f = record { outcome = x; is = refl; stands = subst (λ (q : Operand). StandsFor ps q x) (same_Some p o f) s }
+      here true s f = record { outcome = x; is = refl; stands = subst (λ (q : Operand). EditsDenote ps q x) (same_Some p o f) s }
       here false s f = absurd (none-some o f)
   found ps (p ∷ os) (x ∷ xs) (suc i) o a e = found ps os xs i o a.1 e
 
@@ -181,7 +181,7 @@ module _ (W : ℕ) (most : most_width ≤ W) (vs : List ℕ) (value_types : List
   Goes may s env None (Some next) = may ≡ true
   Goes may s env (Some x) (Some next) = Reached s next (env ++ x ∷ [])
 
-  pub reached : (s : State) (env : List Outcome) (r : Result) (x : Outcome) → Holds s env → Grown W vs ws s.exprs r.0 → StandsFor r.0 r.1 x → Reached s (with_result s r) (env ++ x ∷ [])
+  pub reached : (s : State) (env : List Outcome) (r : Result) (x : Outcome) → Holds s env → Grown W vs ws s.exprs r.0 → EditsDenote r.0 r.1 x → Reached s (with_result s r) (env ++ x ∷ [])
   reached s env r x h g a =
       record {
         grown = g;
@@ -204,7 +204,7 @@ module _ (W : ℕ) (most : most_width ≤ W) (vs : List ℕ) (value_types : List
 
   module _ (s : State) (env : List Outcome) (h : Holds s env) where
     with_operand : {X : Type 0} (P : Option Outcome → Option X → Type 0) → ((r : Option Outcome) → P r None) → (i : ℕ) (f : Operand → Option X) (g : Outcome → Option Outcome)
-        → ((o : Operand) (x : Outcome) → StandsFor s.exprs o x → P (g x) (f o)) → P (given (slice_get env i) g) (given (operand_at s.operands i) f)
+        → ((o : Operand) (x : Outcome) → EditsDenote s.exprs o x → P (g x) (f o)) → P (given (slice_get env i) g) (given (operand_at s.operands i) f)
     with_operand P none i f g each = go (operand_at s.operands i) refl
       where
         go : (o : Option Operand) → operand_at s.operands i ≡ o → P (given (slice_get env i) g) (given o f)
@@ -213,7 +213,7 @@ module _ (W : ℕ) (most : most_width ≤ W) (vs : List ℕ) (value_types : List
             let a = found s.exprs s.operands env i o h.all e in
             subst (λ (x : Option Outcome). P (given x g) (f o)) (sym a.is) (each o a.outcome a.stands)
 
-    by_operand : (i : ℕ) (f : Operand → Option Result) (g : Outcome → Option Outcome) → ((o : Operand) (x : Outcome) → StandsFor s.exprs o x → GivesHere s.exprs (g x) (f o))
+    by_operand : (i : ℕ) (f : Operand → Option Result) (g : Outcome → Option Outcome) → ((o : Operand) (x : Outcome) → EditsDenote s.exprs o x → GivesHere s.exprs (g x) (f o))
         → GivesHere s.exprs (given (slice_get env i) g) (given (operand_at s.operands i) f)
     by_operand i f g each = with_operand (GivesHere s.exprs) (λ r. tt) i f g each
 
@@ -302,7 +302,7 @@ module _ (W : ℕ) (most : most_width ≤ W) (vs : List ℕ) (value_types : List
 
   module _ (s : State) (env : List Outcome) (h : Holds s env) where
     -- a condition that isn't 0
-    visited : (o : Operand) (n : ℕ) → Is W vs ws s.exprs o.value o.ty n → (n == 0) ≡ false → StandsFor s.exprs o (Some (kind_at js o.ty, n))
+    visited : (o : Operand) (n : ℕ) → Is W vs ws s.exprs o.value o.ty n → (n == 0) ≡ false → EditsDenote s.exprs o (Some (kind_at js o.ty, n))
         → Reached s (with_condition s o (put s.exprs 0 (form.Less 0 o.value))) (env ++ Some (kind_at js o.ty, n) ∷ [])
     visited o n is e a =
         let m = put s.exprs 0 (form.Less 0 o.value) in
@@ -318,13 +318,13 @@ module _ (W : ℕ) (most : most_width ≤ W) (vs : List ℕ) (value_types : List
           };
         }
 
-    require_goes : (o : Operand) (x : Outcome) → StandsFor s.exprs o x → Goes true s env (outcomes.required x) (required s o o.poison)
+    require_goes : (o : Operand) (x : Outcome) → EditsDenote s.exprs o x → Goes true s env (outcomes.required x) (required s o o.poison)
     require_goes o x a = go o.poison a.poison_is
       where
         known : (b : Bool) → (a.number == 0) ≡ b → x ≡ Some (kind_at js o.ty, a.number)
             → Goes true s env (if b then None else Some (Some (kind_at js o.ty, a.number))) (Some (with_condition s o (put s.exprs 0 (form.Less 0 o.value))))
         known true e i = refl
-        known false e i = visited o a.number a.number_is e (subst (λ (y : Outcome). StandsFor s.exprs o y) i a)
+        known false e i = visited o a.number a.number_is e (subst (λ (y : Outcome). EditsDenote s.exprs o y) i a)
 
         go : (f : Poison) → PoisonIs W vs ws s.exprs f a.poisoned → Goes true s env (outcomes.required x) (required s o f)
         go poison.Never e =
@@ -368,7 +368,7 @@ module _ (W : ℕ) (most : most_width ≤ W) (vs : List ℕ) (value_types : List
           };
         }
 
-    log_goes : (o : Operand) (x : Outcome) → StandsFor s.exprs o x → Goes true s env (log_outcome x) (log_state s o o.poison)
+    log_goes : (o : Operand) (x : Outcome) → EditsDenote s.exprs o x → Goes true s env (log_outcome x) (log_state s o o.poison)
     log_goes o x a = go o.poison a.poison_is
       where
         known : (r : Option ℕ) → log_of (width_of (kind_at js o.ty)) a.number ≡ r
@@ -389,7 +389,7 @@ module _ (W : ℕ) (most : most_width ≤ W) (vs : List ℕ) (value_types : List
     abbrev DivideGoes : Option Outcome → Option Result → Type 0
     DivideGoes r q = Goes true s env r (with_some s q)
 
-    divide_goes : (x y : Operand) (p q : Outcome) → StandsFor s.exprs x p → StandsFor s.exprs y q → DivideGoes (pair_outcome op.DivideSigned p q) (unchanged s.exprs (divide_result x y))
+    divide_goes : (x y : Operand) (p q : Outcome) → EditsDenote s.exprs x p → EditsDenote s.exprs y q → DivideGoes (pair_outcome op.DivideSigned p q) (unchanged s.exprs (divide_result x y))
     divide_goes x y p q a b = on (divide_result x y) (divide_gives W vs js refl s.exprs h.base x y p q a b)
       where
         on : (d : Option Operand) → Divides W vs js refl s.exprs h.base x y p q a b (pair_outcome op.DivideSigned p q) d → DivideGoes (pair_outcome op.DivideSigned p q) (unchanged s.exprs d)

@@ -1,5 +1,5 @@
 pub mod Named
-pub mod Standing
+pub mod BoundValues
 pub mod Widths
 pub mod ShallowStanding
 pub mod Near

@@ -13,9 +13,9 @@ use Rattle.user_patterns_check.specs.Outcomes.{given}
 use Rattle.patterns_laws.specs.Words.{named}
 use Rattle.patterns_laws.proofs.KnownFolds.{given_some}
 use Rattle.user_patterns_data.specs.declared.pattern.PatternOp.{PatternOp}
-use Rattle.user_patterns_data.specs.Matching.{Header, Standing, all_bound, asks_alike, bound, defining_op_head, header_matched, nothing, op_matches, ops_match, placed, standing, value_matched, when}
+use Rattle.user_patterns_data.specs.Matching.{Header, BoundValues, all_bound, constraints_agree, bound, defining_op_head, header_matched, nothing, op_matches, ops_match, placed, binding_at, value_matched, when}
 use Rattle.user_patterns_data.specs.Names.{name_of, operands_of}
-use Rattle.user_patterns_data.proofs.Standing.{all_keep}
+use Rattle.user_patterns_data.proofs.BoundValues.{all_keep}
 use Rattle.user_patterns_data.specs.Depth.{are_near, is_inner, is_near, takes, takes_below}
 use Rattle.user_patterns_data.specs.Alike.{GivesAlike, ShowAlike, TypesAlike, Under}
 use Rattle.user_patterns_data.proofs.ShallowStanding.{Among, Stands, all_from, all_in, all_stand, bound_from, bound_gives, nothing_stands, one_stands, stands_standing, standing_stands, when_some}
@@ -39,7 +39,7 @@ given_ap None f g h = refl
 given_ap (Some x) f g h = h x
 
 -- a match of one more pattern op after others
-matched_after : (t : Operation) (verified : Header → Bool) (xs : List (ℕ × PatternOp)) (y : ℕ × PatternOp) (b : Standing Value) → ops_match t verified (xs ++ y ∷ []) b ≡ given (ops_match t verified xs b) (λ c. op_matches t verified y c)
+matched_after : (t : Operation) (verified : Header → Bool) (xs : List (ℕ × PatternOp)) (y : ℕ × PatternOp) (b : BoundValues Value) → ops_match t verified (xs ++ y ∷ []) b ≡ given (ops_match t verified xs b) (λ c. op_matches t verified y c)
 matched_after t verified [] y b = some_given (op_matches t verified y b)
 matched_after t verified (x ∷ xs) y b =
     given_ap (op_matches t verified x b) (λ c. ops_match t verified (xs ++ y ∷ []) c) (λ c. given (ops_match t verified xs c) (λ d. op_matches t verified y d)) (λ c. matched_after t verified xs y c)
@@ -59,7 +59,7 @@ module _ (t u : Operation) (verified cleans : Header → Bool) (x : ℕ) (s : Sh
   X = Result x 0
 
   -- the bindings after a match of the pattern ops from a place on
-  pub record Found (at : ℕ) (ps : List PatternOp) (b : Standing Value) : Type 0 where
+  pub record Found (at : ℕ) (ps : List PatternOp) (b : BoundValues Value) : Type 0 where
     pub begins : Stands place X b
     pub first : (k : ℕ) (v : Value) → takes k root ≡ true → Stands k v b → Under t verified X v
     pub second : (k : ℕ) (v : Value) → is_inner root k at ps ≡ true → Stands k v b → (w : Value) × Under t verified X w × Under t verified w v
@@ -69,7 +69,7 @@ module _ (t u : Operation) (verified cleans : Header → Bool) (x : ℕ) (s : Sh
     pub below : (k : ℕ) (v : Value) → Stands k v b → k < count
 
   -- near values have the same defining operations in both trees, and the operands of these have the same types
-  pub near_alike : (at : ℕ) (ps : List PatternOp) (b : Standing Value) → Found at ps b → (k : ℕ) → is_near place root k at ps ≡ true → (v : Value) → Stands k v b
+  pub near_alike : (at : ℕ) (ps : List PatternOp) (b : BoundValues Value) → Found at ps b → (k : ℕ) → is_near place root k at ps ≡ true → (v : Value) → Stands k v b
       → GivesAlike t u verified cleans v × ((w : Value) → Under t verified v w → TypesAlike t u verified cleans w)
   near_alike at ps b f k near v h = elim (or_cases (eqb place k) (takes k root || is_inner root k at ps) near) [
     | inl e ↦
@@ -82,12 +82,12 @@ module _ (t u : Operation) (verified cleans : Header → Bool) (x : ℕ) (s : Sh
   ]
 
   -- one more pattern op is matched
-  module _ (at : ℕ) (p : PatternOp) (b : Standing Value) (below : takes_below count p ≡ true)
+  module _ (at : ℕ) (p : PatternOp) (b : BoundValues Value) (below : takes_below count p ≡ true)
       (alike : (v : Value) → Stands at v b → GivesAlike t u verified cleans v × ((w : Value) → Under t verified v w → TypesAlike t u verified cleans w)) where
     pub pattern_op_alike : op_matches t verified (at, p) b ≡ op_matches u cleans (at, p) b
-    pattern_op_alike = go (standing at b) refl
+    pattern_op_alike = go (binding_at at b) refl
       where
-        go : (o : Option Value) → standing at b ≡ o → given (standing at b) (λ v. value_matched t verified p v b) ≡ given (standing at b) (λ v. value_matched u cleans p v b)
+        go : (o : Option Value) → binding_at at b ≡ o → given (binding_at at b) (λ v. value_matched t verified p v b) ≡ given (binding_at at b) (λ v. value_matched u cleans p v b)
         go None e = ap (λ o. given o (λ v. value_matched t verified p v b)) e ∙ sym (ap (λ o. given o (λ v. value_matched u cleans p v b)) e)
         go (Some v) e =
             ap (λ o. given o (λ v. value_matched t verified p v b)) e
@@ -95,26 +95,26 @@ module _ (t u : Operation) (verified cleans : Header → Bool) (x : ℕ) (s : Sh
             ∙ sym (ap (λ o. given o (λ v. value_matched u cleans p v b)) e)
 
     -- the bindings that it adds
-    pub record Taken (c : Standing Value) : Type 0 where
+    pub record Taken (c : BoundValues Value) : Type 0 where
       pub value : Value
       pub header : Header
       pub there : Stands at value b
       pub given_by : defining_op_head t verified value ≡ Some header
       pub binds : all_bound same_value (operands_of p.form) header.operands b ≡ Some c
 
-    pub taken : (c : Standing Value) → op_matches t verified (at, p) b ≡ Some c → Taken c
+    pub taken : (c : BoundValues Value) → op_matches t verified (at, p) b ≡ Some c → Taken c
     taken c e =
-        let v = given_some (standing at b) (λ v. value_matched t verified p v b) c e in
+        let v = given_some (binding_at at b) (λ v. value_matched t verified p v b) c e in
         let h = given_some (defining_op_head t verified v.0) (λ h. header_matched t verified p h b) c v.2 in
         record {
           value = v.0;
           header = h.0;
           there = standing_stands at v.0 b v.1;
           given_by = h.1;
-          binds = (when_some (named (name_of p.form) h.0.name && asks_alike t verified p h.0) (all_bound same_value (operands_of p.form) h.0.operands b) c h.2).1;
+          binds = (when_some (named (name_of p.form) h.0.name && constraints_agree t verified p h.0) (all_bound same_value (operands_of p.form) h.0.operands b) c h.2).1;
         }
 
-    module _ (c : Standing Value) (k : Taken c) where
+    module _ (c : BoundValues Value) (k : Taken c) where
       pub kept : (j : ℕ) (w : Value) → Stands j w b → Stands j w c
       kept j w h = all_keep same_value (operands_of p.form) k.header.operands b c k.binds j w h
 
@@ -137,7 +137,7 @@ module _ (t u : Operation) (verified cleans : Header → Bool) (x : ℕ) (s : Sh
       ]
 
   -- ---- the root
-  module _ (b : Standing Value) (binds : bound same_value place X (nothing total) ≡ Some b) where
+  module _ (b : BoundValues Value) (binds : bound same_value place X (nothing total) ≡ Some b) where
     pub only : (j : ℕ) (w : Value) → Stands j w b → (j ≡ place) × (w ≡ X)
     only j w h = elim (bound_from place X (nothing total) b binds j w h) [
       | inl i ↦ absurd (nothing_stands total j w i)
@@ -147,7 +147,7 @@ module _ (t u : Operation) (verified cleans : Header → Bool) (x : ℕ) (s : Sh
     pub root_alike : (v : Value) → Stands place v b → GivesAlike t u verified cleans v × ((w : Value) → Under t verified v w → TypesAlike t u verified cleans w)
     root_alike v h = subst (λ z. GivesAlike t u verified cleans z × ((w : Value) → Under t verified z w → TypesAlike t u verified cleans w)) (sym (only place v h).1) (s.root.0, λ w i. (s.operands w i).1)
 
-    module _ (below : takes_below count root ≡ true) (few : place < count) (c : Standing Value) (k : Taken place root b below root_alike c) where
+    module _ (below : takes_below count root ≡ true) (few : place < count) (c : BoundValues Value) (k : Taken place root b below root_alike c) where
       is_root : k.value ≡ X
       is_root = (only place k.value k.there).1
 
@@ -175,11 +175,11 @@ module _ (t u : Operation) (verified cleans : Header → Bool) (x : ℕ) (s : Sh
       }
 
   -- ---- another
-  module _ (at : ℕ) (p : PatternOp) (ps : List PatternOp) (b : Standing Value) (f : Found (at + 1) ps b) (near : is_near place root at (at + 1) ps ≡ true) (below : takes_below count p ≡ true) where
+  module _ (at : ℕ) (p : PatternOp) (ps : List PatternOp) (b : BoundValues Value) (f : Found (at + 1) ps b) (near : is_near place root at (at + 1) ps ≡ true) (below : takes_below count p ≡ true) where
     pub other_alike : (v : Value) → Stands at v b → GivesAlike t u verified cleans v × ((w : Value) → Under t verified v w → TypesAlike t u verified cleans w)
     other_alike v h = near_alike (at + 1) ps b f at near v h
 
-    module _ (c : Standing Value) (k : Taken at p b below other_alike c) where
+    module _ (c : BoundValues Value) (k : Taken at p b below other_alike c) where
       keeps : (j : ℕ) (w : Value) → Stands j w b → Stands j w c
       keeps = kept at p b below other_alike c k
 
@@ -205,20 +205,20 @@ module _ (t u : Operation) (verified cleans : Header → Bool) (x : ℕ) (s : Sh
       }
 
   -- ---- all of them
-  module _ (b : Standing Value) (binds : bound same_value place X (nothing total) ≡ Some b) where
+  module _ (b : BoundValues Value) (binds : bound same_value place X (nothing total) ≡ Some b) where
     pub matched_alike : (at : ℕ) (ps : List PatternOp) → are_near place root at ps ≡ true → IsLast root ps → at + length ps ≤ count → list_all (takes_below count) ps ≡ true
-        → (ops_match t verified (placed at ps) b ≡ ops_match u cleans (placed at ps) b) × ((c : Standing Value) → ops_match t verified (placed at ps) b ≡ Some c → Found at ps c)
+        → (ops_match t verified (placed at ps) b ≡ ops_match u cleans (placed at ps) b) × ((c : BoundValues Value) → ops_match t verified (placed at ps) b ≡ Some c → Found at ps c)
     matched_alike at [] near last few below = absurd (true≢false (sym near))
     matched_alike at (p ∷ []) near last few below =
         let is : place ≡ at = eqb-true place at near in
         let own : takes_below count root ≡ true = subst (λ z. takes_below count z ≡ true) (sym last) (and_parts (takes_below count p) true below).0 in
         let l : place < count = omega (arith, is, few) in
-        let both : (ops_match t verified (placed place (root ∷ [])) b ≡ ops_match u cleans (placed place (root ∷ [])) b) × ((c : Standing Value) → ops_match t verified (placed place (root ∷ [])) b ≡ Some c → Found place (root ∷ []) c) = (
+        let both : (ops_match t verified (placed place (root ∷ [])) b ≡ ops_match u cleans (placed place (root ∷ [])) b) × ((c : BoundValues Value) → ops_match t verified (placed place (root ∷ [])) b ≡ Some c → Found place (root ∷ []) c) = (
           some_given (op_matches t verified (place, root) b) ∙ pattern_op_alike place root b own (root_alike b binds) ∙ sym (some_given (op_matches u cleans (place, root) b)),
           λ c e. root_found b binds own l c (taken place root b own (root_alike b binds) c (sym (some_given (op_matches t verified (place, root) b)) ∙ e)),
         ) in
-        subst (λ z. (ops_match t verified (placed z (p ∷ [])) b ≡ ops_match u cleans (placed z (p ∷ [])) b) × ((c : Standing Value) → ops_match t verified (placed z (p ∷ [])) b ≡ Some c → Found z (p ∷ []) c)) is
-        (subst (λ q. (ops_match t verified (placed place (q ∷ [])) b ≡ ops_match u cleans (placed place (q ∷ [])) b) × ((c : Standing Value) → ops_match t verified (placed place (q ∷ [])) b ≡ Some c → Found place (q ∷ []) c)) last both)
+        subst (λ z. (ops_match t verified (placed z (p ∷ [])) b ≡ ops_match u cleans (placed z (p ∷ [])) b) × ((c : BoundValues Value) → ops_match t verified (placed z (p ∷ [])) b ≡ Some c → Found z (p ∷ []) c)) is
+        (subst (λ q. (ops_match t verified (placed place (q ∷ [])) b ≡ ops_match u cleans (placed place (q ∷ [])) b) × ((c : BoundValues Value) → ops_match t verified (placed place (q ∷ [])) b ≡ Some c → Found place (q ∷ []) c)) last both)
     matched_alike at (p ∷ q ∷ ps) near last few below =
         let nears = and_parts (is_near place root at (at + 1) (q ∷ ps)) (are_near place root (at + 1) (q ∷ ps)) near in
         let belows = and_parts (takes_below count p) (list_all (takes_below count) (q ∷ ps)) below in
@@ -231,11 +231,11 @@ module _ (t u : Operation) (verified cleans : Header → Bool) (x : ℕ) (s : Sh
         )
       where
         same : is_near place root at (at + 1) (q ∷ ps) ≡ true → takes_below count p ≡ true
-            → (ops_match t verified (placed (at + 1) (q ∷ ps)) b ≡ ops_match u cleans (placed (at + 1) (q ∷ ps)) b) × ((c : Standing Value) → ops_match t verified (placed (at + 1) (q ∷ ps)) b ≡ Some c → Found (at + 1) (q ∷ ps) c)
+            → (ops_match t verified (placed (at + 1) (q ∷ ps)) b ≡ ops_match u cleans (placed (at + 1) (q ∷ ps)) b) × ((c : BoundValues Value) → ops_match t verified (placed (at + 1) (q ∷ ps)) b ≡ Some c → Found (at + 1) (q ∷ ps) c)
             → given (ops_match t verified (placed (at + 1) (q ∷ ps)) b) (λ c. op_matches t verified (at, p) c) ≡ given (ops_match u cleans (placed (at + 1) (q ∷ ps)) b) (λ c. op_matches u cleans (at, p) c)
         same near below r = go (ops_match t verified (placed (at + 1) (q ∷ ps)) b) refl
           where
-            go : (o : Option (Standing Value)) → ops_match t verified (placed (at + 1) (q ∷ ps)) b ≡ o
+            go : (o : Option (BoundValues Value)) → ops_match t verified (placed (at + 1) (q ∷ ps)) b ≡ o
                 → given (ops_match t verified (placed (at + 1) (q ∷ ps)) b) (λ c. op_matches t verified (at, p) c) ≡ given (ops_match u cleans (placed (at + 1) (q ∷ ps)) b) (λ c. op_matches u cleans (at, p) c)
             go None e = ap (λ o. given o (λ c. op_matches t verified (at, p) c)) e ∙ sym (ap (λ o. given o (λ c. op_matches u cleans (at, p) c)) (sym r.0 ∙ e))
             go (Some c) e =

@@ -20,8 +20,8 @@ use Rattle.patterns_laws.proofs.KnownFolds.{given_some}
 use Rattle.user_patterns_data.specs.declared.pattern.PatternOp.{PatternOp}
 use Rattle.user_patterns_data.specs.declared.pattern.ExtraConstant.{ExtraConstant}
 use Rattle.user_patterns_data.specs.Fitting.{content_with, fits}
-use Rattle.user_patterns_data.specs.Matching.{Header, Standing, bound, defining_op_head, known, nothing, ops_match, placed, standing, type_at, types_at, when, written}
-use Rattle.user_patterns_data.specs.Planning.{all_made, are_same, constants_known, extra_known, extra_place, is_numeric, kind_standing, known_at, new_place, old_place, outcomes, places, planned, planned_by, planned_from, typed}
+use Rattle.user_patterns_data.specs.Matching.{Header, BoundValues, bound, defining_op_head, known, nothing, ops_match, placed, binding_at, type_at, types_at, when, written}
+use Rattle.user_patterns_data.specs.Planning.{all_made, are_same, constants_known, extra_known, extra_place, is_numeric, bound_type, known_at, new_place, old_place, outcomes, places, planned, planned_by, planned_from, typed}
 use Rattle.user_patterns_data.specs.Shapes.{PatternModel}
 use Rattle.user_patterns_data.specs.Depth.{all_near_from, are_near, is_near, is_shallow, is_shallow_by, is_shallow_from, takes_below}
 use Rattle.user_patterns_data.specs.Alike.{PlansAlike, ShowAlike, TypesAlike}
@@ -35,30 +35,30 @@ root_of [] p e = absurd (true≢false (sym e))
 root_of (q ∷ []) p e = (q, refl, e)
 root_of (q ∷ r ∷ ps) p e = root_of (r ∷ ps) p e
 
-module _ (t u : Operation) (verified cleans : Header → Bool) (x : ℕ) (s : ShowAlike t u verified cleans x) (p : PatternModel) (root : PatternOp) (b : Standing Value) (f : Found t u verified cleans x s p.root root (new_place p) (places p) (old_place p) p.old b) where
+module _ (t u : Operation) (verified cleans : Header → Bool) (x : ℕ) (s : ShowAlike t u verified cleans x) (p : PatternModel) (root : PatternOp) (b : BoundValues Value) (f : Found t u verified cleans x s p.root root (new_place p) (places p) (old_place p) p.old b) where
   -- ---- types
-  typed_at : (k ty : ℕ) (ts : Standing TypeTerm) → type_at t verified k ty b ts ≡ type_at u cleans k ty b ts
-  typed_at k ty ts = go (standing k b) refl
+  typed_at : (k ty : ℕ) (ts : BoundValues TypeTerm) → type_at t verified k ty b ts ≡ type_at u cleans k ty b ts
+  typed_at k ty ts = go (binding_at k b) refl
     where
-      go : (o : Option Value) → standing k b ≡ o → type_at t verified k ty b ts ≡ type_at u cleans k ty b ts
+      go : (o : Option Value) → binding_at k b ≡ o → type_at t verified k ty b ts ≡ type_at u cleans k ty b ts
       go None e = ap (λ o. given o (λ v. given (type_of_value v t) (λ term. bound same_type ty term ts))) e ∙ sym (ap (λ o. given o (λ v. given (type_of_value v u) (λ term. bound same_type ty term ts))) e)
       go (Some v) e =
           ap (λ o. given o (λ v. given (type_of_value v t) (λ term. bound same_type ty term ts))) e
           ∙ ap (λ z. given z (λ term. bound same_type ty term ts)) (f.types k v (standing_stands k v b e))
           ∙ sym (ap (λ o. given o (λ v. given (type_of_value v u) (λ term. bound same_type ty term ts))) e)
 
-  types_alike : (k : ℕ) (tys : List ℕ) (ts : Standing TypeTerm) → types_at t verified k tys b ts ≡ types_at u cleans k tys b ts
+  types_alike : (k : ℕ) (tys : List ℕ) (ts : BoundValues TypeTerm) → types_at t verified k tys b ts ≡ types_at u cleans k tys b ts
   types_alike k [] ts = refl
   types_alike k (ty ∷ tys) ts = ap (λ z. given z (types_at t verified (k + 1) tys b)) (typed_at k ty ts) ∙ go (λ us. types_alike (k + 1) tys us) (type_at u cleans k ty b ts)
     where
-      go : ((us : Standing TypeTerm) → types_at t verified (k + 1) tys b us ≡ types_at u cleans (k + 1) tys b us) → (o : Option (Standing TypeTerm)) → given o (types_at t verified (k + 1) tys b) ≡ given o (types_at u cleans (k + 1) tys b)
+      go : ((us : BoundValues TypeTerm) → types_at t verified (k + 1) tys b us ≡ types_at u cleans (k + 1) tys b us) → (o : Option (BoundValues TypeTerm)) → given o (types_at t verified (k + 1) tys b) ≡ given o (types_at u cleans (k + 1) tys b)
       go ih None = refl
       go ih (Some us) = ih us
 
   pub typed_alike : (n m : ℕ) → typed t verified n p b ≡ typed u cleans m p b
   typed_alike n m = ap (λ z. given z (types_at t verified (old_place p) (map PatternOp.ty p.old) b)) (types_alike 0 p.values (map written p.value_types)) ∙ go (types_at u cleans 0 p.values b (map written p.value_types))
     where
-      go : (o : Option (Standing TypeTerm)) → given o (types_at t verified (old_place p) (map PatternOp.ty p.old) b) ≡ given o (types_at u cleans (old_place p) (map PatternOp.ty p.old) b)
+      go : (o : Option (BoundValues TypeTerm)) → given o (types_at t verified (old_place p) (map PatternOp.ty p.old) b) ≡ given o (types_at u cleans (old_place p) (map PatternOp.ty p.old) b)
       go None = refl
       go (Some us) = types_alike (old_place p) (map PatternOp.ty p.old) us
 
@@ -67,9 +67,9 @@ module _ (t u : Operation) (verified cleans : Header → Bool) (x : ℕ) (s : Sh
   near k = is_near p.root root k (old_place p) p.old
 
   known_alike : (n m k : ℕ) → near k ≡ true → known_at t verified n p b k ≡ known_at u cleans m p b k
-  known_alike n m k h = go (standing k b) refl
+  known_alike n m k h = go (binding_at k b) refl
     where
-      go : (o : Option Value) → standing k b ≡ o → given (standing k b) (known t verified) ≡ given (standing k b) (known u cleans)
+      go : (o : Option Value) → binding_at k b ≡ o → given (binding_at k b) (known t verified) ≡ given (binding_at k b) (known u cleans)
       go None e = ap (λ o. given o (known t verified)) e ∙ sym (ap (λ o. given o (known u cleans)) e)
       go (Some v) e =
           ap (λ o. given o (known t verified)) e ∙ same v (near_alike t u verified cleans x s p.root root (new_place p) (places p) (old_place p) p.old b f k h v (standing_stands k v b e)).0
@@ -115,12 +115,12 @@ module _ (t u : Operation) (verified cleans : Header → Bool) (x : ℕ) (s : Sh
 
     -- ---- the plan
     module _ (extra : all_near_from near (extra_place p) p.extra ≡ true) where
-      from_alike : (ts : Standing TypeTerm) (env : List Outcome) → Both (planned_from t verified n p b ts env) (planned_from u cleans m p b ts env)
+      from_alike : (ts : BoundValues TypeTerm) (env : List Outcome) → Both (planned_from t verified n p b ts env) (planned_from u cleans m p b ts env)
       from_alike ts env =
           when_both (extra_known t verified n p (extra_place p) p.extra b env) (extra_known u cleans m p (extra_place p) p.extra b env) _ _ (extra_alike (extra_place p) p.extra env extra)
           (result_alike p.result (all_made ts env n (new_place p) p.new b) (all_made ts env m (new_place p) p.new b) (all_alike ts env p.new n m (new_place p) b b (record { places = λ k. refl }) f.below f.below))
 
-      by_alike : (ts : Standing TypeTerm) (ks : List BitsKind)
+      by_alike : (ts : BoundValues TypeTerm) (ks : List BitsKind)
           → Both (when (fits ks p && constants_known t verified n p b) (given (run (Content.given (content_with ks p)) (outcomes t verified n p 0 p.values b)) (planned_from t verified n p b ts)))
           (when (fits ks p && constants_known u cleans m p b) (given (run (Content.given (content_with ks p)) (outcomes u cleans m p 0 p.values b)) (planned_from u cleans m p b ts)))
       by_alike ts ks =
@@ -132,8 +132,8 @@ module _ (t u : Operation) (verified cleans : Header → Bool) (x : ℕ) (s : Sh
           some_same : {X : Type 0} {o : Option X} {a c : X} → o ≡ Some a → o ≡ Some c → a ≡ c
           some_same e i = cc
 
-      pub planned_alike : (ts : Standing TypeTerm) → Both (planned_by t verified n p b ts) (planned_by u cleans m p b ts)
-      planned_alike ts = when_both (list_all is_numeric ts) (list_all is_numeric ts) _ _ refl (by_alike ts (map kind_standing ts))
+      pub planned_alike : (ts : BoundValues TypeTerm) → Both (planned_by t verified n p b ts) (planned_by u cleans m p b ts)
+      planned_alike ts = when_both (list_all is_numeric ts) (list_all is_numeric ts) _ _ refl (by_alike ts (map bound_type ts))
 
 pub plans_alike : PlansAlike
 unfolding is_shallow planned

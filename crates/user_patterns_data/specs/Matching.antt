@@ -29,31 +29,31 @@ when b r = if b then r else None
 
 -- ---- bindings of places
 
-abbrev pub Standing : Type 0 → Type 0
-Standing V = List (Option V)
+abbrev pub BoundValues : Type 0 → Type 0
+BoundValues V = List (Option V)
 
 -- k unbound places
-abbrev pub nothing : {V : Type 0} → ℕ → Standing V
+abbrev pub nothing : {V : Type 0} → ℕ → BoundValues V
 nothing k = map (λ i. None) (range_with_len 0 k)
 
 -- binds a value at a place; a second binding must be to the same value
 module _ {V : Type 0} (same : V → V → Bool) where
-  abbrev pub bound_over : Option (Option V) → ℕ → V → Standing V → Option (Standing V)
+  abbrev pub bound_over : Option (Option V) → ℕ → V → BoundValues V → Option (BoundValues V)
   bound_over None k v b = None
   bound_over (Some None) k v b = Some (slice_set b k (Some v))
   bound_over (Some (Some u)) k v b = when (same u v) (Some b)
 
-  abbrev pub bound : ℕ → V → Standing V → Option (Standing V)
+  abbrev pub bound : ℕ → V → BoundValues V → Option (BoundValues V)
   bound k v b = bound_over (slice_get b k) k v b
 
-  abbrev pub all_bound : List ℕ → List V → Standing V → Option (Standing V)
+  abbrev pub all_bound : List ℕ → List V → BoundValues V → Option (BoundValues V)
   all_bound [] [] b = Some b
   all_bound [] (v ∷ vs) b = None
   all_bound (k ∷ ks) [] b = None
   all_bound (k ∷ ks) (v ∷ vs) b = given (bound k v b) (all_bound ks vs)
 
-abbrev pub standing : {V : Type 0} → ℕ → Standing V → Option V
-standing k b = given (slice_get b k) (λ x. x)
+abbrev pub binding_at : {V : Type 0} → ℕ → BoundValues V → Option V
+binding_at k b = given (slice_get b k) (λ x. x)
 
 -- pattern ops with their places, from a place on, the last first
 abbrev pub placed : ℕ → List PatternOp → List (ℕ × PatternOp)
@@ -74,31 +74,31 @@ module _ (t : Operation) (verified : Header → Bool) where
   predicate_is (Some p) None = false
   predicate_is (Some p) (Some i) = eqb i.1 p
 
-  abbrev pub asks_alike : PatternOp → Header → Bool
-  asks_alike p h =
+  abbrev pub constraints_agree : PatternOp → Header → Bool
+  constraints_agree p h =
       predicate_is (predicate_of p.form) (property_of (codes "predicate") h.properties)
       && (not p.bare || are_none (next_to (codes "overflowFlags") h.properties))
 
   -- the operands of the operation are bound at the places of the pattern op
-  abbrev pub header_matched : PatternOp → Header → Standing Value → Option (Standing Value)
-  header_matched p h b = when (named (name_of p.form) h.name && asks_alike p h) (all_bound same_value (operands_of p.form) h.operands b)
+  abbrev pub header_matched : PatternOp → Header → BoundValues Value → Option (BoundValues Value)
+  header_matched p h b = when (named (name_of p.form) h.name && constraints_agree p h) (all_bound same_value (operands_of p.form) h.operands b)
 
-  abbrev pub value_matched : PatternOp → Value → Standing Value → Option (Standing Value)
+  abbrev pub value_matched : PatternOp → Value → BoundValues Value → Option (BoundValues Value)
   value_matched p v b = given (defining_op_head v) (λ h. header_matched p h b)
 
   -- the defining operation of the value at the pattern op's place is verified and matches the pattern op
-  abbrev pub op_matches : ℕ × PatternOp → Standing Value → Option (Standing Value)
-  op_matches p b = given (standing p.0 b) (λ v. value_matched p.1 v b)
+  abbrev pub op_matches : ℕ × PatternOp → BoundValues Value → Option (BoundValues Value)
+  op_matches p b = given (binding_at p.0 b) (λ v. value_matched p.1 v b)
 
-  abbrev pub ops_match : List (ℕ × PatternOp) → Standing Value → Option (Standing Value)
+  abbrev pub ops_match : List (ℕ × PatternOp) → BoundValues Value → Option (BoundValues Value)
   ops_match [] b = Some b
   ops_match (p ∷ ps) b = given (op_matches p b) (ops_match ps)
 
   -- binds the types of values, by the numbers of types
-  abbrev pub type_at : ℕ → ℕ → Standing Value → Standing TypeTerm → Option (Standing TypeTerm)
-  type_at k ty b ts = given (standing k b) (λ v. given (type_of_value v t) (λ term. bound same_type ty term ts))
+  abbrev pub type_at : ℕ → ℕ → BoundValues Value → BoundValues TypeTerm → Option (BoundValues TypeTerm)
+  type_at k ty b ts = given (binding_at k b) (λ v. given (type_of_value v t) (λ term. bound same_type ty term ts))
 
-  abbrev pub types_at : ℕ → List ℕ → Standing Value → Standing TypeTerm → Option (Standing TypeTerm)
+  abbrev pub types_at : ℕ → List ℕ → BoundValues Value → BoundValues TypeTerm → Option (BoundValues TypeTerm)
   types_at k [] b ts = Some ts
   types_at k (ty ∷ tys) b ts = given (type_at k ty b ts) (types_at (k + 1) tys b)
 
@@ -112,7 +112,7 @@ written (ty.Concrete k) = Some (type_of k)
 written (ty.Variable v) = None
 
 -- a match keeps the values that were bound before
-abbrev pub PatternOpsStand : Type 0
-PatternOpsStand =
-    (t : Operation) (verified : Header → Bool) (ps : List (ℕ × PatternOp)) (b c : Standing Value) → ops_match t verified ps b ≡ Some c
+abbrev pub PatternOpsAreValid : Type 0
+PatternOpsAreValid =
+    (t : Operation) (verified : Header → Bool) (ps : List (ℕ × PatternOp)) (b c : BoundValues Value) → ops_match t verified ps b ≡ Some c
     → (k : ℕ) (v : Value) → slice_get b k ≡ Some (Some v) → slice_get c k ≡ Some (Some v)

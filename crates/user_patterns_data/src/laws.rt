@@ -1,5 +1,5 @@
 //! Laws of operation names and of matches.
-ghost use Rattle.user_patterns_data.specs.Matching.{PatternOpsStand};
+ghost use Rattle.user_patterns_data.specs.Matching.{PatternOpsAreValid};
 ghost use Rattle.user_patterns_data.specs.Names.{NamesFold};
 ghost use Rattle.user_patterns_data.specs.Samples.{Planned, PlannedNot};
 
@@ -10,7 +10,7 @@ pub fn names_fold()
 
 /// A match keeps the values that were bound before.
 pub fn matching_keeps_values()
-    ensures { PatternOpsStand }
+    ensures { PatternOpsAreValid }
 {}
 
 /// A pattern in a small tree rewrites a product to a shift.

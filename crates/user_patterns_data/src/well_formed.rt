@@ -47,8 +47,8 @@ fn is_type(pattern: &Pattern, ty: usize) -> bool
     ty < pattern.value_types.len()
 }
 
-fn kind_stands(pattern: &Pattern, kind: PatternType) -> bool
-    ensures { result ≡ well.kind_stands (pattern_model pattern.now) kind }
+fn type_is_valid(pattern: &Pattern, kind: PatternType) -> bool
+    ensures { result ≡ well.type_is_valid (pattern_model pattern.now) kind }
 {
     match kind {
         PatternType::Concrete(_) => true,
@@ -82,8 +82,8 @@ fn is_constant(pattern: &Pattern, place: usize) -> bool
     is_among(&pattern.constants, place)
 }
 
-fn extra_stands(pattern: &Pattern, extra: ExtraConstant) -> bool
-    ensures { result ≡ well.extra_stands (pattern_model pattern.now) extra }
+fn extra_is_valid(pattern: &Pattern, extra: ExtraConstant) -> bool
+    ensures { result ≡ well.extra_is_valid (pattern_model pattern.now) extra }
 {
     match extra {
         ExtraConstant::Literal(literal) => is_type(pattern, literal.ty),
@@ -91,8 +91,8 @@ fn extra_stands(pattern: &Pattern, extra: ExtraConstant) -> bool
     }
 }
 
-fn requested_stands(pattern: &Pattern, type_constraints: TypeConstraint) -> bool
-    ensures { result ≡ well.requested_stands (pattern_model pattern.now) type_constraints }
+fn constraint_is_valid(pattern: &Pattern, type_constraints: TypeConstraint) -> bool
+    ensures { result ≡ well.constraint_is_valid (pattern_model pattern.now) type_constraints }
 {
     match type_constraints {
         TypeConstraint::Narrower(narrow, wide) => is_type(pattern, narrow)
@@ -108,8 +108,8 @@ fn is_number(pattern: &Pattern, end: u128, place: usize) -> bool
     is_constant(pattern, place) || is_within(pattern.values.len() as u128, end, place)
 }
 
-fn number_stands(pattern: &Pattern, at: u128, number: ConstantExpression) -> bool
-    ensures { result ≡ well.number_stands (pattern_model pattern.now) at number }
+fn number_is_valid(pattern: &Pattern, at: u128, number: ConstantExpression) -> bool
+    ensures { result ≡ well.number_is_valid (pattern_model pattern.now) at number }
 {
     match number {
         ConstantExpression::Literal(literal) => is_type(pattern, literal.ty),
@@ -138,8 +138,8 @@ fn is_new(pattern: &Pattern, end: u128, place: usize) -> bool
     is_variable(pattern, place) || is_within(new_begins(pattern), end, place)
 }
 
-fn old_stands(pattern: &Pattern, at: u128, pattern_op: PatternOp) -> bool
-    ensures { result ≡ well.old_stands (pattern_model pattern.now) at pattern_op }
+fn old_is_valid(pattern: &Pattern, at: u128, pattern_op: PatternOp) -> bool
+    ensures { result ≡ well.old_is_valid (pattern_model pattern.now) at pattern_op }
 {
     if !is_type(pattern, pattern_op.ty) {
         return false;
@@ -154,8 +154,8 @@ fn old_stands(pattern: &Pattern, at: u128, pattern_op: PatternOp) -> bool
     }
 }
 
-fn form_stands(pattern: &Pattern, at: u128, form: Expression) -> bool
-    ensures { result ≡ well.form_stands (pattern_model pattern.now) (well.is_new (pattern_model pattern.now) at) form }
+fn form_is_valid(pattern: &Pattern, at: u128, form: Expression) -> bool
+    ensures { result ≡ well.form_is_valid (pattern_model pattern.now) (well.is_new (pattern_model pattern.now) at) form }
 {
     match form {
         Expression::Binary(_, i, j) => is_new(pattern, at, i) && is_new(pattern, at, j),
@@ -167,24 +167,24 @@ fn form_stands(pattern: &Pattern, at: u128, form: Expression) -> bool
     }
 }
 
-fn new_stands(pattern: &Pattern, at: u128, new: NewValue) -> bool
-    ensures { result ≡ well.new_stands (pattern_model pattern.now) at new }
+fn new_is_valid(pattern: &Pattern, at: u128, new: NewValue) -> bool
+    ensures { result ≡ well.new_is_valid (pattern_model pattern.now) at new }
 {
     match new {
         NewValue::Operation(pattern_op) => is_type(pattern, pattern_op.ty)
-            && form_stands(pattern, at, pattern_op.form),
+            && form_is_valid(pattern, at, pattern_op.form),
         NewValue::Constant(place, ty) => is_type(pattern, ty)
             && is_number(pattern, old_begins(pattern), place),
     }
 }
 
 /// Returns whether the type variables of `kinds` exist.
-fn kinds_stand(pattern: &Pattern, value_types: &[PatternType]) -> bool
-    ensures { result ≡ list_all (well.kind_stands (pattern_model pattern.now)) value_types.now }
+fn types_are_valid(pattern: &Pattern, value_types: &[PatternType]) -> bool
+    ensures { result ≡ list_all (well.type_is_valid (pattern_model pattern.now)) value_types.now }
 {
     let mut rest = value_types;
     'value_types: while let [first, tail @ ..] = rest {
-        if !kind_stands(pattern, *first) {
+        if !type_is_valid(pattern, *first) {
             return false;
         }
         rest = tail;
@@ -221,12 +221,12 @@ fn are_variables(pattern: &Pattern, places: &[usize]) -> bool
 }
 
 /// Returns whether the extra constants are well-formed.
-fn all_extra_stand(pattern: &Pattern, extra: &[ExtraConstant]) -> bool
-    ensures { result ≡ list_all (well.extra_stands (pattern_model pattern.now)) extra.now }
+fn extras_are_valid(pattern: &Pattern, extra: &[ExtraConstant]) -> bool
+    ensures { result ≡ list_all (well.extra_is_valid (pattern_model pattern.now)) extra.now }
 {
     let mut rest = extra;
     'extra: while let [first, tail @ ..] = rest {
-        if !extra_stands(pattern, *first) {
+        if !extra_is_valid(pattern, *first) {
             return false;
         }
         rest = tail;
@@ -235,12 +235,12 @@ fn all_extra_stand(pattern: &Pattern, extra: &[ExtraConstant]) -> bool
 }
 
 /// Returns whether the constraints are on types of the pattern.
-fn all_requested_stand(pattern: &Pattern, type_constraints: &[TypeConstraint]) -> bool
-    ensures { result ≡ list_all (well.requested_stands (pattern_model pattern.now)) type_constraints.now }
+fn constraints_are_valid(pattern: &Pattern, type_constraints: &[TypeConstraint]) -> bool
+    ensures { result ≡ list_all (well.constraint_is_valid (pattern_model pattern.now)) type_constraints.now }
 {
     let mut rest = type_constraints;
     'type_constraints: while let [first, tail @ ..] = rest {
-        if !requested_stands(pattern, *first) {
+        if !constraint_is_valid(pattern, *first) {
             return false;
         }
         rest = tail;
@@ -249,13 +249,13 @@ fn all_requested_stand(pattern: &Pattern, type_constraints: &[TypeConstraint]) -
 }
 
 /// Returns whether the computed numbers are well-formed. The place after the last of them is `end`.
-fn numbers_stand(pattern: &Pattern, numbers: &[ConstantExpression], end: u128) -> bool
-    ensures { result ≡ well.numbers_stand (pattern_model pattern.now) end numbers.now }
+fn numbers_are_valid(pattern: &Pattern, numbers: &[ConstantExpression], end: u128) -> bool
+    ensures { result ≡ well.numbers_are_valid (pattern_model pattern.now) end numbers.now }
 {
     let mut rest = numbers;
     'numbers: while let [first, tail @ ..] = rest {
         let at = end.saturating_sub(rest.len() as u128);
-        if !number_stands(pattern, at, *first) {
+        if !number_is_valid(pattern, at, *first) {
             return false;
         }
         rest = tail;
@@ -264,13 +264,13 @@ fn numbers_stand(pattern: &Pattern, numbers: &[ConstantExpression], end: u128) -
 }
 
 /// Returns whether the matched operations are well-formed. The place after the last of them is `end`.
-fn olds_stand(pattern: &Pattern, old: &[PatternOp], end: u128) -> bool
-    ensures { result ≡ well.olds_stand (pattern_model pattern.now) end old.now }
+fn olds_are_valid(pattern: &Pattern, old: &[PatternOp], end: u128) -> bool
+    ensures { result ≡ well.olds_are_valid (pattern_model pattern.now) end old.now }
 {
     let mut rest = old;
     'old: while let [first, tail @ ..] = rest {
         let at = end.saturating_sub(rest.len() as u128);
-        if !old_stands(pattern, at, *first) {
+        if !old_is_valid(pattern, at, *first) {
             return false;
         }
         rest = tail;
@@ -279,13 +279,13 @@ fn olds_stand(pattern: &Pattern, old: &[PatternOp], end: u128) -> bool
 }
 
 /// Returns whether the new values are well-formed. The place after the last of them is `end`.
-fn news_stand(pattern: &Pattern, new: &[NewValue], end: u128) -> bool
-    ensures { result ≡ well.news_stand (pattern_model pattern.now) end new.now }
+fn news_are_valid(pattern: &Pattern, new: &[NewValue], end: u128) -> bool
+    ensures { result ≡ well.news_are_valid (pattern_model pattern.now) end new.now }
 {
     let mut rest = new;
     'new: while let [first, tail @ ..] = rest {
         let at = end.saturating_sub(rest.len() as u128);
-        if !new_stands(pattern, at, *first) {
+        if !new_is_valid(pattern, at, *first) {
             return false;
         }
         rest = tail;
@@ -294,26 +294,26 @@ fn news_stand(pattern: &Pattern, new: &[NewValue], end: u128) -> bool
 }
 
 /// Returns whether the types, variables, constants and constraints are well-formed.
-fn preceding_stands(pattern: &Pattern) -> bool
-    ensures { result ≡ well.preceding_stands (pattern_model pattern.now) }
+fn preceding_is_valid(pattern: &Pattern) -> bool
+    ensures { result ≡ well.preceding_is_valid (pattern_model pattern.now) }
 {
-    kinds_stand(pattern, &pattern.value_types)
+    types_are_valid(pattern, &pattern.value_types)
         && are_types(pattern, &pattern.values)
         && are_variables(pattern, &pattern.constants)
-        && all_extra_stand(pattern, &pattern.extra)
-        && all_requested_stand(pattern, &pattern.type_constraints)
-        && numbers_stand(pattern, &pattern.given, old_begins(pattern))
+        && extras_are_valid(pattern, &pattern.extra)
+        && constraints_are_valid(pattern, &pattern.type_constraints)
+        && numbers_are_valid(pattern, &pattern.given, old_begins(pattern))
 }
 
 /// Returns whether the operations of both sides are well-formed.
-fn sides_stand(pattern: &Pattern) -> bool
-    ensures { result ≡ well.sides_stand (pattern_model pattern.now) }
+fn sides_are_valid(pattern: &Pattern) -> bool
+    ensures { result ≡ well.sides_are_valid (pattern_model pattern.now) }
 {
     let begins = new_begins(pattern);
     let ends = new_ends(pattern);
     pattern.root as u128 + 1 == begins
-        && olds_stand(pattern, &pattern.old, begins)
-        && news_stand(pattern, &pattern.new, ends)
+        && olds_are_valid(pattern, &pattern.old, begins)
+        && news_are_valid(pattern, &pattern.new, ends)
         && is_new(pattern, ends, pattern.result)
 }
 
@@ -321,5 +321,5 @@ fn sides_stand(pattern: &Pattern) -> bool
 pub fn is_well_formed(pattern: &Pattern) -> bool
     ensures { result ≡ well.is_well_formed (pattern_model pattern.now) }
 {
-    preceding_stands(pattern) && sides_stand(pattern)
+    preceding_is_valid(pattern) && sides_are_valid(pattern)
 }

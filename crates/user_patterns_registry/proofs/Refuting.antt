@@ -13,7 +13,7 @@ use Rattle.user_patterns_check.specs.Checks.{bound, counts, keeps, old_ran}
 use Rattle.user_patterns_check.specs.Families.{AreWidths}
 use Rattle.user_patterns_check.specs.Outcomes.{Outcome, given, run}
 use Rattle.user_patterns_data.specs.Fitting.{content_at}
-use Rattle.user_patterns_registry.specs.Sampled.{RefutesTruly, cases, keeps_tried, tried_bounds}
+use Rattle.user_patterns_registry.specs.Sampled.{RefutesTruly, cases, refines_at_case, case_bounds}
 use Rattle.user_patterns_widths.specs.SampledWidths.{level_width, levels}
 
 -- ---- widths
@@ -59,7 +59,7 @@ broken_below s vs e = was_bound s vs s.applies (bound s.value_types vs []) refl 
 
 pub refutes_truly : RefutesTruly
 refutes_truly p near w c t r =
-    let found = fails (keeps_tried p near w) (tried_bounds p near) r.first.0 r.first.1 in (
+    let found = fails (refines_at_case p near w) (case_bounds p near) r.first.0 r.first.1 in (
       subst (AreWidths p.types w) (sym r.first.2) (levels_are_widths p.types w r.first.0 (cases near ∷ []) t.low found.0),
       broken_below (content_at p c.widths.items) c.values.items r.broken,
       r.broken,

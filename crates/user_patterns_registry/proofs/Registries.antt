@@ -25,7 +25,7 @@ use Rattle.user_patterns_data.specs.Shapes.{PatternModel}
 use Rattle.user_patterns_data.specs.WellFormed.{is_well_formed}
 use Rattle.user_patterns_registry.specs.declared.check_result.CheckSummary.{CheckSummary}
 use Rattle.user_patterns_registry.specs.Rows.{Variable}
-use Rattle.user_patterns_registry.specs.Registry.{AddsOne, AreApart, RegistryModel, IsRegistry, IsReady, Kept, LastSpells, NotingKeepsARegistry, StaysARegistry, added, and_kept, defined, found, is_named, kept_as, kept_of, made_ready, most_patterns, noted, noted_one, headroom_for, shape_of, variables_of, with_said, Text}
+use Rattle.user_patterns_registry.specs.Registry.{AddsOne, AreApart, RegistryModel, IsRegistry, IsReady, Kept, LastSpells, NotingKeepsARegistry, StaysARegistry, added, and_kept, defined, found, is_named, kept_as, kept_of, made_ready, most_patterns, noted, noted_one, headroom_for, model_of_parts, variables_of, with_said, Text}
 
 -- ---- outcomes
 
@@ -99,8 +99,8 @@ ready_made s t (Some u) e h =
     (subst (λ (v : PatternModel). is_well_formed v ≡ true) same r.1, subst (λ (v : PatternModel). can_build v ≡ true) same r.2)
 ready_made s t None e h = absurd cc
 
-shape_ready : (p : parts.Pattern) (t : PatternModel) → shape_of p ≡ Ok t → (is_well_formed t ≡ true) × (can_build t ≡ true)
-unfolding shape_of
+shape_ready : (p : parts.Pattern) (t : PatternModel) → model_of_parts p ≡ Ok t → (is_well_formed t ≡ true) × (can_build t ≡ true)
+unfolding model_of_parts
 shape_ready p t h =
     let s = bound_ok (wellformed p) (λ s. made_ready (ready s)) t h in
     ready_made s.0 t (ready s.0) refl s.2
@@ -117,8 +117,8 @@ as_kept p vs t k e r = subst (KeptOf p) e (record { name = refl; text = refl; re
 pub kept_is : (p : parts.Pattern) (k : Kept) → kept_of p ≡ Ok k → KeptOf p k
 unfolding kept_of
 kept_is p k h =
-    let vs = bound_ok (variables_of p) (λ vs. shape_of p >>= λ t. Ok (kept_as p vs t)) k h in
-    let t = bound_ok (shape_of p) (λ t. Ok (kept_as p vs.0 t)) k vs.2 in
+    let vs = bound_ok (variables_of p) (λ vs. model_of_parts p >>= λ t. Ok (kept_as p vs t)) k h in
+    let t = bound_ok (model_of_parts p) (λ t. Ok (kept_as p vs.0 t)) k vs.2 in
     let same : kept_as p vs.0 t.0 ≡ k = okay_same (kept_as p vs.0 t.0) k (Ok (kept_as p vs.0 t.0)) (Ok k) refl refl t.2 in
     as_kept p vs.0 t.0 k same (shape_ready p t.0 t.1)
 

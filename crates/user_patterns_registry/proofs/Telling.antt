@@ -17,7 +17,7 @@ use Rattle.user_patterns_claims.specs.Outcomes.{IsNeverNumber, OutcomesDecide}
 use Rattle.user_patterns_claims.specs.Outcomes.{HoldsAtAllWidths as HoldsForOutcomes}
 use Rattle.user_patterns_registry.specs.CheckResult.{IsCheckResult, IsFirstFound, IsKept, IsSampledIf, IsWrong, requested_width, reports_all_widths}
 use Rattle.user_patterns_registry.specs.Sampled.{IsWideSampled}
-use Rattle.user_patterns_registry.specs.Shown.{IsShown, told_width, width_told}
+use Rattle.user_patterns_registry.specs.Shown.{IsShown, report_width, counterexample_width}
 
 pub alike : {X : Type 0} (f : Content → List ℕ → X) (s t : Content) (us vs : List ℕ) → s ≡ t → us ≡ vs → f s us ≡ f t vs
 alike f s t us vs e g = (λ i. f (e i) (g i))
@@ -35,15 +35,15 @@ module _ (p : PatternModel) (requested : Option ℕ) (most : ℕ) (is : most ≡
   to_requested : (v : Verdict) → IsVerdict (content_at p) p.types most v → IsVerdict (content_at p) p.types (requested_width p requested) v
   to_requested v right = subst (λ (m : ℕ). IsVerdict (content_at p) p.types m v) is right
 
-  width_is : (v : ℕ) → v ≡ told_width p most → v ≡ told_width p (requested_width p requested)
-  width_is v width = width ∙ ap (told_width p) is
+  width_is : (v : ℕ) → v ≡ report_width p most → v ≡ report_width p (requested_width p requested)
+  width_is v width = width ∙ ap (report_width p) is
 
   -- a check up to a width that was asked
-  pub requested_result : (w v : ℕ) → requested ≡ Some w → v ≡ told_width p most → IsVerdict (content_at p) p.types most verdict.Holds → reports_all_widths p requested ≡ false
+  pub requested_result : (w v : ℕ) → requested ≡ Some w → v ≡ report_width p most → IsVerdict (content_at p) p.types most verdict.Holds → reports_all_widths p requested ≡ false
       → IsCheckResult p requested (judgement.Holds v)
   requested_result w v e width right told = (width_is v width, to_requested verdict.Holds right, told, subst (IsSampledIf p) (sym e) tt)
 
-  pub samples_told : (v : ℕ) → requested ≡ None → v ≡ told_width p most → IsVerdict (content_at p) p.types most verdict.Holds → reports_all_widths p requested ≡ false
+  pub samples_told : (v : ℕ) → requested ≡ None → v ≡ report_width p most → IsVerdict (content_at p) p.types most verdict.Holds → reports_all_widths p requested ≡ false
       → IsWideSampled p None → IsCheckResult p requested (judgement.Holds v)
   samples_told v e width right told kept = (width_is v width, to_requested verdict.Holds right, told, subst (IsSampledIf p) (sym e) kept)
 
@@ -66,18 +66,18 @@ module _ (p : PatternModel) (requested : Option ℕ) (most : ℕ) (is : most ≡
       → IsCheckResult p requested judgement.AllWidths
   wide_told law e right claimed somewhere = (e, inr (to_requested verdict.Vacuous right, somewhere), law p claimed, inr claimed)
 
-  pub never_told : (v : ℕ) → requested ≡ None → v ≡ told_width p most → IsVerdict (content_at p) p.types most verdict.Holds → IsNeverNumber p
+  pub never_told : (v : ℕ) → requested ≡ None → v ≡ report_width p most → IsVerdict (content_at p) p.types most verdict.Holds → IsNeverNumber p
       → IsCheckResult p requested (judgement.Vacuous v)
   never_told v e width right never = (width_is v width, inr (e, to_requested verdict.Holds right, never))
 
-  pub empty_told : (v : ℕ) → v ≡ told_width p most → IsVerdict (content_at p) p.types most verdict.Vacuous → IsCheckResult p requested (judgement.Vacuous v)
+  pub empty_told : (v : ℕ) → v ≡ report_width p most → IsVerdict (content_at p) p.types most verdict.Vacuous → IsCheckResult p requested (judgement.Vacuous v)
   empty_told v width right = (width_is v width, inl (to_requested verdict.Vacuous right))
 
   -- a pattern that holds, and whether its old side is a number somewhere
   pub right_told : OutcomesDecide → requested ≡ None → IsVerdict (content_at p) p.types most verdict.Vacuous → (b : Bool) → HoldsForOutcomes p × (b ≡ true → IsNeverNumber p → ⊥)
-      → (j : CheckResult) → j ≡ (if b then judgement.AllWidths else judgement.Vacuous (told_width p most)) → IsCheckResult p requested j
+      → (j : CheckResult) → j ≡ (if b then judgement.AllWidths else judgement.Vacuous (report_width p most)) → IsCheckResult p requested j
   right_told law e right true claimed j told = subst (IsCheckResult p requested) (sym told) (wide_told law e right claimed.0 (claimed.1 refl))
-  right_told law e right false claimed j told = subst (IsCheckResult p requested) (sym told) (empty_told (told_width p most) refl right)
+  right_told law e right false claimed j told = subst (IsCheckResult p requested) (sym told) (empty_told (report_width p most) refl right)
 
   wrong_told : (r : Refutation) (j : CheckResult) → requested ≡ None → IsKept p most → IsRefuted p r → IsWrong p r j → IsCheckResult p requested j
   wrong_told r j e kept is_wrong told =
@@ -91,7 +91,7 @@ module _ (p : PatternModel) (requested : Option ℕ) (most : ℕ) (is : most ≡
 
   pub fails_told : (v : Verdict) (c : Counterexample) → v ≡ verdict.Fails c.widths c.values
       → IsVerdict (content_at p) p.types most v → IsFirst (content_at p) p.types most v
-      → c.width ≡ width_told p c.widths.items → IsShown (content_at p c.widths.items) c → IsCheckResult p requested (judgement.Fails c)
+      → c.width ≡ counterexample_width p c.widths.items → IsShown (content_at p c.widths.items) c → IsCheckResult p requested (judgement.Fails c)
   fails_told v c same right first width shown =
       inl
       (subst (λ (m : ℕ). IsFirstFound p m c) is

@@ -19,7 +19,7 @@ use Rattle.user_patterns_registry.specs.declared.check_result.CheckResult.TheVar
 use Rattle.user_patterns_registry.specs.declared.check_result.CheckSummary.{CheckSummary}
 use Rattle.user_patterns_registry.specs.declared.check_result.CheckSummary.TheVariants as said
 use Rattle.user_patterns_registry.specs.Sampled.{IsFirstSample, IsUnrefuted, most_types, wide_widths}
-use Rattle.user_patterns_registry.specs.Shown.{IsShown, told_width, width_told}
+use Rattle.user_patterns_registry.specs.Shown.{IsShown, report_width, counterexample_width}
 
 -- ---- the width
 
@@ -80,14 +80,14 @@ IsSampledIf p (Some w) = Unit {0}
 
 -- the first counterexample among the values up to the width
 pub record IsFirstFound (p : PatternModel) (w : ℕ) (c : Counterexample) : Type 0 where
-  pub width : c.width ≡ width_told p c.widths.items
+  pub width : c.width ≡ counterexample_width p c.widths.items
   pub broken : IsVerdict (content_at p) p.types w (verdict.Fails c.widths c.values)
   pub first : IsFirst (content_at p) p.types w (verdict.Fails c.widths c.values)
   pub shown : IsShown (content_at p c.widths.items) c
 
 -- a result that reports the counterexample of a claim
 abbrev pub IsWrong : PatternModel → Refutation → CheckResult → Type 0
-IsWrong p r j = j ≡ judgement.Refuted (width_told p r.assignment.widths.items) r
+IsWrong p r j = j ≡ judgement.Refuted (counterexample_width p r.assignment.widths.items) r
 
 -- The meaning of each answer of a check. All values are tried at the widths up to the one that was asked, or up to the
 -- default width. The number of an answer is that width, or the width of the widest type if no type is variable.
@@ -99,7 +99,7 @@ IsWrong p r j = j ≡ judgement.Refuted (width_told p r.assignment.widths.items)
 -- - `Refuted`: a counterexample at wider types or with poison, by a claim that fails. Both sides were run.
 abbrev pub IsCheckResult : PatternModel → Option ℕ → CheckResult → Type 0
 IsCheckResult p requested (judgement.Holds v) =
-    (v ≡ told_width p (requested_width p requested))
+    (v ≡ report_width p (requested_width p requested))
     × IsVerdict (content_at p) p.types (requested_width p requested) verdict.Holds
     × (reports_all_widths p requested ≡ false)
     × IsSampledIf p requested
@@ -109,14 +109,14 @@ IsCheckResult p requested judgement.AllWidths =
     × KeepsAtAllWidths p
     × IsProvedAtAllWidths p
 IsCheckResult p requested (judgement.Vacuous v) =
-    (v ≡ told_width p (requested_width p requested))
+    (v ≡ report_width p (requested_width p requested))
     × (IsVerdict (content_at p) p.types (requested_width p requested) verdict.Vacuous
     ⊎ ((requested ≡ None) × IsVerdict (content_at p) p.types (requested_width p requested) verdict.Holds × IsNeverNumber p))
 IsCheckResult p requested (judgement.Fails c) =
     IsFirstFound p (requested_width p requested) c
     ⊎ ((requested ≡ None) × IsVerdict (content_at p) p.types (requested_width p requested) verdict.Holds × IsFirstSample p wide_widths c)
 IsCheckResult p requested (judgement.Refuted w r) =
-    (requested ≡ None) × (w ≡ width_told p r.assignment.widths.items) × IsKept p (requested_width p requested) × IsRefuted p r
+    (requested ≡ None) × (w ≡ counterexample_width p r.assignment.widths.items) × IsKept p (requested_width p requested) × IsRefuted p r
 IsCheckResult p requested (judgement.Sampled v) = ⊥
 
 -- a width that the check refuses: 0, above the limit, or with too many values

@@ -78,12 +78,12 @@ kept_as p vs s = record { name = p.name; text = pattern_text p; variables = vs; 
 unfoldable pub variables_of : parts.Pattern → Outcome (List Variable)
 variables_of p = names_of p >>= λ n. Ok n.variables
 
-unfoldable pub shape_of : parts.Pattern → Outcome PatternModel
-shape_of p = wellformed p >>= λ s. made_ready (ready s)
+unfoldable pub model_of_parts : parts.Pattern → Outcome PatternModel
+model_of_parts p = wellformed p >>= λ s. made_ready (ready s)
 
 -- the registry entry of a parsed pattern
 unfoldable pub kept_of : parts.Pattern → Outcome Kept
-kept_of p = variables_of p >>= λ vs. shape_of p >>= λ t. Ok (kept_as p vs t)
+kept_of p = variables_of p >>= λ vs. model_of_parts p >>= λ t. Ok (kept_as p vs t)
 
 abbrev pub and_kept : RegistryModel → Kept → RegistryModel
 and_kept registry k = registry ++ k ∷ []

@@ -11,11 +11,11 @@ use Rattle.user_patterns_data.specs.Fitting.{content_at}
 use Rattle.user_patterns_data.specs.Shapes.{PatternModel}
 use Rattle.user_patterns_widths.specs.NearLiterals.{near_literals}
 use Rattle.user_patterns_widths.specs.SampledValues.{values_of}
-use Rattle.user_patterns_widths.specs.SampledWidths.{levels, widths_tried}
+use Rattle.user_patterns_widths.specs.SampledWidths.{levels, widths_of_case}
 use Rattle.user_patterns_registry.specs.declared.check_result.Counterexample.{Counterexample}
 use Rattle.user_patterns_registry.specs.declared.check_result.CheckResult.{CheckResult}
 use Rattle.user_patterns_registry.specs.declared.check_result.CheckResult.TheVariants as judgement
-use Rattle.user_patterns_registry.specs.Shown.{IsShown, told_width, width_told}
+use Rattle.user_patterns_registry.specs.Shown.{IsShown, report_width, counterexample_width}
 
 -- ---- the samples
 
@@ -36,22 +36,22 @@ cases [] = 4096
 cases (n ∷ ns) = 1681
 
 -- the check runs over lists of numbers: a level for each type variable, then a case
-abbrev pub tried_bounds : PatternModel → List ℕ → List ℕ
-tried_bounds p near = replicate p.types levels ++ (cases near ∷ [])
+abbrev pub case_bounds : PatternModel → List ℕ → List ℕ
+case_bounds p near = replicate p.types levels ++ (cases near ∷ [])
 
-abbrev pub case_tried : PatternModel → List ℕ → ℕ
-case_tried p numbers = get_or numbers p.types 0
+abbrev pub number_of_case : PatternModel → List ℕ → ℕ
+number_of_case p numbers = get_or numbers p.types 0
 
-abbrev pub values_tried : PatternModel → List ℕ → ℕ → List ℕ → List ℕ
-values_tried p near w numbers = values_of near (case_tried p numbers) (content_at p (widths_tried p w numbers)).value_types
+abbrev pub values_of_case : PatternModel → List ℕ → ℕ → List ℕ → List ℕ
+values_of_case p near w numbers = values_of near (number_of_case p numbers) (content_at p (widths_of_case p w numbers)).value_types
 
 -- whether the pattern refines at the values of a case, at the widths of the levels
-abbrev pub keeps_tried : PatternModel → List ℕ → ℕ → List ℕ → Bool
-keeps_tried p near w numbers = keeps (content_at p (widths_tried p w numbers)) (values_tried p near w numbers)
+abbrev pub refines_at_case : PatternModel → List ℕ → ℕ → List ℕ → Bool
+refines_at_case p near w numbers = keeps (content_at p (widths_of_case p w numbers)) (values_of_case p near w numbers)
 
 -- the first levels and case at which it doesn't
 abbrev pub first_refuting : PatternModel → List ℕ → ℕ → Option (List ℕ)
-first_refuting p near w = first_failing (keeps_tried p near w) (tried_bounds p near)
+first_refuting p near w = first_failing (refines_at_case p near w) (case_bounds p near)
 
 -- ---- the report
 
@@ -60,7 +60,7 @@ abbrev pub IsUnsampled : PatternModel → ℕ → Type 0
 IsUnsampled p w = (w < 1) ⊎ ((most_sampled < w) ⊎ (most_types < p.types))
 
 -- a check that is accepted
-pub record IsTried (p : PatternModel) (w : ℕ) : Type 0 where
+pub record IsAcceptedCheck (p : PatternModel) (w : ℕ) : Type 0 where
   pub low : 1 ≤ w
   pub high : w ≤ most_sampled
   pub types : p.types ≤ most_types
@@ -71,9 +71,9 @@ pub record IsRefuted (p : PatternModel) (near : List ℕ) (w : ℕ) (c : Counter
   pub first :
       (numbers : List ℕ)
       × (first_refuting p near w ≡ Some numbers)
-      × (c.widths.items ≡ widths_tried p w numbers)
-      × (c.values.items ≡ values_tried p near w numbers)
-  pub width : c.width ≡ width_told p c.widths.items
+      × (c.widths.items ≡ widths_of_case p w numbers)
+      × (c.values.items ≡ values_of_case p near w numbers)
+  pub width : c.width ≡ counterexample_width p c.widths.items
   pub broken : keeps (content_at p c.widths.items) c.values.items ≡ false
   pub shown : IsShown (content_at p c.widths.items) c
 
@@ -83,9 +83,9 @@ IsFoundAt p near w None = first_refuting p near w ≡ None
 IsFoundAt p near w (Some c) = IsRefuted p near w c
 
 -- each of these widths is accepted
-abbrev pub AreTried : PatternModel → List ℕ → Type 0
-AreTried p [] = Unit {0}
-AreTried p (w ∷ ws) = IsTried p w × AreTried p ws
+abbrev pub AreAcceptedChecks : PatternModel → List ℕ → Type 0
+AreAcceptedChecks p [] = Unit {0}
+AreAcceptedChecks p (w ∷ ws) = IsAcceptedCheck p w × AreAcceptedChecks p ws
 
 -- none of the samples at these widths is a counterexample
 abbrev pub NoneRefutes : PatternModel → List ℕ → List ℕ → Type 0
@@ -95,7 +95,7 @@ NoneRefutes p near (w ∷ ws) = (first_refuting p near w ≡ None) × NoneRefute
 -- the first counterexample among the samples at these widths
 abbrev pub IsFirstAmong : PatternModel → List ℕ → List ℕ → Counterexample → Type 0
 IsFirstAmong p near [] c = ⊥
-IsFirstAmong p near (w ∷ ws) c = (IsTried p w × IsRefuted p near w c) ⊎ ((first_refuting p near w ≡ None) × IsFirstAmong p near ws c)
+IsFirstAmong p near (w ∷ ws) c = (IsAcceptedCheck p w × IsRefuted p near w c) ⊎ ((first_refuting p near w ≡ None) × IsFirstAmong p near ws c)
 
 abbrev pub IsFoundAmong : PatternModel → List ℕ → List ℕ → Option Counterexample → Type 0
 IsFoundAmong p near ws None = NoneRefutes p near ws
@@ -114,8 +114,8 @@ IsSampledAt p ws None = IsUnrefuted p ws
 IsSampledAt p ws (Some c) = IsFirstSample p ws c
 
 abbrev pub IsSampled : PatternModel → ℕ → CheckResult → Type 0
-IsSampled p w (judgement.Sampled v) = IsTried p w × (v ≡ told_width p w) × IsUnrefuted p (w ∷ [])
-IsSampled p w (judgement.Fails c) = IsTried p w × IsFirstSample p (w ∷ []) c
+IsSampled p w (judgement.Sampled v) = IsAcceptedCheck p w × (v ≡ report_width p w) × IsUnrefuted p (w ∷ [])
+IsSampled p w (judgement.Fails c) = IsAcceptedCheck p w × IsFirstSample p (w ∷ []) c
 IsSampled p w _ = ⊥
 
 -- the widths that are sampled if no width is asked
@@ -138,4 +138,4 @@ IsNotSampled p w _ = ⊥
 -- width, its values are of the variables' kinds, and the pattern doesn't refine at them
 abbrev pub RefutesTruly : Type 0
 RefutesTruly =
-    (p : PatternModel) (near : List ℕ) (w : ℕ) (c : Counterexample) → IsTried p w → IsRefuted p near w c → IsVerdict (content_at p) p.types w (verdict.Fails c.widths c.values)
+    (p : PatternModel) (near : List ℕ) (w : ℕ) (c : Counterexample) → IsAcceptedCheck p w → IsRefuted p near w c → IsVerdict (content_at p) p.types w (verdict.Fails c.widths c.values)

@@ -53,10 +53,10 @@ widest_type ks = greatest (map type_width ks)
 
 -- the width of a check without counterexample: the greatest width of type variables, or the width of the widest type
 -- if there is no type variable
-abbrev pub told_width : PatternModel → ℕ → ℕ
-told_width p most = if p.types == 0 then widest_type p.value_types else most
+abbrev pub report_width : PatternModel → ℕ → ℕ
+report_width p most = if p.types == 0 then widest_type p.value_types else most
 
 -- the width of a counterexample: the greatest of its widths, or the width of the widest type
-abbrev pub width_told : PatternModel → List ℕ → ℕ
-width_told p [] = widest_type p.value_types
-width_told p (w ∷ ws) = greatest (w ∷ ws)
+abbrev pub counterexample_width : PatternModel → List ℕ → ℕ
+counterexample_width p [] = widest_type p.value_types
+counterexample_width p (w ∷ ws) = greatest (w ∷ ws)

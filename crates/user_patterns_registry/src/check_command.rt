@@ -6,7 +6,7 @@ ghost use Rattle.user_patterns_data.specs.Fitting.{content_at};
 ghost use Rattle.user_patterns_data.specs.Shapes.{pattern_model};
 ghost use Rattle.user_patterns_registry.specs.declared.check_result.CheckResult.TheVariants as judgement;
 ghost use Rattle.user_patterns_registry.specs.CheckResult.{IsCheckResult, IsWrong, IsRefused, requested_width, most_requested, reports_all_widths};
-ghost use Rattle.user_patterns_registry.specs.Shown.{IsShown, told_width, width_told};
+ghost use Rattle.user_patterns_registry.specs.Shown.{IsShown, report_width, counterexample_width};
 
 use crate::check_result::{CheckResult, Counterexample};
 use crate::sampling::wide_counterexample;
@@ -39,7 +39,7 @@ pub(crate) fn counterexample(
 ) -> Result<Counterexample, AllocError>
     ensures widths { IfOk result (λ c. c.widths ≡ widths) }
     ensures values { IfOk result (λ c. c.values ≡ values) }
-    ensures width { IfOk result (λ c. c.width ≡ width_told (pattern_model pattern.now) widths.items) }
+    ensures width { IfOk result (λ c. c.width ≡ counterexample_width (pattern_model pattern.now) widths.items) }
     ensures shown { IfOk result (λ c. IsShown (content_at (pattern_model pattern.now) widths.items) c) }
 {
     let sides = pattern.sides(alloc, &widths)?;
@@ -58,7 +58,7 @@ pub(crate) fn counterexample(
 }
 
 /// Returns whether the check of a pattern that holds reports all widths.
-fn tells_for_all_widths(
+fn is_for_all_widths(
     alloc: Global,
     pattern: &Pattern,
     requested: Option<u64>,
@@ -87,7 +87,7 @@ fn held_by_samples(
 {
     match wide_counterexample(alloc, pattern) {
         Ok(Some(found)) => Ok(CheckResult::Fails(found)),
-        Ok(None) => Ok(CheckResult::Holds(widths::told_width(pattern, most))),
+        Ok(None) => Ok(CheckResult::Holds(widths::report_width(pattern, most))),
         Err(_) => Err(Refusal::Memory),
     }
 }
@@ -116,7 +116,7 @@ fn held_by_claims(
 {
     outcomes_decide();
     match decide_claims(alloc, pattern, MOST_TRANSITIONS) {
-        Ok(Answer::Empty) => Ok(CheckResult::Vacuous(widths::told_width(pattern, most))),
+        Ok(Answer::Empty) => Ok(CheckResult::Vacuous(widths::report_width(pattern, most))),
         Ok(Answer::Right(_)) => Ok(CheckResult::AllWidths),
         Ok(Answer::Wrong(found)) => Ok(refuted(pattern, found)),
         Ok(Answer::Open) => held_by_samples(alloc, pattern, requested, most),
@@ -138,19 +138,19 @@ fn held_by_form(
     ensures err { IfErr result (IsRefused (pattern_model pattern.now) most) }
 {
     match requested {
-        Some(_) => Ok(CheckResult::Holds(widths::told_width(pattern, most))),
+        Some(_) => Ok(CheckResult::Holds(widths::report_width(pattern, most))),
         None => held_by_claims(alloc, pattern, requested, most),
     }
 }
 
 /// Returns the result for a pattern that claims prove and whose old side is undefined for all values up to a width.
 fn right_if(pattern: &Pattern, most: u32, somewhere: bool) -> CheckResult
-    ensures { result ≡ (if somewhere then judgement.AllWidths else judgement.Vacuous (told_width (pattern_model pattern.now) most)) }
+    ensures { result ≡ (if somewhere then judgement.AllWidths else judgement.Vacuous (report_width (pattern_model pattern.now) most)) }
 {
     if somewhere {
         CheckResult::AllWidths
     } else {
-        CheckResult::Vacuous(widths::told_width(pattern, most))
+        CheckResult::Vacuous(widths::report_width(pattern, most))
     }
 }
 
@@ -171,8 +171,8 @@ fn empty_by_claims(
     match decide_claims(alloc, pattern, MOST_TRANSITIONS) {
         Ok(Answer::Right(somewhere)) => Ok(right_if(pattern, most, somewhere)),
         Ok(Answer::Wrong(found)) => Ok(refuted(pattern, found)),
-        Ok(Answer::Empty) => Ok(CheckResult::Vacuous(widths::told_width(pattern, most))),
-        Ok(Answer::Open) => Ok(CheckResult::Vacuous(widths::told_width(pattern, most))),
+        Ok(Answer::Empty) => Ok(CheckResult::Vacuous(widths::report_width(pattern, most))),
+        Ok(Answer::Open) => Ok(CheckResult::Vacuous(widths::report_width(pattern, most))),
         Err(_) => Err(Refusal::Memory),
     }
 }
@@ -190,7 +190,7 @@ fn empty(
     ensures err { IfErr result (IsRefused (pattern_model pattern.now) most) }
 {
     match requested {
-        Some(_) => Ok(CheckResult::Vacuous(widths::told_width(pattern, most))),
+        Some(_) => Ok(CheckResult::Vacuous(widths::report_width(pattern, most))),
         None => empty_by_claims(alloc, pattern, requested, most),
     }
 }
@@ -209,7 +209,7 @@ fn held(
     ensures err { IfErr result (IsRefused (pattern_model pattern.now) most) }
 {
     check_holds_at_all_widths();
-    match tells_for_all_widths(alloc, pattern, requested) {
+    match is_for_all_widths(alloc, pattern, requested) {
         Ok(true) => Ok(CheckResult::AllWidths),
         Ok(false) => held_by_form(alloc, pattern, requested, most),
         Err(_) => Err(Refusal::Memory),

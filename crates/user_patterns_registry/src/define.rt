@@ -8,7 +8,7 @@ ghost use Rattle.user_patterns_sema_base.specs.Views.{variable_view, variable_vi
 ghost use Rattle.user_patterns_data.specs.Shapes.{pattern_model};
 ghost use Rattle.user_patterns_registry.specs.Rows.{named_view, named_views};
 ghost use Rattle.user_patterns_build.specs.Unified.{ready};
-ghost use Rattle.user_patterns_registry.specs.Registry.{LastSpells, added, and_kept, registry_model, defined, kept_of, kept_view, made_ready, headroom_for, shape_of, variables_of};
+ghost use Rattle.user_patterns_registry.specs.Registry.{LastSpells, added, and_kept, registry_model, defined, kept_of, kept_view, made_ready, headroom_for, model_of_parts, variables_of};
 
 use crate::registry::{PatternRegistry, RegisteredPattern, find};
 use crate::rows::NamedVariable;
@@ -90,9 +90,9 @@ fn made_ready(alloc: Global, pattern: Pattern) -> Result<Pattern, PatternError>
 }
 
 /// Returns the pattern of parsed parts, ready to be applied.
-#[tactic(auto, unfolding(crate::specs::Registry::shape_of))]
+#[tactic(auto, unfolding(crate::specs::Registry::model_of_parts))]
 fn pattern_of(alloc: Global, parts: &parts::Pattern<'_>) -> Result<Pattern, PatternError>
-    ensures { Returns pattern_model result (shape_of (pattern_view parts.now)) }
+    ensures { Returns pattern_model result (model_of_parts (pattern_view parts.now)) }
 {
     match analyze(alloc, parts) {
         Ok(pattern) => made_ready(alloc, pattern),

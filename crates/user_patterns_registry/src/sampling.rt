@@ -2,11 +2,11 @@
 ghost use Rattle.std.specs.Prelude.{◌≡◌, IfErr, IfOk, Some, option_map};
 ghost use Rattle.user_patterns_data.specs.Shapes.{pattern_model};
 ghost use Rattle.user_patterns_widths.specs.NearLiterals.{near_literals};
-ghost use Rattle.user_patterns_registry.specs.Sampled.{AreTried, IsFoundAmong, IsFoundAt, IsNotSampled, IsRefuted, IsSampled, IsSampledAt, IsWideSampled, NoneRefutes, case_tried, cases, first_refuting, usual};
+ghost use Rattle.user_patterns_registry.specs.Sampled.{AreAcceptedChecks, IsFoundAmong, IsFoundAt, IsNotSampled, IsRefuted, IsSampled, IsSampledAt, IsWideSampled, NoneRefutes, number_of_case, cases, first_refuting, usual};
 
 use crate::check_command::counterexample;
 use crate::check_result::{CheckResult, Counterexample};
-use crate::widths::told_width;
+use crate::widths::report_width;
 use ir_types::refusal::Refusal;
 use std::alloc::{AllocError, Global};
 use user_patterns_check::claim::Claim;
@@ -15,7 +15,7 @@ use user_patterns_check::search;
 use user_patterns_data::pattern::Pattern;
 use user_patterns_widths::near_literals::near_literals;
 use user_patterns_widths::sampled_values::values_of;
-use user_patterns_widths::sampled_widths::{bounds, widths_tried};
+use user_patterns_widths::sampled_widths::{bounds, widths_of_case};
 
 /// The greatest width that a sampled check accepts, and the limit of type variables.
 const MOST_SAMPLED: u64 = 128;
@@ -27,8 +27,8 @@ const CASES: u128 = 4096;
 
 const NEAR_CASES: u128 = 1681;
 
-fn case_tried(pattern: &Pattern, numbers: &[u128]) -> u128
-    ensures { result ≡ case_tried (pattern_model pattern.now) numbers.now }
+fn number_of_case(pattern: &Pattern, numbers: &[u128]) -> u128
+    ensures { result ≡ number_of_case (pattern_model pattern.now) numbers.now }
 {
     if pattern.types < numbers.len() {
         numbers[pattern.types]
@@ -47,14 +47,14 @@ struct SampledCase<'a> {
 
 impl<'a> Claim for SampledCase<'a> {
     ghost use Rattle.user_patterns_data.specs.Shapes.{pattern_model};
-    ghost use Rattle.user_patterns_registry.specs.Sampled.{keeps_tried};
+    ghost use Rattle.user_patterns_registry.specs.Sampled.{refines_at_case};
 
-    ghost holds = { λ c numbers. keeps_tried (pattern_model c.pattern.now) c.near.now c.width numbers };
+    ghost holds = { λ c numbers. refines_at_case (pattern_model c.pattern.now) c.near.now c.width numbers };
 
     fn holds(&self, alloc: Global, numbers: &[u128]) -> Result<bool, AllocError> {
-        let widths = widths_tried(alloc, self.pattern, self.width, numbers)?;
+        let widths = widths_of_case(alloc, self.pattern, self.width, numbers)?;
         let sides = self.pattern.sides(alloc, &widths)?;
-        let case = case_tried(self.pattern, numbers);
+        let case = number_of_case(self.pattern, numbers);
         let values = values_of(alloc, self.near, case, &sides.value_types)?;
         sides.holds(alloc, &values)
     }
@@ -99,9 +99,9 @@ fn refuted(
     requires { first_refuting (pattern_model pattern.now) near.now width ≡ Some numbers.now }
     ensures { IfOk result (IsRefuted (pattern_model pattern.now) near.now width) }
 {
-    let widths = widths_tried(alloc, pattern, width, numbers)?;
+    let widths = widths_of_case(alloc, pattern, width, numbers)?;
     let sides = pattern.sides(alloc, &widths)?;
-    let case = case_tried(pattern, numbers);
+    let case = number_of_case(pattern, numbers);
     let values = values_of(alloc, near, case, &sides.value_types)?;
     counterexample(alloc, pattern, widths, values)
 }
@@ -131,7 +131,7 @@ fn found_among(
     near: &[u128],
     widths: &[u32],
 ) -> Result<Option<Counterexample>, AllocError>
-    requires tried { AreTried (pattern_model pattern.now) widths.now }
+    requires tried { AreAcceptedChecks (pattern_model pattern.now) widths.now }
     ensures { IfOk result (IsFoundAmong (pattern_model pattern.now) near.now widths.now) }
 {
     let [width, tail @ ..] = widths else {
@@ -149,7 +149,7 @@ fn found_near(
     pattern: &Pattern,
     widths: &[u32],
 ) -> Result<Option<Counterexample>, AllocError>
-    requires tried { AreTried (pattern_model pattern.now) widths.now }
+    requires tried { AreAcceptedChecks (pattern_model pattern.now) widths.now }
     requires none { NoneRefutes (pattern_model pattern.now) usual widths.now }
     ensures { IfOk result (IsFoundAmong (pattern_model pattern.now) (near_literals (pattern_model pattern.now)) widths.now) }
 {
@@ -167,7 +167,7 @@ fn sampled_at(
     pattern: &Pattern,
     widths: &[u32],
 ) -> Result<Option<Counterexample>, AllocError>
-    requires tried { AreTried (pattern_model pattern.now) widths.now }
+    requires tried { AreAcceptedChecks (pattern_model pattern.now) widths.now }
     ensures { IfOk result (IsSampledAt (pattern_model pattern.now) widths.now) }
 {
     if let Some(found) = found_among(alloc, pattern, &[], widths)? {
@@ -205,7 +205,7 @@ pub fn sample(alloc: Global, pattern: &Pattern, width: u64) -> Result<CheckResul
     }
     let width = width as u32;
     match sampled_at(alloc, pattern, &[width]) {
-        Ok(None) => Ok(CheckResult::Sampled(told_width(pattern, width))),
+        Ok(None) => Ok(CheckResult::Sampled(report_width(pattern, width))),
         Ok(Some(found)) => Ok(CheckResult::Fails(found)),
         Err(_) => Err(Refusal::Memory),
     }

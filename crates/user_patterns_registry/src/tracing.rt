@@ -13,7 +13,7 @@ use user_patterns_check::step::Step;
 use user_patterns_check::steps::{bind, run};
 
 /// Returns the entry of `env` at `place`, or `None` if `place` is out of bounds.
-fn standing(env: &[Option<Bits>], place: usize) -> Option<Option<Bits>>
+fn binding_at(env: &[Option<Bits>], place: usize) -> Option<Option<Bits>>
     ensures { option_map known_of result ≡ slice_get (map known_of env.now) place }
 {
     if place < env.len() {
@@ -96,7 +96,7 @@ pub(crate) fn old_shown(
     let Some(env) = old_env(alloc, sides, values)? else {
         return Ok(None);
     };
-    Ok(standing(&env, sides.old_result))
+    Ok(binding_at(&env, sides.old_result))
 }
 
 /// Returns the result of the new side, or `None` if a step is undefined.
@@ -113,5 +113,5 @@ pub(crate) fn new_shown(
     let Some(env) = ran(&sides.new, env)? else {
         return Ok(None);
     };
-    Ok(standing(&env, sides.new_result))
+    Ok(binding_at(&env, sides.new_result))
 }

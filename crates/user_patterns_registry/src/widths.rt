@@ -3,7 +3,7 @@ ghost use Rattle.std.specs.Prelude.{◌≡◌, IfOk, map, nat_le, replicate, sum
 ghost use Rattle.ir_types.specs.Bits.{width_of};
 ghost use Rattle.user_patterns_data.specs.Shapes.{pattern_model};
 ghost use Rattle.user_patterns_registry.specs.CheckResult.{requested_width, default_width, is_small};
-ghost use Rattle.user_patterns_registry.specs.Shown.{greatest, told_width, type_width, widest_type, width_told};
+ghost use Rattle.user_patterns_registry.specs.Shown.{greatest, report_width, type_width, widest_type, counterexample_width};
 
 use ir_types::bits::{BitsKind, width};
 use std::alloc::{AllocError, Global};
@@ -129,8 +129,8 @@ fn widest_type(value_types: &[PatternType]) -> u32
 
 /// Returns the width that a check without counterexample reports: `most`, or the width of the widest type if the
 /// pattern has no type variable.
-pub(crate) fn told_width(pattern: &Pattern, most: u32) -> u32
-    ensures { result ≡ told_width (pattern_model pattern.now) most }
+pub(crate) fn report_width(pattern: &Pattern, most: u32) -> u32
+    ensures { result ≡ report_width (pattern_model pattern.now) most }
 {
     if pattern.types == 0 {
         widest_type(&pattern.value_types)
@@ -142,7 +142,7 @@ pub(crate) fn told_width(pattern: &Pattern, most: u32) -> u32
 /// Returns the width of a counterexample: the greatest of `widths`, or the width of the widest type if the pattern has
 /// no type variable.
 pub(crate) fn reported_width(pattern: &Pattern, widths: &[u32]) -> u32
-    ensures { result ≡ width_told (pattern_model pattern.now) widths.now }
+    ensures { result ≡ counterexample_width (pattern_model pattern.now) widths.now }
 {
     if widths.is_empty() {
         widest_type(&pattern.value_types)

@@ -441,14 +441,14 @@ module _ (b : Places) where
 
 -- ---- the end of the analysis
 
-abbrev pub is_told : List PatternType → List ℕ → PatternType → Bool
-is_told ks olds (ty.Concrete k) = true
-is_told ks olds (ty.Variable r) = list_any (λ i. same_kind (kind_of i ks) (ty.Variable r)) olds
+abbrev pub is_determined : List PatternType → List ℕ → PatternType → Bool
+is_determined ks olds (ty.Concrete k) = true
+is_determined ks olds (ty.Variable r) = list_any (λ i. same_kind (kind_of i ks) (ty.Variable r)) olds
 
 -- the types of terms on the right and in conditions are concrete, or occur on the left
-unfoldable pub all_told : List PatternType → List ℕ → List RequiredType → Outcome (Unit {0})
-all_told ks olds [] = Ok tt
-all_told ks olds (t ∷ ts) = if is_told ks olds (kind_of t.slot ks) then all_told ks olds ts else refused TypeMismatch t.left
+unfoldable pub all_determined : List PatternType → List ℕ → List RequiredType → Outcome (Unit {0})
+all_determined ks olds [] = Ok tt
+all_determined ks olds (t ∷ ts) = if is_determined ks olds (kind_of t.slot ks) then all_determined ks olds ts else refused TypeMismatch t.left
 
 -- the literals are in range of their concrete types
 abbrev pub fits : PatternType → Literal → Bool
@@ -485,8 +485,8 @@ unfoldable pub place_in : ℕ → ℕ → List ℕ → Option ℕ
 place_in k r [] = None
 place_in k r (s ∷ ss) = if eqb r s then Some k else place_in (k + 1) r ss
 
-abbrev pub told_slots : List RequiredType → List ℕ
-told_slots ts = map (λ t. t.slot) ts
+abbrev pub determined_slots : List RequiredType → List ℕ
+determined_slots ts = map (λ t. t.slot) ts
 
 -- a type variable, renumbered by its index; a type without an index doesn't occur
 abbrev pub numbered_from : Option ℕ → PatternType
@@ -552,10 +552,10 @@ with_casts f = with_all f (all_cast f.value_types f.type_constraints f.casts)
 
 -- all types are known, literals are in range, and index casts are valid
 abbrev pub settled : Sema → Outcome Sema
-settled f = all_told f.value_types f.old_types f.new_types >>= λ told. all_fit f.value_types f.literals >>= λ fit. with_casts f
+settled f = all_determined f.value_types f.old_types f.new_types >>= λ told. all_fit f.value_types f.literals >>= λ fit. with_casts f
 
 abbrev pub variables_found : Sema → List ℕ
-variables_found f = found_in f.value_types (found_in f.value_types [] f.old_types) (told_slots f.new_types)
+variables_found f = found_in f.value_types (found_in f.value_types [] f.old_types) (determined_slots f.new_types)
 
 -- the number of type variables, and the types
 abbrev pub kinds_found : List ℕ → List PatternType → ℕ × List PatternType

@@ -9,7 +9,7 @@ ghost use Rattle.user_patterns_sema.specs.SemaViews.{sema_view, places_view};
 ghost use Rattle.user_patterns_sema_base.specs.Types.{kind_of};
 ghost use Rattle.user_patterns_sema.specs.Ending.{ended, pattern_of};
 ghost use Rattle.user_patterns_sema.specs.EndViews.{ends_view};
-ghost use Rattle.user_patterns_sema.specs.Sema.{all_cast, all_fit, all_numbered, all_told, cast_requested, checked, constants_of, fits, found_in, is_index, is_told, kinds_found, numbered, place_in, settled, told_slots, variables_found, with_casts, with_kind};
+ghost use Rattle.user_patterns_sema.specs.Sema.{all_cast, all_fit, all_numbered, all_determined, cast_requested, checked, constants_of, fits, found_in, is_index, is_determined, kinds_found, numbered, place_in, settled, determined_slots, variables_found, with_casts, with_kind};
 
 use crate::state::{CastConstraint, LiteralAt, RequiredType, Sema, ValueLayout};
 use ir_text_tokens::refusal::TextRefusal;
@@ -36,8 +36,8 @@ pub struct SemaResult {
 }
 
 /// Returns whether a type is concrete or is the type of a term on the left.
-fn is_told(value_types: &[PatternType], olds: &[usize], kind: PatternType) -> bool
-    ensures { result ≡ is_told value_types.now olds.now kind }
+fn is_determined(value_types: &[PatternType], olds: &[usize], kind: PatternType) -> bool
+    ensures { result ≡ is_determined value_types.now olds.now kind }
 {
     let PatternType::Variable(variable) = kind else {
         return true;
@@ -53,17 +53,17 @@ fn is_told(value_types: &[PatternType], olds: &[usize], kind: PatternType) -> bo
 }
 
 /// Refuses the first required type that isn't known with `TypeMismatch`.
-#[tactic(auto, unfolding(crate::specs::Sema::all_told))]
-fn all_told(
+#[tactic(auto, unfolding(crate::specs::Sema::all_determined))]
+fn all_determined(
     value_types: &[PatternType],
     olds: &[usize],
     told: &[RequiredType],
 ) -> Result<(), PatternError>
-    ensures { Returns (λ _. tt) result (all_told value_types.now olds.now told.now) }
+    ensures { Returns (λ _. tt) result (all_determined value_types.now olds.now told.now) }
 {
     let mut rest = told;
     'types: while let [one, tail @ ..] = rest {
-        if !is_told(value_types, olds, kind_of(one.slot, value_types)) {
+        if !is_determined(value_types, olds, kind_of(one.slot, value_types)) {
             return Err(refused(TextRefusal::TypeMismatch, one.left));
         }
         rest = tail;
@@ -206,12 +206,12 @@ fn found_in(
 
 /// Appends the type variables of required types.
 #[tactic(auto, unfolding(crate::specs::Sema::found_in))]
-fn found_in_told(
+fn found_in_determined(
     value_types: &[PatternType],
     found: &mut Vec<usize>,
     told: &[RequiredType],
 ) -> Result<(), PatternError>
-    ensures { Returns (λ _. found.new.items) result (Ok (found_in value_types.now found.old.items (told_slots told.now))) }
+    ensures { Returns (λ _. found.new.items) result (Ok (found_in value_types.now found.old.items (determined_slots told.now))) }
 {
     let mut rest = told;
     'types: while let [one, tail @ ..] = rest {
@@ -321,14 +321,14 @@ fn constants_of(alloc: Global, variables: &[Variable<'_>]) -> Result<Vec<usize>,
 
 /// Returns the type variables of all terms, in the order of the text.
 fn variables_found(alloc: Global, sema: &Sema<'_>) -> Result<Vec<usize>, PatternError>
-    ensures { Returns (λ v. v.items) result (Ok (found_in sema.now.types.value_types.items (found_in sema.now.types.value_types.items [] sema.now.old_types.items) (told_slots sema.now.new_types.items))) }
+    ensures { Returns (λ v. v.items) result (Ok (found_in sema.now.types.value_types.items (found_in sema.now.types.value_types.items [] sema.now.old_types.items) (determined_slots sema.now.new_types.items))) }
 {
     let mut found = Vec::new(alloc);
     match found_in(&sema.types.value_types, &mut found, &sema.old_types) {
         Ok(()) => {}
         Err(e) => return Err(e),
     }
-    match found_in_told(&sema.types.value_types, &mut found, &sema.new_types) {
+    match found_in_determined(&sema.types.value_types, &mut found, &sema.new_types) {
         Ok(()) => Ok(found),
         Err(e) => Err(e),
     }
@@ -361,7 +361,7 @@ fn checked(pattern: Pattern) -> Result<Pattern, PatternError>
 pub(crate) fn settled<'a>(sema: &mut Sema<'a>) -> Result<(), PatternError>
     ensures { Returns (λ _. sema_view sema.new) result (settled (sema_view sema.old)) }
 {
-    match all_told(&sema.types.value_types, &sema.old_types, &sema.new_types) {
+    match all_determined(&sema.types.value_types, &sema.old_types, &sema.new_types) {
         Ok(()) => {}
         Err(e) => return Err(e),
     }

@@ -11,7 +11,7 @@ use Rattle.ir_text_types.specs.Typed.{Text}
 use Rattle.user_patterns_text.specs.Syntax.{Number, Numbers, literal, named, called, numbers_of, Term, operation, value_of, constant_of, terms_of, Condition, narrower, asking, is_operation}
 use Rattle.user_patterns_text.specs.Syntax as syntax
 use Rattle.user_patterns_text.specs.Grammar.{most, old_depth, new_depth}
-use Rattle.user_patterns_text.specs.Heads.{Head, of_value, of_operation, of_word, of_digits, of_minus, of_other, head_of, magnitude_of, is_type_word, is_one_of, folding, may_ask, may_be_requested, must_be_requested}
+use Rattle.user_patterns_text.specs.Heads.{Head, of_value, of_operation, of_word, of_digits, of_minus, of_other, head_of, magnitude_of, is_type_word, is_one_of, folding, is_allowed_word, may_be_requested, must_be_requested}
 use Rattle.user_patterns_text.specs.Recognizing as plain
 use Rattle.user_patterns_text.specs.Recognizing.{given}
 use Rattle.user_patterns_text.specs.Parts.{Part, operation_part, value_part, literal_part, name_part, function_part, condition_part, type_part, end_part, Placed, Pattern, unplaced, type_parts, closed, number_parts, numbers_parts, term_parts, terms_parts, condition_parts, conditions_parts, AreParts}
@@ -146,7 +146,7 @@ allowed_if false at w rest = subst (Same (refused Unexpected at)) (sym (given_no
 
 requested_same : (name : List ℕ) (s : Text) → Same (reading.requested_at name s) (plain.requested name s)
 unfolding reading.requested_at
-requested_same name s = same_then (reading.word_at s) (plain.word s) _ _ (word_same s) (λ w. allowed_if (may_ask name w.0) (begins s) w.0 w.1)
+requested_same name s = same_then (reading.word_at s) (plain.word s) _ _ (word_same s) (λ w. allowed_if (is_allowed_word name w.0) (begins s) w.0 w.1)
 
 requested_from_same : (may must : Bool) (name : List ℕ) (s : Text) (o : Option Text)
     → Same (reading.requested_from may must name s o) (plain.either_from (plain.when may (plain.requested name)) (plain.done_if (not must) None) s o)

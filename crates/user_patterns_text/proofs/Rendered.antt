@@ -4,7 +4,7 @@ use Rattle.ir_text_tokens.specs.declared.token.Mark.TheVariants.{OpenRound, Clos
 use Rattle.ir_text_types.specs.Grammars.{Grammar}
 use Rattle.ir_text_types.specs.Typed.{Text}
 use Rattle.user_patterns_text.specs.Syntax.{Number, literal, named, called, numbers_of, Term, operation, value_of, constant_of, terms_of, narrower, asking, is_operation}
-use Rattle.user_patterns_text.specs.Heads.{Head, of_value, of_operation, of_word, of_digits, of_minus, of_other, head_of, magnitude_of, is_type_word, is_one_of, folding, may_ask, may_be_requested, must_be_requested}
+use Rattle.user_patterns_text.specs.Heads.{Head, of_value, of_operation, of_word, of_digits, of_minus, of_other, head_of, magnitude_of, is_type_word, is_one_of, folding, is_allowed_word, may_be_requested, must_be_requested}
 use Rattle.user_patterns_text.specs.Grammar.{most, old_depth, new_depth, IsWordOf, IsWord, IsType, IsTyped, IsDigits, IsMagnitudeOf, IsMagnitude, IsCalled, IsNumberOf, IsNumber, IsRequested, IsRequestedBy, IsOldNumberOf, IsValue, IsOperation, IsConstant, IsTermOf, IsValueOf, IsOld, IsNew, IsConditionOf, IsCondition, IsRequestedAtEnd, IsPattern}
 use Rattle.user_patterns_text.specs.Recognizing.{Reader, word_of, word, type, typed, digits, magnitude_from, magnitude, call, number_from, number, requested, requested_by, old_number_from, value_from, operation_from, constant_from, term_from, deep_value, old_term, new_term, condition_from, condition, conditions, read}
 use Rattle.user_patterns_text.proofs.Exact.{Exact, fail_exact, done_exact, done_if_exact, done_unless_exact, when_exact, mark_exact, then_exact, either_exact, trailing_exact, more_exact, listed_exact, given_some, same_pair}
@@ -68,7 +68,7 @@ number_exact (suc depth) = trailing_exact (λ l. number_from_exact (number_exact
 -- ---- terms
 
 requested_exact : (name : List ℕ) → Exact (requested name) (IsRequested name)
-requested_exact name = then_exact word_exact (λ w. mark_exact (done_if_exact (may_ask name w) (Some w)) Greater)
+requested_exact name = then_exact word_exact (λ w. mark_exact (done_if_exact (is_allowed_word name w) (Some w)) Greater)
 
 requested_by_exact : (may must : Bool) (name : List ℕ) → Exact (requested_by may must name) (IsRequestedBy may must name)
 requested_by_exact may must name = either_exact (when_exact (requested_exact name) may) (done_unless_exact must None) Less

@@ -5,7 +5,7 @@ use Rattle.ir_text_tokens.specs.Tokens.{Lexeme}
 use Rattle.ir_text_types.specs.Grammars.{Grammar, Then, Done, DoneIf, When, After, Either, IsList, IsMore, Token, IsMark}
 use Rattle.ir_text_types.specs.Typed.{Text}
 use Rattle.user_patterns_text.specs.Syntax.{Number, literal, named, called, numbers_of, Term, operation, value_of, constant_of, terms_of, Condition, narrower, asking, Pattern, is_operation}
-use Rattle.user_patterns_text.specs.Heads.{Head, of_value, of_operation, of_word, of_digits, of_minus, of_other, head_of, magnitude_of, is_type_word, is_one_of, folding, may_ask, may_be_requested, must_be_requested}
+use Rattle.user_patterns_text.specs.Heads.{Head, of_value, of_operation, of_word, of_digits, of_minus, of_other, head_of, magnitude_of, is_type_word, is_one_of, folding, is_allowed_word, may_be_requested, must_be_requested}
 
 -- the greatest number of items in a list, and the greatest depth of terms on the left and on the right
 abbrev pub most : ℕ
@@ -84,7 +84,7 @@ IsNumber (suc depth) = Following (λ l. IsNumberOf (IsNumber depth) (head_of l))
 
 -- the constraint of an operation, in angle brackets
 abbrev pub IsRequested : List ℕ → Grammar Text (Option (List ℕ))
-IsRequested name = Then IsWord (λ w. After IsMark Greater (DoneIf (may_ask name w ≡ true) (Some w)))
+IsRequested name = Then IsWord (λ w. After IsMark Greater (DoneIf (is_allowed_word name w ≡ true) (Some w)))
 
 abbrev pub IsRequestedBy : Bool → Bool → List ℕ → Grammar Text (Option (List ℕ))
 IsRequestedBy may must name = Either IsMark Less (When (may ≡ true) (IsRequested name)) (DoneIf (must ≡ false) None)

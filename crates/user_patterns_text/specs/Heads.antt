@@ -87,8 +87,8 @@ abbrev pub is_comparison : List ℕ → Bool
 is_comparison w = bytes_eq w (codes "arith.cmpi")
 
 -- the words that are allowed in angle brackets after the name of an operation
-abbrev pub may_ask : List ℕ → List ℕ → Bool
-may_ask name w = if is_comparison name then is_one_of predicates w else bytes_eq w (codes "none")
+abbrev pub is_allowed_word : List ℕ → List ℕ → Bool
+is_allowed_word name w = if is_comparison name then is_one_of predicates w else bytes_eq w (codes "none")
 
 -- whether an operation needs a constraint, and whether it may have one on that side
 abbrev pub must_be_requested : List ℕ → Bool

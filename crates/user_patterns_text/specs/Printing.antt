@@ -4,7 +4,7 @@ use Rattle.std.specs.Fmt.{decimal}
 use Rattle.ir_text_tokens.specs.Printing.{is_bare_id, is_suffix_id}
 use Rattle.ir_text_types.specs.Typed.{Text}
 use Rattle.user_patterns_text.specs.Syntax.{Number, Numbers, literal, named, called, no_numbers, next_number, number_list, numbers_of, Term, Terms, operation, value_of, constant_of, no_terms, next_term, term_list, Condition, narrower, asking, Pattern, is_operation}
-use Rattle.user_patterns_text.specs.Heads.{has_dot, is_type_word, is_one_of, folding, may_ask, may_be_requested, must_be_requested}
+use Rattle.user_patterns_text.specs.Heads.{has_dot, is_type_word, is_one_of, folding, is_allowed_word, may_be_requested, must_be_requested}
 use Rattle.user_patterns_text.specs.Grammar.{most, old_depth, new_depth}
 use Rattle.user_patterns_text.specs.Recognizing.{read}
 
@@ -79,7 +79,7 @@ FitsType (Some w) = IsName w × (is_type_word w ≡ true)
 
 abbrev pub FitsRequested : Bool → List ℕ → Option (List ℕ) → Type 0
 FitsRequested left name None = must_be_requested name ≡ false
-FitsRequested left name (Some w) = IsName w × (may_be_requested left name ≡ true) × (may_ask name w ≡ true)
+FitsRequested left name (Some w) = IsName w × (may_be_requested left name ≡ true) × (is_allowed_word name w ≡ true)
 
 abbrev pub IsOperationName : List ℕ → Type 0
 IsOperationName name = (is_bare_id name ≡ true) × (has_dot name ≡ true) × (is_one_of folding name ≡ true)

@@ -7,7 +7,7 @@ use Rattle.ir_text_tokens.specs.declared.token.Mark.TheVariants.{OpenRound, Clos
 use Rattle.ir_text_types.specs.Marks.{after}
 use Rattle.ir_text_types.specs.Typed.{Text}
 use Rattle.user_patterns_text.specs.Grammar.{most, old_depth, new_depth}
-use Rattle.user_patterns_text.specs.Heads.{Head, of_value, of_operation, of_word, of_digits, of_minus, of_other, head_of, magnitude_of, is_type_word, is_one_of, folding, may_ask, may_be_requested, must_be_requested}
+use Rattle.user_patterns_text.specs.Heads.{Head, of_value, of_operation, of_word, of_digits, of_minus, of_other, head_of, magnitude_of, is_type_word, is_one_of, folding, is_allowed_word, may_be_requested, must_be_requested}
 use Rattle.user_patterns_text.specs.Parts.{Part, operation_part, value_part, literal_part, name_part, function_part, condition_part, type_part, end_part, Placed, Pattern}
 use Rattle.user_patterns_text.specs.Refusing.{Outcome, ◌>>=◌, refused, begins, token_at, wrong, trailing}
 
@@ -139,7 +139,7 @@ old_number_from at (of_operation w) = refuse Unexpected at
 old_number_from at of_other = refuse Unexpected at
 
 abbrev pub allowed : List ℕ → ℕ → List ℕ × Text → Outcome (Option (List ℕ) × Text)
-allowed name at w = if may_ask name w.0 then (trailing Greater w.1 >>= λ rest. Ok (Some w.0, rest)) else refused Unexpected at
+allowed name at w = if is_allowed_word name w.0 then (trailing Greater w.1 >>= λ rest. Ok (Some w.0, rest)) else refused Unexpected at
 
 -- the constraint after the opening angle bracket
 unfoldable pub requested_at : List ℕ → Text → Outcome (Option (List ℕ) × Text)

@@ -6,7 +6,7 @@ use Rattle.ir_text_tokens.specs.Tokens.{Lexeme, next}
 use Rattle.ir_text_types.specs.Marks.{after}
 use Rattle.ir_text_types.specs.Typed.{Text}
 use Rattle.user_patterns_text.specs.Syntax.{Number, literal, named, called, numbers_of, Term, operation, value_of, constant_of, terms_of, Condition, narrower, asking, Pattern, is_operation}
-use Rattle.user_patterns_text.specs.Heads.{Head, of_value, of_operation, of_word, of_digits, of_minus, of_other, head_of, magnitude_of, is_type_word, is_one_of, folding, may_ask, may_be_requested, must_be_requested}
+use Rattle.user_patterns_text.specs.Heads.{Head, of_value, of_operation, of_word, of_digits, of_minus, of_other, head_of, magnitude_of, is_type_word, is_one_of, folding, is_allowed_word, may_be_requested, must_be_requested}
 use Rattle.user_patterns_text.specs.Grammar.{most, old_depth, new_depth}
 
 -- what is read, and the rest of the text
@@ -111,7 +111,7 @@ number (suc depth) = trailing (λ l. number_from (number depth) (head_of l))
 -- ---- terms
 
 abbrev pub requested : List ℕ → Reader (Option (List ℕ))
-requested name = and_then word (λ w. after_mark Greater (done_if (may_ask name w) (Some w)))
+requested name = and_then word (λ w. after_mark Greater (done_if (is_allowed_word name w) (Some w)))
 
 abbrev pub requested_by : Bool → Bool → List ℕ → Reader (Option (List ℕ))
 requested_by may must name = either Less (when may (requested name)) (done_if (not must) None)

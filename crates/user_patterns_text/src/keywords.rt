@@ -1,6 +1,6 @@
 //! The words of the pattern language.
 ghost use Rattle.std.specs.Prelude.{◌≡◌, ◌∷◌, [], codes, drop, take};
-ghost use Rattle.user_patterns_text.specs.Heads.{flagged, folding, is_comparison, is_integer_word, is_one_of, is_type_word, may_ask, may_be_requested, must_be_requested, predicates};
+ghost use Rattle.user_patterns_text.specs.Heads.{flagged, folding, is_comparison, is_integer_word, is_one_of, is_type_word, is_allowed_word, may_be_requested, must_be_requested, predicates};
 
 use ir_text_tokens::numbers::are_digits;
 use ir_text_types::scalars::scalar_of;
@@ -94,8 +94,8 @@ fn is_comparison(word: &[u8]) -> bool
 
 /// Returns whether `word` is a valid constraint in angle brackets after the operation `name`: a predicate after a
 /// comparison, `none` after another operation.
-pub(crate) fn may_ask(name: &[u8], word: &[u8]) -> bool
-    ensures { result ≡ may_ask name.now word.now }
+pub(crate) fn is_allowed_word(name: &[u8], word: &[u8]) -> bool
+    ensures { result ≡ is_allowed_word name.now word.now }
 {
     if is_comparison(name) {
         is_predicate(word)

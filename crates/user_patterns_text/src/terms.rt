@@ -9,7 +9,7 @@ ghost use Rattle.user_patterns_text.specs.Reading.{requested_at, requested_by, c
 
 use crate::error::PatternError;
 use crate::heads::{TokenKind, head_of};
-use crate::keywords::{is_folding, may_ask, may_be_requested, must_be_requested};
+use crate::keywords::{is_allowed_word, is_folding, may_be_requested, must_be_requested};
 use crate::numbers::{MOST, literal, magnitude, number_after, typed, word};
 use crate::parts::{Part, PartKind, push_part};
 use crate::steps::{begins, expect, refused, token, wrong};
@@ -26,7 +26,7 @@ fn angle_arguments<'a>(
     ensures { Returns (λ x. (option_map bytes_of x.0, x.1.now)) result (requested_at name.now bytes.now) }
 {
     let (found, rest) = word(bytes)?;
-    if !may_ask(name, found) {
+    if !is_allowed_word(name, found) {
         return Err(refused(TextRefusal::Unexpected, begins(bytes)));
     }
     let rest = expect(rest, Mark::Greater)?;

@@ -18,7 +18,7 @@ use Rattle.user_patterns_widths.specs.Lasting.{PolynomialsKeep}
 use Rattle.user_patterns_widths.proofs.PolyZero.{ones_same}
 use Rattle.user_patterns_widths.proofs.PolyOutcomes.{Stands, is_below, is_wide}
 use Rattle.user_patterns_widths.proofs.PolyPlaces.{AllStand, IsPreceding, found_at, preceding_at, preceding_of_steps, precedings, given_some, number_at}
-use Rattle.user_patterns_widths.proofs.PolyRuns.{extras_stand, news_run, numbers_stand, olds_stand, values_stand}
+use Rattle.user_patterns_widths.proofs.PolyRuns.{extras_stand, news_run, numbers_are_valid, olds_are_valid, values_stand}
 
 -- ---- the pattern
 
@@ -106,8 +106,8 @@ module _ (ks : List BitsKind) (p : PatternModel) (one : OneType p) (side : Sides
   abbrev k : BitsKind
   k = kind_at ks one.t
 
-  old_stands : (values : List ℕ) (env : List Outcome) (s : Steps ks p values env) → AllStand k (number_at s.numbers) side.old env
-  old_stands values env s =
+  old_is_valid : (values : List ℕ) (env : List Outcome) (s : Steps ks p values env) → AllStand k (number_at s.numbers) side.old env
+  old_is_valid values env s =
       let fin = s.numbers in
       let V = number_at fin in
       let f = and_parts (list_all (is_requested ks) p.type_constraints) (list_all (extra_fits ks) p.extra && list_all (number_fits ks) p.given) s.fitting in
@@ -117,14 +117,14 @@ module _ (ks : List BitsKind) (p : PatternModel) (one : OneType p) (side : Sides
       (preceding_of_steps (map (number_step ks) p.given) s.extra fin s.numbers_are)) in
       let a = values_stand ks one.t fin p.values values [] [] s.bounds one.values s.bounds_are preceding tt in
       let b = extras_stand ks one.t fin p.extra (formal_values p.values []) s.bounds s.extra one.extra g.0 s.extra_are a in
-      let c = numbers_stand ks one.t fin p.given (formal_extras p.extra (formal_values p.values [])) s.extra one.numbers g.1 s.numbers_are b in
-      olds_stand ks one.t V p.old (formal_given p) side.old fin env side.old_is s.old_are c
+      let c = numbers_are_valid ks one.t fin p.given (formal_extras p.extra (formal_values p.values [])) s.extra one.numbers g.1 s.numbers_are b in
+      olds_are_valid ks one.t V p.old (formal_given p) side.old fin env side.old_is s.old_are c
 
   refined : (values : List ℕ) (env : List Outcome) (s : Steps ks p values env) (old : Outcome) → slice_get env p.root ≡ Some old
       → new_refines old (shown p.result (run (map (new_step ks) p.new) env)) ≡ true
   refined values env s old is =
       let V = number_at s.numbers in
-      let r = news_run ks one.t V p.new side.old side.new env side.new_is (old_stands values env s) in
+      let r = news_run ks one.t V p.new side.old side.new env side.new_is (old_is_valid values env s) in
       let preceding = preceding_of_steps (map (new_step ks) p.new) env r.env r.is in
       let x = found_at k V side.new r.env p.root side.root r.stand side.root_is in
       let y = found_at k V side.new r.env p.result side.result r.stand side.result_is in

@@ -17,7 +17,7 @@ use Rattle.user_patterns_widths.specs.Polynomials.{value_at}
 use Rattle.user_patterns_widths.specs.AllWidths.{Formal, formal_form, formal_extra, formal_extras, formal_new, formal_news, formal_number, formal_numbers, formal_olds, formal_values, extra_has, number_has}
 use Rattle.user_patterns_widths.proofs.PolyPlaces.{AllStand, IsPreceding, preceding_itself, preceding_of_steps, preceding_shorter, given_some, number_at, stand_more}
 use Rattle.user_patterns_widths.proofs.PolyOutcomes.{Gives}
-use Rattle.user_patterns_widths.proofs.PolySteps.{IsKnown, form_gives, extra_stands, gave, new_gives, next_stands, number_stands}
+use Rattle.user_patterns_widths.proofs.PolySteps.{IsKnown, form_gives, extra_is_valid, gave, new_gives, next_stands, number_is_valid}
 
 -- ---- values
 
@@ -65,29 +65,29 @@ module _ (ks : List BitsKind) (t : ℕ) where
         let f = and_parts (extra_fits ks n) (list_all (extra_fits ks) ns) fit in
         let g = given_some (step_of (extra_step ks n) xs) (λ v. run (map (extra_step ks) ns) (xs ++ (v ∷ []))) ys e in
         extras_stand ns (fs ++ (formal_extra n fs ∷ [])) (xs ++ (g.0 ∷ [])) ys h.1 f.1 g.2
-        (stand_more k V fs xs (formal_extra n fs) g.0 stand (extra_stands V ks t n fs xs g.0 stand h.0 f.0 g.1))
+        (stand_more k V fs xs (formal_extra n fs) g.0 stand (extra_is_valid V ks t n fs xs g.0 stand h.0 f.0 g.1))
 
-    pub numbers_stand : (ns : List ConstantExpression) (fs : Formal) (xs : List Outcome) → list_all (number_has t) ns ≡ true → list_all (number_fits ks) ns ≡ true
+    pub numbers_are_valid : (ns : List ConstantExpression) (fs : Formal) (xs : List Outcome) → list_all (number_has t) ns ≡ true → list_all (number_fits ks) ns ≡ true
         → run (map (number_step ks) ns) xs ≡ Some fin → AllStand k V fs xs → AllStand k V (formal_numbers ns fs) fin
-    numbers_stand [] fs xs has fit e stand = subst (AllStand k V fs) (same_Some xs fin e) stand
-    numbers_stand (n ∷ ns) fs xs has fit e stand =
+    numbers_are_valid [] fs xs has fit e stand = subst (AllStand k V fs) (same_Some xs fin e) stand
+    numbers_are_valid (n ∷ ns) fs xs has fit e stand =
         let h = and_parts (number_has t n) (list_all (number_has t) ns) has in
         let f = and_parts (number_fits ks n) (list_all (number_fits ks) ns) fit in
         let g = given_some (step_of (number_step ks n) xs) (λ v. run (map (number_step ks) ns) (xs ++ (v ∷ []))) fin e in
         let preceding = preceding_of_steps (map (number_step ks) ns) (xs ++ (g.0 ∷ [])) fin g.2 in
-        numbers_stand ns (fs ++ (formal_number n fs ∷ [])) (xs ++ (g.0 ∷ [])) h.1 f.1 g.2
-        (stand_more k V fs xs (formal_number n fs) g.0 stand (number_stands ks t fin n fs xs g.0 stand preceding h.0 f.0 g.1))
+        numbers_are_valid ns (fs ++ (formal_number n fs ∷ [])) (xs ++ (g.0 ∷ [])) h.1 f.1 g.2
+        (stand_more k V fs xs (formal_number n fs) g.0 stand (number_is_valid ks t fin n fs xs g.0 stand preceding h.0 f.0 g.1))
 
   -- ---- both sides
 
   module _ (V : ℕ → ℕ) where
-    pub olds_stand : (os : List PatternOp) (fs gs : Formal) (xs ys : List Outcome) → formal_olds os fs ≡ Some gs → run (map (pattern_op_step ks) os) xs ≡ Some ys → AllStand k V fs xs → AllStand k V gs ys
-    olds_stand [] fs gs xs ys f e stand = subst (AllStand k V gs) (same_Some xs ys e) (subst (λ fs. AllStand k V fs xs) (same_Some fs gs f) stand)
-    olds_stand (o ∷ os) fs gs xs ys f e stand =
+    pub olds_are_valid : (os : List PatternOp) (fs gs : Formal) (xs ys : List Outcome) → formal_olds os fs ≡ Some gs → run (map (pattern_op_step ks) os) xs ≡ Some ys → AllStand k V fs xs → AllStand k V gs ys
+    olds_are_valid [] fs gs xs ys f e stand = subst (AllStand k V gs) (same_Some xs ys e) (subst (λ fs. AllStand k V fs xs) (same_Some fs gs f) stand)
+    olds_are_valid (o ∷ os) fs gs xs ys f e stand =
         let q = given_some (formal_form o.form fs) (λ q. formal_olds os (fs ++ (Some q ∷ []))) gs f in
         let g = given_some (step_of (pattern_op_step ks o) xs) (λ v. run (map (pattern_op_step ks) os) (xs ++ (v ∷ []))) ys e in
         let here = gave k V fs xs stand q.0 (step_of (pattern_op_step ks o) xs) g.0 g.1 (form_gives k V fs xs stand (kind_at ks o.ty) o.form q.0 q.1) in
-        olds_stand os (fs ++ (Some q.0 ∷ [])) gs (xs ++ (g.0 ∷ [])) ys q.2 g.2 (stand_more k V fs xs (Some q.0) g.0 stand here)
+        olds_are_valid os (fs ++ (Some q.0 ∷ [])) gs (xs ++ (g.0 ∷ [])) ys q.2 g.2 (stand_more k V fs xs (Some q.0) g.0 stand here)
 
     pub record Ran (gs : Formal) (r : Option (List Outcome)) : Type 0 where
       pub env : List Outcome

@@ -132,10 +132,10 @@ module _ (V : ℕ → ℕ) where
       → step_of (written_step ks l) xs ≡ Some x → Stands (kind_at ks t) V (formal_literal l) x
   written_stands ks t l xs x has there e = subst (λ u. Stands (kind_at ks u) V (formal_literal l) x) (eqb-true l.ty t has) (literal_stands (kind_at ks l.ty) l.negative l.magnitude x there e)
 
-  pub extra_stands : (ks : List BitsKind) (t : ℕ) (f : ExtraConstant) (fs : Formal) (xs : List Outcome) (x : Outcome) → AllStand (kind_at ks t) V fs xs
+  pub extra_is_valid : (ks : List BitsKind) (t : ℕ) (f : ExtraConstant) (fs : Formal) (xs : List Outcome) (x : Outcome) → AllStand (kind_at ks t) V fs xs
       → extra_has t f ≡ true → extra_fits ks f ≡ true → step_of (extra_step ks f) xs ≡ Some x → StandsAt (kind_at ks t) V (formal_extra f fs) x
-  extra_stands ks t (extra.Literal l) fs xs x stand has there e = written_stands ks t l xs x has there e
-  extra_stands ks t (extra.SameAs i) fs xs x stand has there e =
+  extra_is_valid ks t (extra.Literal l) fs xs x stand has there e = written_stands ks t l xs x has there e
+  extra_is_valid ks t (extra.SameAs i) fs xs x stand has there e =
       gave_at (kind_at ks t) V fs xs stand (formal_at i fs) (step_of (again_step i) xs) x e (again_gives (kind_at ks t) V fs xs stand i)
 
 -- ---- of numbers
@@ -207,14 +207,14 @@ module _ (k : BitsKind) where
       pair_at o i j true bit e = next_at (formal_at i fs) (formal_at j fs) (bitwise_at o i j bit e)
       pair_at o i j false bit e = gave_at k V fs xs stand (formal_of o i j fs) (given (slice_get xs i) (λ x. given (slice_get xs j) (λ y. pair_outcome o x y))) x e (of_gives k V fs xs stand o i j)
 
-pub number_stands : (ks : List BitsKind) (t : ℕ) (fin : List Outcome) (n : ConstantExpression) (fs : Formal) (xs : List Outcome) (x : Outcome) → AllStand (kind_at ks t) (number_at fin) fs xs
+pub number_is_valid : (ks : List BitsKind) (t : ℕ) (fin : List Outcome) (n : ConstantExpression) (fs : Formal) (xs : List Outcome) (x : Outcome) → AllStand (kind_at ks t) (number_at fin) fs xs
     → IsPreceding (xs ++ (x ∷ [])) fin → number_has t n ≡ true → number_fits ks n ≡ true → step_of (number_step ks n) xs ≡ Some x → StandsAt (kind_at ks t) (number_at fin) (formal_number n fs) x
-number_stands ks t fin (number.Literal l) fs xs x stand preceding has there e = written_stands (number_at fin) ks t l xs x has there e
-number_stands ks t fin (number.Width u) fs xs x stand preceding has there e =
+number_is_valid ks t fin (number.Literal l) fs xs x stand preceding has there e = written_stands (number_at fin) ks t l xs x has there e
+number_is_valid ks t fin (number.Width u) fs xs x stand preceding has there e =
     let known = constant_known (kind_at ks u) (width_of (kind_at ks u) % 2 ^ width_of (kind_at ks u)) x e in
     let is : IsKnown (kind_at ks u) x = record { value = width_of (kind_at ks u) % 2 ^ width_of (kind_at ks u); is = known.0; fits = known.1 } in
     next_stands (kind_at ks t) fin fs xs x stand preceding (subst (λ u. IsKnown (kind_at ks u) x) (eqb-true u t has) is)
-number_stands ks t fin (number.Binary o i j) fs xs x stand preceding has there e = pair_at (kind_at ks t) fin fs xs x stand preceding o i j (is_bitwise o) refl e
-number_stands ks t fin (number.Compare q i j) fs xs x stand preceding has there e = tt
-number_stands ks t fin (number.Log2 i) fs xs x stand preceding has there e = next_at (kind_at ks t) fin fs xs x stand preceding (formal_at i fs) (formal_at i fs) (log_at (kind_at ks t) fin fs xs x stand preceding i e)
-number_stands ks t fin (number.Require i) fs xs x stand preceding has there e = tt
+number_is_valid ks t fin (number.Binary o i j) fs xs x stand preceding has there e = pair_at (kind_at ks t) fin fs xs x stand preceding o i j (is_bitwise o) refl e
+number_is_valid ks t fin (number.Compare q i j) fs xs x stand preceding has there e = tt
+number_is_valid ks t fin (number.Log2 i) fs xs x stand preceding has there e = next_at (kind_at ks t) fin fs xs x stand preceding (formal_at i fs) (formal_at i fs) (log_at (kind_at ks t) fin fs xs x stand preceding i e)
+number_is_valid ks t fin (number.Require i) fs xs x stand preceding has there e = tt

@@ -12,7 +12,7 @@ use Rattle.ir_types.specs.Reasons.{is_width}
 use Rattle.ir_types.proofs.Widths.{halves}
 use Rattle.user_patterns_check.specs.Cases.{AreBelow}
 use Rattle.user_patterns_widths.specs.Lasting.{are_kinds}
-use Rattle.user_patterns_widths.specs.SampledValues.{SampledValues, chance, chosen, choice, edge, edge_cases, edge_count, edge_number, edges, rule_list, usual_value, value_at, value_tried, values_from}
+use Rattle.user_patterns_widths.specs.SampledValues.{SampledValues, chance, chosen, choice, edge, edge_cases, edge_count, edge_number, edges, rule_list, usual_value, value_at, value_of_case, values_from}
 use Rattle.user_patterns_widths.proofs.Wide.{has_two, tried_at}
 
 -- all numbers are below a bound
@@ -72,7 +72,7 @@ module _ (w case j : ℕ) (low : 1 ≤ w) (high : w ≤ 128) where
   at_below [] = usual_below
   at_below (n ∷ ns) = chosen_below (n ∷ ns) (choice case j)
 
-value_below : (near : List ℕ) (w case j : ℕ) → is_width w ≡ true → value_tried near w case j < 2 ^ w
+value_below : (near : List ℕ) (w case j : ℕ) → is_width w ≡ true → value_of_case near w case j < 2 ^ w
 value_below near w case j h =
     let both = and_parts (nat_lt 0 w) (nat_le w most_width) h in
     let low : 1 ≤ w = ltb-true 0 w both.0 in

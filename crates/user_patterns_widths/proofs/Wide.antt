@@ -6,7 +6,7 @@ use Rattle.std.proofs.lemmas.Bool.Decides.{nat_tests}
 use Rattle.ir_types.specs.Reasons.{is_width}
 use Rattle.ir_types.proofs.Widths.{halves}
 use Rattle.user_patterns_widths.specs.SampledWidths.{level_width}
-use Rattle.user_patterns_widths.specs.SampledValues.{chance, chosen, edge, edge_count, value_at, value_tried}
+use Rattle.user_patterns_widths.specs.SampledValues.{chance, chosen, edge, edge_count, value_at, value_of_case}
 
 -- a level with no bit left
 pub far_level : (w level : ℕ) → w < 4294967296 → 32 ≤ level → 1 ≡ level_width w level
@@ -35,7 +35,7 @@ above_half_stays w l =
 chosen_width : (b : Bool) (x : ℕ) → b ≡ true → x ≡ (if b then x else 0)
 chosen_width b x e = rw e refl
 
-pub tried_at : (near : List ℕ) (w case j : ℕ) → 1 ≤ w → w ≤ 128 → value_at near w case j ≡ value_tried near w case j
+pub tried_at : (near : List ℕ) (w case j : ℕ) → 1 ≤ w → w ≤ 128 → value_at near w case j ≡ value_of_case near w case j
 tried_at near w case j low high =
     let some : is_width w ≡ true = grind arith in
     chosen_width (is_width w) (value_at near w case j) some

@@ -87,13 +87,13 @@ value_at [] w case j = usual_value w case j
 value_at (n ∷ ns) w case j = near_value (n ∷ ns) w case j
 
 -- a width that no integer has has no values
-abbrev pub value_tried : List ℕ → ℕ → ℕ → ℕ → ℕ
-value_tried near w case j = if is_width w then value_at near w case j else 0
+abbrev pub value_of_case : List ℕ → ℕ → ℕ → ℕ → ℕ
+value_of_case near w case j = if is_width w then value_at near w case j else 0
 
 -- the values of variables of these kinds, from variable j on
 abbrev pub values_from : List ℕ → ℕ → ℕ → List BitsKind → List ℕ
 values_from near case j [] = []
-values_from near case j (k ∷ ks) = value_tried near (width_of k) case j ∷ values_from near case (j + 1) ks
+values_from near case j (k ∷ ks) = value_of_case near (width_of k) case j ∷ values_from near case (j + 1) ks
 
 abbrev pub values_of : List ℕ → ℕ → List BitsKind → List ℕ
 values_of near case ks = values_from near case 0 ks

@@ -10,5 +10,5 @@ abbrev pub level_width : ℕ → ℕ → ℕ
 level_width w level = max 1 (w / 2 ^ level)
 
 -- the widths in a test case, whose numbers begin with a level for each type variable
-abbrev pub widths_tried : PatternModel → ℕ → List ℕ → List ℕ
-widths_tried p w numbers = map (level_width w) (take p.types numbers)
+abbrev pub widths_of_case : PatternModel → ℕ → List ℕ → List ℕ
+widths_of_case p w numbers = map (level_width w) (take p.types numbers)

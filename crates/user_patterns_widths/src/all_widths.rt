@@ -2,32 +2,13 @@
 ghost use Rattle.std.specs.Prelude.{◌≡◌, IfOk};
 ghost use Rattle.user_patterns_data.specs.Shapes.{pattern_model};
 ghost use Rattle.user_patterns_widths.specs.AllWidths as for_all_widths;
-ghost use Rattle.user_patterns_widths.specs.Views.{formal_view};
 
 use crate::bits::is_bit_by_bit;
-use crate::polynomials::{Term, are_one};
+use crate::polynomials::are_one;
 use crate::symbolic::{formal, formal_at};
 use crate::types::has_one_type;
 use std::alloc::{AllocError, Global};
 use user_patterns_data::pattern::Pattern;
-
-/// Returns whether the values at two places are the same polynomial.
-fn places_are_one(
-    alloc: Global,
-    old: usize,
-    new: usize,
-    env: &[Option<Vec<Term>>],
-) -> Result<bool, AllocError>
-    ensures { IfOk result (λ one. one ≡ for_all_widths.results_are_one (for_all_widths.formal_at old (formal_view env.now)) (for_all_widths.formal_at new (formal_view env.now))) }
-{
-    let Some(old) = formal_at(env, old) else {
-        return Ok(false);
-    };
-    let Some(new) = formal_at(env, new) else {
-        return Ok(false);
-    };
-    are_one(alloc, old, new)
-}
 
 /// Returns whether both sides of the pattern are the same polynomial.
 fn sides_are_one(alloc: Global, pattern: &Pattern) -> Result<bool, AllocError>
@@ -36,7 +17,13 @@ fn sides_are_one(alloc: Global, pattern: &Pattern) -> Result<bool, AllocError>
     let Some(env) = formal(alloc, pattern)? else {
         return Ok(false);
     };
-    places_are_one(alloc, pattern.root, pattern.result, &env)
+    let Some(old) = formal_at(&env, pattern.root) else {
+        return Ok(false);
+    };
+    let Some(new) = formal_at(&env, pattern.result) else {
+        return Ok(false);
+    };
+    are_one(alloc, old, new)
 }
 
 /// Returns whether both sides are sums, differences and products of values and numbers, and are the same polynomial.

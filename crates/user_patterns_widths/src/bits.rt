@@ -55,24 +55,17 @@ fn number_is_bitwise(number: &ConstantExpression) -> bool
     }
 }
 
-/// Returns whether each bit of the operation's result depends only on the same bit of its operands.
-fn form_is_bitwise(form: &Expression) -> bool
-    ensures { result ≡ for_all_widths.form_is_bitwise form.now }
+/// Returns whether the matched operation computes bit by bit.
+fn pattern_op_is_bitwise(pattern_op: &PatternOp) -> bool
+    ensures { result ≡ for_all_widths.pattern_op_is_bitwise pattern_op.now }
 {
-    match form {
-        Expression::Binary(operation, _, _) => is_bitwise(*operation),
+    match pattern_op.form {
+        Expression::Binary(operation, _, _) => is_bitwise(operation),
         Expression::Compare(_, _, _) => false,
         Expression::Select(_, _, _) => false,
         Expression::IntegerCast(_, _) => false,
         Expression::IndexCast(_, _) => false,
     }
-}
-
-/// Returns whether the matched operation computes bit by bit.
-fn pattern_op_is_bitwise(pattern_op: &PatternOp) -> bool
-    ensures { result ≡ for_all_widths.pattern_op_is_bitwise pattern_op.now }
-{
-    form_is_bitwise(&pattern_op.form)
 }
 
 /// Returns whether the new value is computed bit by bit.

@@ -34,25 +34,18 @@ fn pattern_op_passes(pattern_op: &PatternOp) -> bool
     }
 }
 
-/// Returns whether the operation is defined for all operands.
-fn is_always_defined(form: Expression) -> bool
-    ensures { result ≡ passing.is_always_defined form }
-{
-    match form {
-        Expression::Binary(operation, _, _) => !divides(operation),
-        Expression::Compare(_, _, _) => true,
-        Expression::Select(_, _, _) => true,
-        Expression::IntegerCast(_, _) => true,
-        Expression::IndexCast(_, _) => true,
-    }
-}
-
 /// Returns whether the new value is defined for all operands.
 fn new_is_defined(new: &NewValue) -> bool
     ensures { result ≡ passing.new_is_defined new.now }
 {
     match new {
-        NewValue::Operation(pattern_op) => is_always_defined(pattern_op.form),
+        NewValue::Operation(pattern_op) => match pattern_op.form {
+            Expression::Binary(operation, _, _) => !divides(operation),
+            Expression::Compare(_, _, _) => true,
+            Expression::Select(_, _, _) => true,
+            Expression::IntegerCast(_, _) => true,
+            Expression::IndexCast(_, _) => true,
+        },
         NewValue::Constant(_, _) => true,
     }
 }

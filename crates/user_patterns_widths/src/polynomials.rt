@@ -255,19 +255,12 @@ fn all_vanish(terms: &[Term], others: &[Term]) -> bool
     true
 }
 
-/// Returns whether all coefficients of a polynomial are 0.
-fn is_zero(terms: &[Term]) -> bool
-    ensures { result ≡ polynomials.is_zero (view terms.now) }
-{
-    all_vanish(terms, terms)
-}
-
 /// Returns whether two polynomials are equal.
 pub(crate) fn are_one(alloc: Global, first: &[Term], second: &[Term]) -> Result<bool, AllocError>
     ensures { IfOk result (λ one. one ≡ polynomials.are_one (view first.now) (view second.now)) }
 {
     let terms = difference(alloc, first, second)?;
-    Ok(is_zero(&terms))
+    Ok(all_vanish(&terms, &terms))
 }
 
 /// The limit of terms of a polynomial.
@@ -276,20 +269,13 @@ const MOST_TERMS: usize = 256;
 /// The limit of factors of a term.
 const MOST_FACTORS: usize = 64;
 
-/// Returns whether the term has at most `MOST_FACTORS` factors.
-fn is_low(term: &Term) -> bool
-    ensures { result ≡ polynomials.is_low (term_view term.now) }
-{
-    term.places.len() <= MOST_FACTORS
-}
-
 /// Returns whether all terms have at most `MOST_FACTORS` factors.
 fn all_low(terms: &[Term]) -> bool
     ensures { result ≡ list_all polynomials.is_low (view terms.now) }
 {
     let mut rest = terms;
     'terms: while let [first, tail @ ..] = rest {
-        if !is_low(first) {
+        if first.places.len() > MOST_FACTORS {
             return false;
         }
         rest = tail;

@@ -1,22 +1,15 @@
 //! Pseudorandom values, the same in every run.
 ghost use Rattle.std.specs.Prelude.{◌≡◌, ◌+◌, ◌*◌, ◌≤◌};
 ghost use Rattle.ir_types.specs.Limits.{most_width};
-ghost use Rattle.user_patterns_widths.specs.SampledValues.{chance, rule_list, spread};
-
-/// Returns a number of 128 bits. Close arguments have results that are far apart.
-fn spread(number: u128) -> u128
-    ensures { result ≡ spread number }
-{
-    number
-        .wrapping_add(1)
-        .wrapping_mul(0x9E37_79B9_7F4A_7C15_F39C_C060_5CED_C835)
-}
+ghost use Rattle.user_patterns_widths.specs.SampledValues.{chance, rule_list};
 
 /// Returns 128 pseudorandom bits for a number.
 fn mix_bits(number: u128) -> u128
     ensures { result ≡ rule_list number }
 {
-    let spread = spread(number);
+    let spread = number
+        .wrapping_add(1)
+        .wrapping_mul(0x9E37_79B9_7F4A_7C15_F39C_C060_5CED_C835);
     let folded = spread ^ (spread >> 64);
     folded.wrapping_mul(0xD6E8_FEB8_6659_FD93_A5A3_F1C2_B4E7_695B)
 }

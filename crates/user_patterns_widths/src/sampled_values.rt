@@ -2,7 +2,7 @@
 ghost use Rattle.std.specs.Prelude.{◌≡◌, ◌≤◌, IfOk};
 ghost use Rattle.ir_types.specs.Bits.{width_of};
 ghost use Rattle.ir_types.specs.Limits.{most_width};
-ghost use Rattle.user_patterns_widths.specs.SampledValues.{choice, near_value, usual_value, value_at, value_tried, values_of};
+ghost use Rattle.user_patterns_widths.specs.SampledValues.{choice, near_value, usual_value, value_at, value_of_case, values_of};
 
 use crate::edges::{edge, edge_number};
 use crate::random::chance;
@@ -75,8 +75,8 @@ fn value_at(near: &[u128], width: u32, case: u128, place: usize) -> u128
 }
 
 /// Returns the value of a variable of that kind in a test case, or 0 if the kind has no values.
-fn value_tried(near: &[u128], kind: BitsKind, case: u128, place: usize) -> u128
-    ensures { result ≡ value_tried near.now (width_of kind) case place }
+fn value_of_case(near: &[u128], kind: BitsKind, case: u128, place: usize) -> u128
+    ensures { result ≡ value_of_case near.now (width_of kind) case place }
 {
     let width = width(kind);
     if width < 1 || width > MOST_WIDTH {
@@ -99,7 +99,7 @@ pub fn values_of(
     let mut place = 0;
     let mut rest = value_types;
     'value_types: while let [kind, tail @ ..] = rest {
-        values.push(value_tried(near, *kind, case, place))?;
+        values.push(value_of_case(near, *kind, case, place))?;
         place += 1;
         rest = tail;
     }

@@ -1,7 +1,7 @@
 //! The widths of type variables in a test case of a sampled check.
 ghost use Rattle.std.specs.Prelude.{◌≡◌, ◌∷◌, ◌++◌, [], IfOk, replicate, take};
 ghost use Rattle.user_patterns_data.specs.Shapes.{pattern_model};
-ghost use Rattle.user_patterns_widths.specs.SampledWidths.{level_width, levels, widths_tried};
+ghost use Rattle.user_patterns_widths.specs.SampledWidths.{level_width, levels, widths_of_case};
 
 use std::alloc::{AllocError, Global};
 use user_patterns_data::pattern::Pattern;
@@ -32,13 +32,13 @@ pub(crate) fn first_numbers<'a>(count: usize, numbers: &'a [u128]) -> &'a [u128]
 }
 
 /// Returns the widths of the type variables of a pattern in a test case: the numbers begin with a level for each.
-pub fn widths_tried(
+pub fn widths_of_case(
     alloc: Global,
     pattern: &Pattern,
     width: u32,
     numbers: &[u128],
 ) -> Result<Vec<u32>, AllocError>
-    ensures { IfOk result (λ v. v.items ≡ widths_tried (pattern_model pattern.now) width numbers.now) }
+    ensures { IfOk result (λ v. v.items ≡ widths_of_case (pattern_model pattern.now) width numbers.now) }
 {
     let mut widths = Vec::new(alloc);
     let mut rest = first_numbers(pattern.types, numbers);

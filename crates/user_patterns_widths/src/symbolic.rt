@@ -1,10 +1,8 @@
 //! Evaluates a pattern over polynomials in its values.
-ghost use Rattle.std.specs.Prelude.{◌≡◌, ◌∷◌, ◌++◌, [], Some, length, IfOk, OnOk, option_map};
-ghost use Rattle.user_patterns_data.specs.declared.pattern.ConstantExpression.TheVariants as numbers;
+ghost use Rattle.std.specs.Prelude.{◌≡◌, ◌∷◌, ◌++◌, [], Some, IfOk, OnOk, option_map};
 ghost use Rattle.user_patterns_check.specs.Outcomes.{given};
 ghost use Rattle.user_patterns_data.specs.Shapes.{pattern_model};
 ghost use Rattle.user_patterns_widths.specs.AllWidths as for_all_widths;
-ghost use Rattle.user_patterns_widths.specs.Polynomials as polynomials;
 ghost use Rattle.user_patterns_widths.specs.Views.{Stands, formal_view, some_view, view};
 
 use crate::bits::is_bitwise;
@@ -123,22 +121,6 @@ fn formal_extra(
     }
 }
 
-/// Returns the result of an operation on two numbers. The result of a bitwise operation is a fresh variable.
-fn formal_numbers_pair(
-    alloc: Global,
-    operation: Arithmetic,
-    i: usize,
-    j: usize,
-    env: &[Option<Vec<Term>>],
-) -> Result<Option<Vec<Term>>, AllocError>
-    ensures { IfOk result (λ p. some_view p ≡ for_all_widths.formal_number (numbers.Binary operation i j) (formal_view env.now)) }
-{
-    if is_bitwise(operation) {
-        return formal_next(alloc, i, j, env);
-    }
-    formal_of(alloc, operation, i, j, env)
-}
-
 /// Returns the polynomial of a computed number.
 fn formal_number(
     alloc: Global,
@@ -150,9 +132,13 @@ fn formal_number(
     match number {
         ConstantExpression::Literal(literal) => Ok(Some(formal_literal(alloc, literal)?)),
         ConstantExpression::Width(_) => Ok(Some(value_at(alloc, env.len())?)),
-        ConstantExpression::Binary(operation, i, j) => formal_numbers_pair(
-            alloc, *operation, *i, *j, env,
-        ),
+        ConstantExpression::Binary(operation, i, j) => {
+            if is_bitwise(*operation) {
+                formal_next(alloc, *i, *j, env)
+            } else {
+                formal_of(alloc, *operation, *i, *j, env)
+            }
+        }
         ConstantExpression::Compare(_, _, _) => Ok(None),
         ConstantExpression::Log2(i) => formal_next(alloc, *i, *i, env),
         ConstantExpression::Require(_) => Ok(None),
@@ -209,14 +195,6 @@ fn push_some(terms: Option<Vec<Term>>, env: &mut Vec<Option<Vec<Term>>>) -> Resu
     Ok(true)
 }
 
-/// Appends a fresh variable for the next place.
-fn push_value(alloc: Global, env: &mut Vec<Option<Vec<Term>>>) -> Result<(), AllocError>
-    ensures { OnOk result (formal_view env.new.items ≡ formal_view env.old.items ++ Some (polynomials.value_at (length (formal_view env.old.items))) ∷ []) }
-{
-    let terms = value_at(alloc, env.len())?;
-    push_terms(Some(terms), env)
-}
-
 /// Appends the variables of the pattern.
 fn push_values(
     alloc: Global,
@@ -227,7 +205,8 @@ fn push_values(
 {
     let mut rest = values;
     'values: while let [_, tail @ ..] = rest {
-        push_value(alloc, env)?;
+        let terms = value_at(alloc, env.len())?;
+        push_terms(Some(terms), env)?;
         rest = tail;
     }
     Ok(())
@@ -267,18 +246,6 @@ fn push_numbers(
     Ok(())
 }
 
-/// Appends the result of a matched operation. Returns whether it is a polynomial.
-fn push_old(
-    alloc: Global,
-    pattern_op: &PatternOp,
-    env: &mut Vec<Option<Vec<Term>>>,
-) -> Result<bool, AllocError>
-    ensures { IfOk result (Stands (given (for_all_widths.formal_form pattern_op.now.form (formal_view env.old.items)) (λ p. Some (formal_view env.old.items ++ Some p ∷ []))) env.new.items) }
-{
-    let terms = formal_form(alloc, &pattern_op.form, env)?;
-    push_some(terms, env)
-}
-
 /// Appends the results of the matched operations. Returns whether each is a polynomial.
 fn push_olds(
     alloc: Global,
@@ -289,24 +256,13 @@ fn push_olds(
 {
     let mut rest = old;
     'old: while let [first, tail @ ..] = rest {
-        if !push_old(alloc, first, env)? {
+        let terms = formal_form(alloc, &first.form, env)?;
+        if !push_some(terms, env)? {
             return Ok(false);
         }
         rest = tail;
     }
     Ok(true)
-}
-
-/// Appends a new value. Returns whether it is a polynomial.
-fn push_new(
-    alloc: Global,
-    new: &NewValue,
-    env: &mut Vec<Option<Vec<Term>>>,
-) -> Result<bool, AllocError>
-    ensures { IfOk result (Stands (given (for_all_widths.formal_new new.now (formal_view env.old.items)) (λ p. Some (formal_view env.old.items ++ Some p ∷ []))) env.new.items) }
-{
-    let terms = formal_new(alloc, new, env)?;
-    push_some(terms, env)
 }
 
 /// Appends the new values. Returns whether each is a polynomial.
@@ -319,7 +275,8 @@ fn push_news(
 {
     let mut rest = new;
     'new: while let [first, tail @ ..] = rest {
-        if !push_new(alloc, first, env)? {
+        let terms = formal_new(alloc, first, env)?;
+        if !push_some(terms, env)? {
             return Ok(false);
         }
         rest = tail;

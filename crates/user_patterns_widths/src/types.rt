@@ -32,19 +32,12 @@ fn number_has(ty: usize, number: &ConstantExpression) -> bool
     }
 }
 
-/// Returns whether the operation's result has the type.
-fn pattern_op_has(ty: usize, pattern_op: &PatternOp) -> bool
-    ensures { result ≡ for_all_widths.pattern_op_has ty pattern_op.now }
-{
-    pattern_op.ty == ty
-}
-
 /// Returns whether the new value has the type.
 fn new_has(ty: usize, new: &NewValue) -> bool
     ensures { result ≡ for_all_widths.new_has ty new.now }
 {
     match new {
-        NewValue::Operation(pattern_op) => pattern_op_has(ty, pattern_op),
+        NewValue::Operation(pattern_op) => pattern_op.ty == ty,
         NewValue::Constant(_, of) => *of == ty,
     }
 }
@@ -74,7 +67,7 @@ fn all_numbers(ty: usize, numbers: &[ConstantExpression]) -> bool
 fn all_old(ty: usize, old: &[PatternOp]) -> bool
     ensures { result ≡ list_all (for_all_widths.pattern_op_has ty) old.now }
 {
-    old.iter().all(|pattern_op| pattern_op_has(ty, pattern_op))
+    old.iter().all(|pattern_op| pattern_op.ty == ty)
 }
 
 /// Returns whether all new values have the type.

@@ -11,7 +11,7 @@ use Rattle.width_claims.specs.declared.transition.Transition.{Transition}
 use Rattle.width_claims.specs.declared.visit.Visit.{Visit}
 use Rattle.width_claims.specs.declared.visit.Visit.TheVariants as visit
 use Rattle.width_claims.specs.Runs.{reached, AreLetters, AreTransitions, AcceptsAll, AreTransitionsIf, IsShortest}
-use Rattle.width_claims.specs.Walks.{LeadsTo, AreBefore, ComesFrom, AreOrigins, IsVisited, AreVisited, AllVisited, AreDepths, AreFrom, AreLayers, AreTried, depth, Goes, GoesThrough, Visited, Walked, WalkedBy, Found, WentThrough}
+use Rattle.width_claims.specs.Walks.{LeadsTo, AreBefore, ComesFrom, AreOrigins, IsVisited, AreVisited, AllVisited, AreDepths, AreFrom, AreLayers, TargetsAreFound, depth, Goes, GoesThrough, Visited, Walked, WalkedBy, Found, WentThrough}
 
 pub still_there : {X : Type 0} → (xs ys : List X) (i : ℕ) (x : X) → slice_get xs i ≡ Some x → slice_get (xs ++ ys) i ≡ Some x
 still_there [] ys i x e = absurd (none-some x (sym (slice_get_past [] i (omega arith)) ∙ e))
@@ -146,8 +146,8 @@ module _ (after : ℕ → ℕ → ℕ) (accepts : ℕ → Bool) (n : ℕ) where
   lower : (v k : ℕ) → v < suc k → (v ≡ k) ⊎ (v < k)
   lower v k l = grind arith
 
-  one_more : (ks es : List ℕ) (s d : ℕ) (ts : List Transition) (k : ℕ) (t : Transition) → slice_get ts k ≡ Some t → accepts (after s t.letter) ≡ true → AreTried after accepts ks es s d ts k
-      → ((i : ℕ) × (slice_get ks i ≡ Some (after s t.letter)) × (depth es i ≤ suc d)) → AreTried after accepts ks es s d ts (suc k)
+  one_more : (ks es : List ℕ) (s d : ℕ) (ts : List Transition) (k : ℕ) (t : Transition) → slice_get ts k ≡ Some t → accepts (after s t.letter) ≡ true → TargetsAreFound after accepts ks es s d ts k
+      → ((i : ℕ) × (slice_get ks i ≡ Some (after s t.letter)) × (depth es i ≤ suc d)) → TargetsAreFound after accepts ks es s d ts (suc k)
   one_more ks es s d ts k t here accepted m is i u li there =
       elim (lower i k li) [
         | inl e ↦ (
@@ -162,7 +162,7 @@ module _ (after : ℕ → ℕ → ℕ) (accepts : ℕ → Bool) (n : ℕ) where
 
   -- one transition more is tried: its target is there
   found_there : (start : Option ℕ) (states : List ℕ) (os : List Origin) (ds : List ℕ) (place s i : ℕ) (ts : List Transition) (k : ℕ) (p : Transition) → WalkedBy after accepts n start states os ds place
-      → slice_get states place ≡ Some s → AreTried after accepts states ds s (depth ds place) ts k → slice_get ts k ≡ Some p → accepts (after s p.letter) ≡ true → slice_get states i ≡ Some (after s p.letter)
+      → slice_get states place ≡ Some s → TargetsAreFound after accepts states ds s (depth ds place) ts k → slice_get ts k ≡ Some p → accepts (after s p.letter) ≡ true → slice_get states i ≡ Some (after s p.letter)
       → Goes after accepts n start states os place s ts (suc k)
   found_there start states os ds place s i ts k p w there tried here accepted is =
       let l = slice_get_within states place s there in
@@ -173,7 +173,7 @@ module _ (after : ℕ → ℕ → ℕ) (accepts : ℕ → Bool) (n : ℕ) where
 
   -- or it is put there
   found_new : (start : Option ℕ) (states : List ℕ) (os : List Origin) (ds : List ℕ) (place s : ℕ) (ts : List Transition) (k : ℕ) (p : Transition) (o : Origin) → WalkedBy after accepts n start states os ds place
-      → slice_get states place ≡ Some s → AreTried after accepts states ds s (depth ds place) ts k → slice_get ts k ≡ Some p → accepts (after s p.letter) ≡ true → p.letter < n → o.from ≡ place → o.letter ≡ p.letter
+      → slice_get states place ≡ Some s → TargetsAreFound after accepts states ds s (depth ds place) ts k → slice_get ts k ≡ Some p → accepts (after s p.letter) ≡ true → p.letter < n → o.from ≡ place → o.letter ≡ p.letter
       → Goes after accepts n start (states ++ after s p.letter ∷ []) (os ++ o ∷ []) place s ts (suc k)
   found_new start states os ds place s ts k p o w there tried here accepted lx from letter =
       let t = after s p.letter in
@@ -186,10 +186,10 @@ module _ (after : ℕ → ℕ → ℕ) (accepts : ℕ → Bool) (n : ℕ) where
       let same = old_depth states os ds w.long w.deep t d place inside in
       let last_length : length ds ≡ length states = deep ∙ long in
       let last : ComesFrom after n (states ++ t ∷ []) (length states) o = (omega (arith, from, within), omega (arith, letter, lx), s, ap (λ j. slice_get (states ++ t ∷ []) j) from ∙ there_still, last_there states t ∙ ap (λ j. Some (after s j)) (sym letter)) in
-      let first_tried : AreTried after accepts (states ++ t ∷ []) (ds ++ d ∷ []) s (depth ds place) ts k =
+      let first_applicable_rewrite : TargetsAreFound after accepts (states ++ t ∷ []) (ds ++ d ∷ []) s (depth ds place) ts k =
       λ i u li is. still_visited states (states ++ t ∷ []) ds (ds ++ d ∷ []) s (depth ds place) u.letter (kept states os ds w.long w.deep t d) (tried i u li is) in
       let newest : depth (ds ++ d ∷ []) (length states) ≡ d = ap (depth (ds ++ d ∷ [])) (sym last_length) ∙ new_depth states os ds w.long w.deep t d in
-      let all = one_more (states ++ t ∷ []) (ds ++ d ∷ []) s (depth ds place) ts k p here accepted first_tried (length states, last_there states t, omega (arith, newest)) in (
+      let all = one_more (states ++ t ∷ []) (ds ++ d ∷ []) s (depth ds place) ts k p here accepted first_applicable_rewrite (length states, last_there states t, omega (arith, newest)) in (
         ds ++ d ∷ [],
         record {
           first = first_still states t place within ∙ w.first;
@@ -200,7 +200,7 @@ module _ (after : ℕ → ℕ → ℕ) (accepts : ℕ → Bool) (n : ℕ) where
           visited = more_visited states os ds w.long w.deep t d place within w.visited;
         },
         there_still,
-        subst (λ (c : ℕ). AreTried after accepts (states ++ t ∷ []) (ds ++ d ∷ []) s c ts (suc k)) (sym same) all,
+        subst (λ (c : ℕ). TargetsAreFound after accepts (states ++ t ∷ []) (ds ++ d ∷ []) s c ts (suc k)) (sym same) all,
       )
 
   found_more : (start : Option ℕ) (states : List ℕ) (os : List Origin) (place s : ℕ) (ts : List Transition) (k : ℕ) (p : Transition) (o : Origin) (more : List ℕ) (all : List Origin)

@@ -63,8 +63,8 @@ abbrev pub Walked : (ℕ → ℕ → ℕ) → (ℕ → Bool) → ℕ → Option 
 Walked after accepts n start states os most = (ds : List ℕ) × WalkedBy after accepts n start states os ds most
 
 -- the targets of the first transitions from a state were found
-abbrev pub AreTried : (ℕ → ℕ → ℕ) → (ℕ → Bool) → List ℕ → List ℕ → ℕ → ℕ → List Transition → ℕ → Type 0
-AreTried after accepts states ds s d ts k = (i : ℕ) (t : Transition) → i < k → slice_get ts i ≡ Some t → IsVisited after accepts states ds s d t.letter
+abbrev pub TargetsAreFound : (ℕ → ℕ → ℕ) → (ℕ → Bool) → List ℕ → List ℕ → ℕ → ℕ → List Transition → ℕ → Type 0
+TargetsAreFound after accepts states ds s d ts k = (i : ℕ) (t : Transition) → i < k → slice_get ts i ≡ Some t → IsVisited after accepts states ds s d t.letter
 
 -- all transitions from the state at a place
 abbrev pub AreFrom : (ℕ → ℕ → ℕ) → ℕ → List ℕ → ℕ → List Transition → Type 0
@@ -73,7 +73,7 @@ AreFrom after n states place ts = (s : ℕ) × (slice_get states place ≡ Some 
 -- while a state is gone through: its first transitions were tried
 abbrev pub Goes : (ℕ → ℕ → ℕ) → (ℕ → Bool) → ℕ → Option ℕ → List ℕ → List Origin → ℕ → ℕ → List Transition → ℕ → Type 0
 Goes after accepts n start states os place s ts k =
-    (ds : List ℕ) × WalkedBy after accepts n start states os ds place × (slice_get states place ≡ Some s) × AreTried after accepts states ds s (depth ds place) ts k
+    (ds : List ℕ) × WalkedBy after accepts n start states os ds place × (slice_get states place ≡ Some s) × TargetsAreFound after accepts states ds s (depth ds place) ts k
 
 abbrev pub GoesThrough : (ℕ → ℕ → ℕ) → (ℕ → Bool) → ℕ → Option ℕ → List ℕ → List Origin → ℕ → List Transition → ℕ → Type 0
 GoesThrough after accepts n start states os place ts k = (s : ℕ) × AreTransitions (after s) n ts × Goes after accepts n start states os place s ts k

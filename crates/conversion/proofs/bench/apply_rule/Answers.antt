@@ -2,7 +2,7 @@ use Rattle.std.proofs.Common.{sym, ◌∙◌}
 use Rattle.conversion_base.specs.Rewrites.{rewrite_of}
 use Rattle.conversion_base.proofs.Collapsing.{none_there}
 use Rattle.patterns.specs.Held.{module_held}
-use Rattle.conversion.proofs.Seen.{answered, answered_none, here_or_gone, leads_applied, failure}
+use Rattle.conversion.proofs.VisibleValues.{answered, answered_none, here_or_gone, leads_applied, failure}
 use Rattle.conversion.proofs.bench.apply_rule.Goals as goal
 
 pub returns-then-not-in_tree-clause-answers : goal.returns-then-not-in_tree-clause-answers

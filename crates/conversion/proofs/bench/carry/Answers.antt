@@ -4,7 +4,7 @@ use Rattle.conversion_base.specs.Rewrites.{carried_out}
 use Rattle.patterns.specs.Applied.{limit_reason}
 use Rattle.patterns.specs.Held.{module_held}
 use Rattle.patterns.proofs.Carrying.{limited, unlimited}
-use Rattle.conversion.proofs.Seen.{leads_along, made_so, refused_so, same_module, failure, wanted}
+use Rattle.conversion.proofs.VisibleValues.{leads_along, made_so, refused_so, same_module, failure, wanted}
 use Rattle.conversion.proofs.bench.carry.Goals as goal
 
 pub returns-in-Some-clause-answers : goal.returns-in-Some-clause-answers

@@ -2,7 +2,7 @@ use Rattle.std.proofs.Common.{inl, refl, Ok}
 use Rattle.patterns.specs.RewriterCalls.{state_of}
 use Rattle.conversion_base.specs.Edits.{Erase}
 use Rattle.patterns.proofs.of_runs.Carrying.{tried_by, unmade_by}
-use Rattle.conversion.proofs.Seen.{leads_on}
+use Rattle.conversion.proofs.VisibleValues.{leads_on}
 use Rattle.conversion.proofs.bench.erase.Goals as goal
 
 pub returns-in-Ok-clause-answers : goal.returns-in-Ok-clause-answers

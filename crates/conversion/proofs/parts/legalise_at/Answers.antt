@@ -23,7 +23,7 @@ returns-else-legalization-clause-ends g c =
     let here = state c.legalise.new.bench in
     let o = standing (legalization_of (target_model start.things c.args.target.now) c.args.target.now.depth) start.held c.args.op in
     let comes = subst (λ (n : ℕ). Comes (standing (legalization_of (target_model start.things c.args.target.now) n) start.held c.args.op) (Ok c.in-Ok.legalization) start here) (ap (λ (t : TargetOf ℕ). t.depth) c.target.view_is) c.in-Ok.ensures.comes in
-    failed_at c.args.op o c.in-Ok.legalization start here (match_failure_by (last_rule c.args.target.now.rules) here.held c.args.op) c.stopped_at.result comes c.if-legalization.false c.stopped_at.ensures
+    failed_at c.args.op o c.in-Ok.legalization start here (match_failure_by (last_rule c.args.target.now.rules) here.held c.args.op) c.unlegalized_error.result comes c.if-legalization.false c.unlegalized_error.ensures
 
 pub returns-else-legalization-clause-stays : goal.returns-else-legalization-clause-stays
 returns-else-legalization-clause-stays g c next =
@@ -32,4 +32,4 @@ returns-else-legalization-clause-stays g c next =
     let here = state c.legalise.new.bench in
     let o = standing (legalization_of (target_model start.things c.args.target.now) c.args.target.now.depth) start.held c.args.op in
     let comes = subst (λ (n : ℕ). Comes (standing (legalization_of (target_model start.things c.args.target.now) n) start.held c.args.op) (Ok c.in-Ok.legalization) start here) (ap (λ (t : TargetOf ℕ). t.depth) c.target.view_is) c.in-Ok.ensures.comes in
-    failed_stays next (λ m. match_failure_by (last_rule c.args.target.now.rules) m c.args.op) c.args.op o c.in-Ok.legalization start here c.stopped_at.result comes c.if-legalization.false c.stopped_at.ensures
+    failed_stays next (λ m. match_failure_by (last_rule c.args.target.now.rules) m c.args.op) c.args.op o c.in-Ok.legalization start here c.unlegalized_error.result comes c.if-legalization.false c.unlegalized_error.ensures

@@ -4,7 +4,7 @@ use Rattle.conversion_base.specs.Conversion.{legalised_at}
 use Rattle.conversion_base.specs.declared.applied_rule.AppliedRule.{AppliedRule}
 use Rattle.conversion_base.specs.Legalization.{legalization_of, standing}
 use Rattle.conversion.specs.States.{Ends}
-use Rattle.conversion.specs.MatchFailures.{last_rule, match_failure_by, reported_failure, stays_on}
+use Rattle.conversion.specs.MatchFailures.{last_rule, match_failure_by, reported_failure, match_failure_after}
 use Rattle.conversion.specs.declared.match_failure.MatchFailure.{MatchFailure}
 use Rattle.conversion_base.specs.Targets.{Aim, target_model}
 use Rattle.conversion.proofs.Aims.{aim_known, aim_stays}
@@ -37,7 +37,7 @@ returns-in-Err-clause-stays g c =
     let x = c.op-item.result in
     let t = c.args.target.now in
     let same = aim_stays start.things here.things t c.ops.invariant.3.grows c.requires.aim in
-    let k = subst (λ (a : Aim). (next : Module → Option (ℕ × MatchFailure)) → e.failure ≡ reported_failure e.fault.id (stays_on next x (match_failure_by (last_rule t.rules) here.held x) (standing (legalization_of a t.depth) here.held x))) same c.in-Err.ensures.stays in
+    let k = subst (λ (a : Aim). (next : Module → Option (ℕ × MatchFailure)) → e.failure ≡ reported_failure e.fault.id (match_failure_after next x (match_failure_by (last_rule t.rules) here.held x) (standing (legalization_of a t.depth) here.held x))) same c.in-Err.ensures.stays in
     stays_stops (target_model start.things t) c.args.ops.now start c.ops.rest.now x here e c.in-len1-up.len_at_least c.op-item.is c.ops.invariant.2 k
 
 pub returns-in-Err-clause-leads : goal.returns-in-Err-clause-leads

@@ -5,7 +5,7 @@ use Rattle.patterns_base.specs.Canonicalization.{or_else}
 use Rattle.patterns.specs.Applied.{RewriteOutcome, IsReason}
 use Rattle.patterns.specs.Held.{module_held}
 use Rattle.patterns.proofs.Carrying.{applied_none, journaled_none}
-use Rattle.greedy.specs.PatternSet.{attempt_of, attempted, patterns_of, by_or, first_tried, firing_tried, traced_as}
+use Rattle.greedy.specs.PatternSet.{rule_or_pattern_of, rewrite_by_entry, patterns_of, by_or, first_applicable_rewrite, first_matching_entry, traced_as}
 use Rattle.greedy.proofs.Attempting.{applied_more, comes_here, fires_here, gave_all, gave_first, gave_none, journaled_more, none_comes, none_fires, long, noted_after, noted_of, reason_first, tail, told_first}
 use Rattle.greedy.proofs.first_pattern.apply_first_pattern.Goals as goal
 
@@ -18,8 +18,8 @@ returns-in-Ok-true-clause-ok g c =
     let m = module_held c.args.bench.now.transaction in
     let first = c.first-item.result in
     gave_all _ _ _ m m _ (sym (comes_here c.candidates.rest.now first _ c.in-len1-up.len_at_least c.first-item.is m c.args.op) ∙ v.1.1.1.1.0) refl
-    (gave_first (attempted (attempt_of first) m c.args.op) (first_tried (patterns_of (tail c.candidates.rest.now)) m c.args.op) c.in-Ok-true.field-0 m _ c.in-Ok-true.field-0-test
-    (subst (λ (n : Module). RewriteOutcome (attempted (attempt_of first) n c.args.op) c.in-Ok-true.field-0 n (module_held c.apply_pattern-done.new.bench.transaction)) v.0 c.in-Ok-true.ensures.ok))
+    (gave_first (rewrite_by_entry (rule_or_pattern_of first) m c.args.op) (first_applicable_rewrite (patterns_of (tail c.candidates.rest.now)) m c.args.op) c.in-Ok-true.field-0 m _ c.in-Ok-true.field-0-test
+    (subst (λ (n : Module). RewriteOutcome (rewrite_by_entry (rule_or_pattern_of first) n c.args.op) c.in-Ok-true.field-0 n (module_held c.apply_pattern-done.new.bench.transaction)) v.0 c.in-Ok-true.ensures.ok))
 
 pub returns-in-Ok-true-clause-applied : goal.returns-in-Ok-true-clause-applied
 returns-in-Ok-true-clause-applied g c =
@@ -27,8 +27,8 @@ returns-in-Ok-true-clause-applied g c =
     let m = module_held c.args.bench.now.transaction in
     let first = c.first-item.result in
     ap Some c.applied_pattern-told.ensures
-    ∙ sym (told_first (attempted (attempt_of first) m c.args.op) (traced_as c.candidates.place (attempt_of first)) (firing_tried (c.candidates.place + 1) (patterns_of (tail c.candidates.rest.now)) m c.args.op) c.in-Ok-true.field-0 m _ c.in-Ok-true.field-0-test
-    (subst (λ (n : Module). RewriteOutcome (attempted (attempt_of first) n c.args.op) c.in-Ok-true.field-0 n (module_held c.apply_pattern-done.new.bench.transaction)) v.0 c.in-Ok-true.ensures.ok))
+    ∙ sym (told_first (rewrite_by_entry (rule_or_pattern_of first) m c.args.op) (traced_as c.candidates.place (rule_or_pattern_of first)) (first_matching_entry (c.candidates.place + 1) (patterns_of (tail c.candidates.rest.now)) m c.args.op) c.in-Ok-true.field-0 m _ c.in-Ok-true.field-0-test
+    (subst (λ (n : Module). RewriteOutcome (rewrite_by_entry (rule_or_pattern_of first) n c.args.op) c.in-Ok-true.field-0 n (module_held c.apply_pattern-done.new.bench.transaction)) v.0 c.in-Ok-true.ensures.ok))
     ∙ sym (fires_here c.candidates.rest.now first _ c.in-len1-up.len_at_least c.first-item.is m c.args.op c.candidates.place) ∙ v.1.1.1.1.1.0
 
 pub returns-in-Ok-true-clause-stays : goal.returns-in-Ok-true-clause-stays
@@ -46,8 +46,8 @@ returns-in-Err-clause-refused g c =
     let m = module_held c.args.bench.now.transaction in
     let first = c.first-item.result in
     subst (λ w. IsReason w c.args.op m c.apply_pattern-done.new.bench.transaction.ctx c.in-Err.refusal) (sym (comes_here c.candidates.rest.now first _ c.in-len1-up.len_at_least c.first-item.is m c.args.op) ∙ v.1.1.1.1.0)
-    (reason_first (attempted (attempt_of first) m c.args.op) (first_tried (patterns_of (tail c.candidates.rest.now)) m c.args.op) c.args.op m c.apply_pattern-done.new.bench.transaction.ctx c.in-Err.refusal
-    (subst (λ (n : Module). IsReason (attempted (attempt_of first) n c.args.op) c.args.op n c.apply_pattern-done.new.bench.transaction.ctx c.in-Err.refusal) v.0 c.in-Err.ensures.refused))
+    (reason_first (rewrite_by_entry (rule_or_pattern_of first) m c.args.op) (first_applicable_rewrite (patterns_of (tail c.candidates.rest.now)) m c.args.op) c.args.op m c.apply_pattern-done.new.bench.transaction.ctx c.in-Err.refusal
+    (subst (λ (n : Module). IsReason (rewrite_by_entry (rule_or_pattern_of first) n c.args.op) c.args.op n c.apply_pattern-done.new.bench.transaction.ctx c.in-Err.refusal) v.0 c.in-Err.ensures.refused))
 
 pub returns-in-Err-clause-stays : goal.returns-in-Err-clause-stays
 returns-in-Err-clause-stays g c = let v = c.candidates.invariant in applied_more g.L.Analysis.meaning _ _ _ v.1.1.0 v.1.1.1.0 v.1.0 c.in-Err.ensures.stays
@@ -60,8 +60,8 @@ candidates-preserved g c =
     let v = c.candidates.invariant in
     let m = module_held c.args.bench.now.transaction in
     let first = c.first-item.result in
-    let q = gave_none (attempted (attempt_of first) m c.args.op) c.in-Ok-false.field-0 m (module_held c.apply_pattern-done.new.bench.transaction) c.in-Ok-false.field-0-test
-    (subst (λ (n : Module). RewriteOutcome (attempted (attempt_of first) n c.args.op) c.in-Ok-false.field-0 n (module_held c.apply_pattern-done.new.bench.transaction)) v.0 c.in-Ok-false.ensures.ok) in (
+    let q = gave_none (rewrite_by_entry (rule_or_pattern_of first) m c.args.op) c.in-Ok-false.field-0 m (module_held c.apply_pattern-done.new.bench.transaction) c.in-Ok-false.field-0-test
+    (subst (λ (n : Module). RewriteOutcome (rewrite_by_entry (rule_or_pattern_of first) n c.args.op) c.in-Ok-false.field-0 n (module_held c.apply_pattern-done.new.bench.transaction)) v.0 c.in-Ok-false.ensures.ok) in (
       q.1,
       (
         c.in-Ok-false.ensures.stays.opens ∙ v.1.0,
@@ -70,9 +70,9 @@ candidates-preserved g c =
           (
             journaled_more g.L.Analysis.meaning _ _ _ v.1.1.0 v.1.1.1.0 c.in-Ok-false.ensures.journal,
             (
-              sym (ap (λ w. or_else w (first_tried (patterns_of (tail c.candidates.rest.now)) m c.args.op)) q.0) ∙ sym (comes_here c.candidates.rest.now first _ c.in-len1-up.len_at_least c.first-item.is m c.args.op) ∙ v.1.1.1.1.0,
+              sym (ap (λ w. or_else w (first_applicable_rewrite (patterns_of (tail c.candidates.rest.now)) m c.args.op)) q.0) ∙ sym (comes_here c.candidates.rest.now first _ c.in-len1-up.len_at_least c.first-item.is m c.args.op) ∙ v.1.1.1.1.0,
               (
-                sym (ap (λ w. by_or w (traced_as c.candidates.place (attempt_of first)) (firing_tried (c.candidates.place + 1) (patterns_of (tail c.candidates.rest.now)) m c.args.op)) q.0) ∙ sym (fires_here c.candidates.rest.now first _ c.in-len1-up.len_at_least c.first-item.is m c.args.op c.candidates.place) ∙ v.1.1.1.1.1.0,
+                sym (ap (λ w. by_or w (traced_as c.candidates.place (rule_or_pattern_of first)) (first_matching_entry (c.candidates.place + 1) (patterns_of (tail c.candidates.rest.now)) m c.args.op)) q.0) ∙ sym (fires_here c.candidates.rest.now first _ c.in-len1-up.len_at_least c.first-item.is m c.args.op c.candidates.place) ∙ v.1.1.1.1.1.0,
                 long c.candidates.rest.now c.candidates.place _ c.in-len1-up.len_at_least v.1.1.1.1.1.1,
               ),
             ),

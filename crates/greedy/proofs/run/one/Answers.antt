@@ -7,7 +7,7 @@ use Rattle.greedy.specs.Rewriting.{next_by}
 use Rattle.greedy.specs.Ruled.{pattern_set_of}
 use Rattle.ir_event.specs.Modules.{Module}
 use Rattle.greedy.specs.Work.{AreApart, CoversBut, Right, Rewritten}
-use Rattle.greedy.proofs.Trials.{pattern_set_lawful}
+use Rattle.greedy.proofs.Applications.{pattern_set_lawful}
 use Rattle.greedy.proofs.Noting.{noted_more}
 use Rattle.greedy.proofs.Scans.{took, took_none, said, said_none, said_refuses, all_none, rewrote}
 use Rattle.greedy.proofs.Traces.{told_as, told_none, told_there}

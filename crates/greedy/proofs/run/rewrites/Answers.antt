@@ -4,7 +4,7 @@ use Rattle.patterns_base.specs.Canonicalization.{ended, converged, limited}
 use Rattle.greedy.specs.Ruled.{pattern_set_of}
 use Rattle.greedy.proofs.Comings.{at_start, one_more, converges, refuses, tells, tells_none, converged_there, limited_there}
 use Rattle.greedy.proofs.Noting.{noted_left, noted_more, noted_none}
-use Rattle.greedy.proofs.Trials.{pattern_set_lawful}
+use Rattle.greedy.proofs.Applications.{pattern_set_lawful}
 use Rattle.greedy.proofs.Traces.{not_applied, trace_at_limit, trace_more, trace_start, trace_whole}
 use Rattle.greedy.specs.Outcomes.{Applied}
 use Rattle.greedy.specs.Rewriting.{next_by}

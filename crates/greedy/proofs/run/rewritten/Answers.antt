@@ -3,7 +3,7 @@ use Rattle.ir_event.specs.trees.Tree.{head}
 use Rattle.greedy.specs.Ruled.{pattern_set_of}
 use Rattle.greedy.specs.Work.{Right}
 use Rattle.greedy.proofs.Scans.{begun}
-use Rattle.greedy.proofs.Trials.{pattern_set_lawful}
+use Rattle.greedy.proofs.Applications.{pattern_set_lawful}
 use Rattle.greedy.proofs.run.rewritten.Goals as goal
 
 pub rewrites-requires-clause-right : goal.rewrites-requires-clause-right

@@ -4,7 +4,7 @@ use Rattle.patterns.specs.Rows.{AreCanonical}
 use Rattle.greedy.specs.Outcomes.{IsReasonBy, IsRewriting}
 use Rattle.greedy.specs.Tracing.{trace_of}
 use Rattle.greedy.specs.PatternSet.{by_rules}
-use Rattle.greedy.proofs.Trials.{rules_lawful}
+use Rattle.greedy.proofs.Applications.{rules_lawful}
 use Rattle.greedy.proofs.Comings.{limit_low, limit_high, limit_fits, limit_reason, stop_reason}
 use Rattle.greedy.proofs.Noting.{left_none}
 use Rattle.greedy.proofs.run.run_list_traced.Goals as goal

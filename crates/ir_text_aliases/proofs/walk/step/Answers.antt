@@ -6,9 +6,9 @@ use Rattle.ir_text_aliases.proofs.walk.step.Goals as goal
 
 pub returns-in_default-clause-moved : goal.returns-in_default-clause-moved
 returns-in_default-clause-moved c =
-    subst (λ m. Moved m c.put_lexeme.new.at.scanned (reverse c.put_lexeme.new.at.outer.items) c.args.tail.now c.in_ok-put_lexeme.field-0.now c.args.out.now.text.items c.put_lexeme.new.out.text.items c.args.out.now.marks.items c.put_lexeme.new.out.marks.items)
+    subst (λ m. Moved m c.append_lexeme.new.at.scanned (reverse c.append_lexeme.new.at.outer.items) c.args.tail.now c.in_ok-append_lexeme.field-0.now c.args.out.now.text.items c.append_lexeme.new.out.text.items c.args.out.now.marks.items c.append_lexeme.new.out.marks.items)
     (sym (as_lexeme c.args.part.now c.args.values.now c.args.names.now.here c.args.at.now.scanned (reverse c.args.at.now.outer.items) (length c.args.out.now.text.items) c.args.byte c.args.tail.now c.alias_in.result (sym c.goes.ensures ∙ c.if-goes.false) c.alias_in.ensures c.in_default.is))
-    c.in_ok-put_lexeme.ensures.moved
+    c.in_ok-append_lexeme.ensures.moved
 
 pub returns-in-None-clause-moved : goal.returns-in-None-clause-moved
 returns-in-None-clause-moved c =

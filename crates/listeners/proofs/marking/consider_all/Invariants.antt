@@ -4,4 +4,4 @@ use Rattle.listeners.specs.Marks.{ConsideredIn}
 use Rattle.listeners.proofs.marking.consider_all.Given as goal
 
 abbrev pub invariant-loop-op : goal.invariant-loop-op
-invariant-loop-op l = (done : List ℕ) × (done ++ l.op-iterator ≡ l.fn.roles.telling.keys) × ConsideredIn (numbers_at l.fn.roles) l.fn.definitions done l.fn.pending l.fn.left l.pending l.left
+invariant-loop-op l = (done : List ℕ) × (done ++ l.op-iterator ≡ l.fn.roles.symbol_ops.keys) × ConsideredIn (numbers_at l.fn.roles) l.fn.definitions done l.fn.pending l.fn.left l.pending l.left

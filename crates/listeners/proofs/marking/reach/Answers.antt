@@ -1,7 +1,7 @@
 use Rattle.std.proofs.Common.{refl, ◌++◌}
 use Rattle.std.specs.Prelude.{option_to_list}
 use Rattle.listeners_symbols.specs.Lines.{numbers_at}
-use Rattle.listeners.specs.Marks.{IsDefinition, Reaches, StandsUnder, left_at, queue_of}
+use Rattle.listeners.specs.Marks.{IsDefinition, Reaches, IsUnder, left_at, queue_of}
 use Rattle.listeners.proofs.Taken.{removed_more}
 use Rattle.listeners.proofs.Steps.{from_item, le_trans, prefix_step, taken_found}
 use Rattle.listeners.proofs.marking.reach.Goals as goal
@@ -15,7 +15,7 @@ loop-rest-preserved c =
     let rest = c.loop-rest.rest.now in
     let whole = from_item rest c.part-item.result _ _ c.in-len1-up.len_at_least c.part-item.is refl in
     let P = IsDefinition roles in
-    let U = StandsUnder roles in
+    let U = IsUnder roles in
     let R = Reaches roles ds in
     let q0 = queue_of c.args.pending.now in
     let q1 = queue_of c.loop-rest.pending in

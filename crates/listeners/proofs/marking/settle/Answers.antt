@@ -1,7 +1,7 @@
 use Rattle.std.proofs.Common.{◌≡◌, ◌∙◌, ap, subst, [], ◌∷◌, ◌++◌, List, ℕ, map}
 use Rattle.std.proofs.lemmas.List.{map-append}
 use Rattle.listeners_symbols.specs.Lines.{numbers_at}
-use Rattle.listeners.specs.Marks.{IsDefinition, Reaches, StandsUnder, left_at, queue_of}
+use Rattle.listeners.specs.Marks.{IsDefinition, Reaches, IsUnder, left_at, queue_of}
 use Rattle.listeners.specs.Marking.{Marks, Considered}
 use Rattle.listeners.proofs.Taken.{popped}
 use Rattle.listeners.proofs.marking.settle.Goals as goal
@@ -11,7 +11,7 @@ pending-preserved c start =
     let roles = numbers_at c.args.roles.now in
     let ds = c.args.definitions.now in
     let P = IsDefinition roles in
-    let U = StandsUnder roles in
+    let U = IsUnder roles in
     let R = Reaches roles ds in
     let ws = c.in-Some.waiting.items in
     let q = queue_of c.pop.new.self in

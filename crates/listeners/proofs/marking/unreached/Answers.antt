@@ -1,7 +1,7 @@
 use Rattle.std.proofs.Common.{subst, List, ℕ}
 use Rattle.listeners_symbols.specs.Symbols.{DefinitionOf}
 use Rattle.listeners_symbols.specs.Lines.{numbers_at}
-use Rattle.listeners.specs.Marks.{IsDefinition, IsMarked, Reaches, StandsUnder, left_at}
+use Rattle.listeners.specs.Marks.{IsDefinition, IsMarked, Reaches, IsUnder, left_at}
 use Rattle.listeners.proofs.Taken.{marked_complete}
 use Rattle.listeners.proofs.marking.unreached.Goals as goal
 
@@ -11,4 +11,4 @@ returns c =
     let left = left_at c.mark.new.left in
     let go = c.in_ok-mark.ensures c.in_ok-left.ensures in
     subst (λ (ds : List (DefinitionOf ℕ)). IsMarked roles ds left) c.in_ok-definitions.ensures
-    (record { sound = go.sound; complete = marked_complete (IsDefinition roles) (StandsUnder roles) (Reaches roles c.in_ok-definitions.definitions) left go; only = go.only })
+    (record { sound = go.sound; complete = marked_complete (IsDefinition roles) (IsUnder roles) (Reaches roles c.in_ok-definitions.definitions) left go; only = go.only })

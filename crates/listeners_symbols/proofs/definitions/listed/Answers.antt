@@ -11,4 +11,4 @@ loop-op-preserved c =
 pub returns : goal.returns
 returns c =
     none_listed defined_by (kept_at c.args.roles.now) c.loop-op.op-iterator c.loop-op.out.items _ c.in-None.ensures.steps.0 c.loop-op.invariant
-    ∙ definitions_told c.args.roles.now c.ordered.ensures.all c.ordered.ensures.telling
+    ∙ definitions_told c.args.roles.now c.ordered.ensures.all c.ordered.ensures.symbol_ops

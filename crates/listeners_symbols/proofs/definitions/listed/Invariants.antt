@@ -5,4 +5,4 @@ use Rattle.listeners_symbols.specs.Telling.{told}
 use Rattle.listeners_symbols.proofs.definitions.listed.Given as goal
 
 abbrev pub invariant-loop-op : goal.invariant-loop-op
-invariant-loop-op l = l.out.items ++ told defined_by (kept_at l.fn.roles) l.op-iterator ≡ told defined_by (kept_at l.fn.roles) l.fn.roles.telling.keys
+invariant-loop-op l = l.out.items ++ told defined_by (kept_at l.fn.roles) l.op-iterator ≡ told defined_by (kept_at l.fn.roles) l.fn.roles.symbol_ops.keys

@@ -9,4 +9,4 @@ use Rattle.listeners_symbols.proofs.report.push_all_references.Given as goal
 abbrev pub invariant-loop-op : goal.invariant-loop-op
 invariant-loop-op l =
     cells_of l.out.items ++ lines_cells (told (references_by (numbers_at l.fn.roles) l.fn.names.definitions (contains nat_cmp l.fn.names.possible) l.fn.resolved) (kept_at l.fn.roles) l.op-iterator)
-    ≡ cells_of l.fn.out.items ++ lines_cells (told (references_by (numbers_at l.fn.roles) l.fn.names.definitions (contains nat_cmp l.fn.names.possible) l.fn.resolved) (kept_at l.fn.roles) l.fn.roles.telling.keys)
+    ≡ cells_of l.fn.out.items ++ lines_cells (told (references_by (numbers_at l.fn.roles) l.fn.names.definitions (contains nat_cmp l.fn.names.possible) l.fn.resolved) (kept_at l.fn.roles) l.fn.roles.symbol_ops.keys)

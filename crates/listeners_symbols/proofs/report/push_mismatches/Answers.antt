@@ -14,4 +14,4 @@ loop-op-preserved c =
 pub returns : goal.returns
 returns c =
     none_told (call_by (numbers_at c.args.roles.now) c.args.definitions.now) (kept_at c.args.roles.now) (line_cells cell.Tag cell.Op cell.Name cell.Path) c.loop-op.op-iterator (cells_of c.loop-op.out.items) _ c.in-None.ensures.steps.0 c.loop-op.invariant
-    ∙ ap (λ l. cells_of c.args.out.now.items ++ lines_cells l) (calls_told c.args.roles.now c.ordered.ensures.all c.ordered.ensures.telling (numbers_at c.args.roles.now) c.args.definitions.now)
+    ∙ ap (λ l. cells_of c.args.out.now.items ++ lines_cells l) (calls_told c.args.roles.now c.ordered.ensures.all c.ordered.ensures.symbol_ops (numbers_at c.args.roles.now) c.args.definitions.now)

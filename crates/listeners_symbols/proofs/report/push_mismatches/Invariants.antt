@@ -7,4 +7,4 @@ use Rattle.listeners_symbols.proofs.report.push_mismatches.Given as goal
 abbrev pub invariant-loop-op : goal.invariant-loop-op
 invariant-loop-op l =
     cells_of l.out.items ++ lines_cells (told (call_by (numbers_at l.fn.roles) l.fn.definitions) (kept_at l.fn.roles) l.op-iterator)
-    ≡ cells_of l.fn.out.items ++ lines_cells (told (call_by (numbers_at l.fn.roles) l.fn.definitions) (kept_at l.fn.roles) l.fn.roles.telling.keys)
+    ≡ cells_of l.fn.out.items ++ lines_cells (told (call_by (numbers_at l.fn.roles) l.fn.definitions) (kept_at l.fn.roles) l.fn.roles.symbol_ops.keys)

@@ -3,7 +3,7 @@ use Rattle.ir_event.specs.Modules.{module_in}
 use Rattle.ir_event.specs.types.Terms.{TypeTerm, type_term}
 use Rattle.ir_event.specs.tree_laws.Values.{type_of_value}
 use Rattle.ir_event.proofs.Typed.{value_known}
-use Rattle.mlir_work_notes.specs.Notes.{Tells, told, typed}
+use Rattle.mlir_work_notes.specs.Notes.{AppendsNotes, told, typed}
 use Rattle.mlir_work_notes.proofs.Meant.{type_meant}
 use Rattle.mlir_work_notes.proofs.write_notes.write_type_of.Goals as goal
 
@@ -20,4 +20,4 @@ pub returns-in-Some : goal.returns-in-Some
 returns-in-Some c =
     let w = c.args.world.now in
     let there : type_of_value c.args.value.now (module_in w).tree ≡ Some (type_term w.ctx c.in-Some.ty) = type_meant w.ctx w.store.module_of.tree c.args.value.now ∙ ap (option_map (type_term w.ctx)) (sym c.in-Some.ensures) in
-    subst (λ (o : Option TypeTerm). Tells c.write_quoted_type.result c.args.out.now.items c.write_quoted_type.new.out.items (typed o)) (sym there) c.write_quoted_type.ensures
+    subst (λ (o : Option TypeTerm). AppendsNotes c.write_quoted_type.result c.args.out.now.items c.write_quoted_type.new.out.items (typed o)) (sym there) c.write_quoted_type.ensures

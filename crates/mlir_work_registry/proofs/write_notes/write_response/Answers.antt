@@ -2,18 +2,18 @@ use Rattle.std.proofs.Common.{◌≡◌, ◌==◌, ◌++◌, ℕ, List, [], ◌�
 use Rattle.ir_event.specs.types.declared.refusal.Refusal.{Refusal}
 use Rattle.mlir_work_script_base.specs.Writes.{Writes}
 use Rattle.mlir_work_script_base.proofs.Joins.{preceding_more, puts_join}
-use Rattle.mlir_work_registry.specs.Explained.{explained_line, told_text}
+use Rattle.mlir_work_registry.specs.Explained.{explained_line, response_lines}
 use Rattle.mlir_work_registry.specs.Notices.{Notice, notice_of}
 use Rattle.mlir_work_registry.specs.Told.{reply_text, surprise_line}
 use Rattle.mlir_work_registry.proofs.write_notes.write_response.Goals as goal
 
 -- an empty note
-bare : (n : ℕ) (expected : Option Refusal) (notice : Notice) (about : List ℕ) → (length about == 0) ≡ true → reply_text n expected notice ≡ told_text n expected notice about
+bare : (n : ℕ) (expected : Option Refusal) (notice : Notice) (about : List ℕ) → (length about == 0) ≡ true → reply_text n expected notice ≡ response_lines n expected notice about
 bare n expected notice [] e = refl
 bare n expected notice (b ∷ bs) e = absurd (grind (arith, e))
 
 -- a note that isn't empty
-more : (n : ℕ) (expected : Option Refusal) (notice : Notice) (about : List ℕ) → (length about == 0) ≡ false → explained_line n notice about ++ surprise_line n expected notice ≡ told_text n expected notice about
+more : (n : ℕ) (expected : Option Refusal) (notice : Notice) (about : List ℕ) → (length about == 0) ≡ false → explained_line n notice about ++ surprise_line n expected notice ≡ response_lines n expected notice about
 more n expected notice [] e = absurd (true≢false e)
 more n expected notice (b ∷ bs) e = refl
 

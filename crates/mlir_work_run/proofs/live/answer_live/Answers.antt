@@ -4,7 +4,7 @@ use Rattle.ir_event.specs.types.declared.refusal.Refusal.TheVariants.{Memory}
 use Rattle.mlir_work_run.specs.Feeding.{waiting}
 use Rattle.mlir_work_session.specs.Limits.{most_input_bytes}
 use Rattle.mlir_work_session.specs.Panels.{all_shown}
-use Rattle.mlir_work_run.specs.Whole.{IsRefusal, cause_if, setting_with}
+use Rattle.mlir_work_run.specs.Whole.{IsRefusal, construct_if, setting_with}
 use Rattle.mlir_work_run.proofs.Lives.{leaves_after, leaves_halted, live_failed, live_ran, live_refused, live_unparsed, more_of, true_of}
 use Rattle.mlir_work_run.proofs.live.answer_live.Goals as goal
 
@@ -19,7 +19,7 @@ returns-in-Err-Broken-clause-ended g c = live_unparsed (setting_with g.L.Analysi
 
 pub returns-in-Err-Memory-clause-ended : goal.returns-in-Err-Memory-clause-ended
 returns-in-Err-Memory-clause-ended g c =
-    live_refused (setting_with g.L.AnalysisSource.supply c.args.options (registry_model c.args.registry)) (all_shown g.L.Analysis.meaning c.args.boxes.items) (g.R.Source.intake c.args.reader.now).remaining (IsRefusal c.no_memory.result.refusal c.no_memory.result.offset (cause_if c.args.options.explain c.no_memory.result.unsupported)) (λ input. input ≡ input) (g.W.Sink.stream c.args.writer.now) (g.W.Sink.stream c.flush.new.writer) (g.W.Sink.stream c.refuse.new.writer) (g.W.Sink.handed c.refuse.new.writer) c.refuse.result c.halted.result c.halted.ensures (true_of (g.R.Source.intake c.args.reader.now).remaining) (λ input why lines st out h. inr (inl (Memory, None, refl, rw (c.no_memory.ensures.refusal, c.no_memory.ensures.offset, c.no_memory.ensures.unsupported) at h))) c.in-Ok.ensures.stays c.refuse.ensures
+    live_refused (setting_with g.L.AnalysisSource.supply c.args.options (registry_model c.args.registry)) (all_shown g.L.Analysis.meaning c.args.boxes.items) (g.R.Source.intake c.args.reader.now).remaining (IsRefusal c.no_memory.result.refusal c.no_memory.result.offset (construct_if c.args.options.explain c.no_memory.result.unsupported)) (λ input. input ≡ input) (g.W.Sink.stream c.args.writer.now) (g.W.Sink.stream c.flush.new.writer) (g.W.Sink.stream c.refuse.new.writer) (g.W.Sink.handed c.refuse.new.writer) c.refuse.result c.halted.result c.halted.ensures (true_of (g.R.Source.intake c.args.reader.now).remaining) (λ input why lines st out h. inr (inl (Memory, None, refl, rw (c.no_memory.ensures.refusal, c.no_memory.ensures.offset, c.no_memory.ensures.unsupported) at h))) c.in-Ok.ensures.stays c.refuse.ensures
 
 pub returns-in-Err-TooMany-clause-ended : goal.returns-in-Err-TooMany-clause-ended
 unfolding most_input_bytes
@@ -35,7 +35,7 @@ returns-in-Err-Broken-clause-leaves g c = (rw c.in-Err-Broken.field-0-is at c.in
 pub returns-in-Err-Memory-clause-leaves : goal.returns-in-Err-Memory-clause-leaves
 returns-in-Err-Memory-clause-leaves g c =
     let same = rw c.in-Err-Memory.field-0-is at c.in-Err-Memory.ensures.broken in
-    let here = leaves_halted (IsRefusal c.no_memory.result.refusal c.no_memory.result.offset (cause_if c.args.options.explain c.no_memory.result.unsupported)) (g.R.Source.intake c.take_module.new.reader) (g.R.Source.intake c.take_module.new.reader) (g.W.Sink.stream c.flush.new.writer) (g.W.Sink.stream c.refuse.new.writer) (g.W.Sink.handed c.refuse.new.writer) c.refuse.result c.halted.result c.halted.ensures (λ st o h. inr (inr h.0)) refl c.refuse.ensures in
+    let here = leaves_halted (IsRefusal c.no_memory.result.refusal c.no_memory.result.offset (construct_if c.args.options.explain c.no_memory.result.unsupported)) (g.R.Source.intake c.take_module.new.reader) (g.R.Source.intake c.take_module.new.reader) (g.W.Sink.stream c.flush.new.writer) (g.W.Sink.stream c.refuse.new.writer) (g.W.Sink.handed c.refuse.new.writer) c.refuse.result c.halted.result c.halted.ensures (λ st o h. inr (inr h.0)) refl c.refuse.ensures in
     leaves_after (g.R.Source.intake c.args.reader.now) (g.R.Source.intake c.take_module.new.reader) (g.R.Source.intake c.take_module.new.reader) (g.W.Sink.stream c.args.writer.now) (g.W.Sink.stream c.flush.new.writer) (g.W.Sink.stream c.refuse.new.writer) (g.W.Sink.handed c.refuse.new.writer) c.halted.result same c.in-Ok.ensures.stays.1 here
 
 pub returns-in-Err-TooMany-clause-leaves : goal.returns-in-Err-TooMany-clause-leaves

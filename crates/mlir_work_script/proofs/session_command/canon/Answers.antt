@@ -2,11 +2,11 @@
 use Rattle.std.proofs.Common.{◌≡◌, ◌∙◌, ap, sym, refl, true, ℕ, List}
 use Rattle.std.specs.Prelude.{codes}
 use Rattle.std.specs.Str.{bytes_eq}
-use Rattle.mlir_work_script.specs.SessionCommands.{canon_order_in, rewrite_in}
+use Rattle.mlir_work_script.specs.SessionCommands.{canon_command_in, rewrite_in}
 use Rattle.mlir_work_script_base.specs.Words.{after_word, word_of}
 use Rattle.mlir_work_script.proofs.session_command.canon.Goals as goal
 
-only_said : (rest : List ℕ) → bytes_eq (word_of rest) (codes "only") ≡ true → rewrite_in (after_word rest) ≡ canon_order_in rest
+only_said : (rest : List ℕ) → bytes_eq (word_of rest) (codes "only") ≡ true → rewrite_in (after_word rest) ≡ canon_command_in rest
 only_said rest is = rw is refl
 
 pub returns-then-eq : goal.returns-then-eq

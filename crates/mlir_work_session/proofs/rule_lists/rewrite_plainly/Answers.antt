@@ -1,8 +1,8 @@
 use Rattle.std.proofs.Common.{inr}
 use Rattle.mlir_work_transforms.specs.greedy.Changes.{rewriting}
-use Rattle.mlir_work_transforms.specs.greedy.PatternSet.{patterns_of, by_attempts}
+use Rattle.mlir_work_transforms.specs.greedy.PatternSet.{patterns_of, pattern_set_from}
 use Rattle.mlir_work_transforms.specs.rewriter.RewriterCalls.{state_of}
-use Rattle.mlir_work_session.proofs.Mixes.{follows_called, shows_same}
+use Rattle.mlir_work_session.proofs.AnswersRuleList.{follows_called, shows_same}
 use Rattle.mlir_work_session.proofs.Headroom.{replied, widened}
 use Rattle.mlir_work_session.proofs.rule_lists.rewrite_plainly.Goals as goal
 
@@ -13,7 +13,7 @@ pub returns-clause-shows : goal.returns-clause-shows
 returns-clause-shows g c = shows_same _ _ _ _ c.trace_reply.ensures.reply c.trace_reply.ensures.shows
 
 pub returns-clause-headroom : goal.returns-clause-headroom
-returns-clause-headroom g c = replied _ (state_of g.L.Analysis.meaning c.args.bench.now) (rewriting (by_attempts (patterns_of c.args.candidates.now)) c.args.limit) _ _ c.trace_reply.ensures.reply (λ e. widened (λ more. inr more) (c.rewrite_with_patterns-called.ensures.headroom e))
+returns-clause-headroom g c = replied _ (state_of g.L.Analysis.meaning c.args.bench.now) (rewriting (pattern_set_from (patterns_of c.args.candidates.now)) c.args.limit) _ _ c.trace_reply.ensures.reply (λ e. widened (λ more. inr more) (c.rewrite_with_patterns-called.ensures.headroom e))
 
 pub returns-clause-kept : goal.returns-clause-kept
 returns-clause-kept g c = c.led_benches_are_kept.ensures.kept _ _ c.rewrite_with_patterns-called.ensures.led c.requires.kept

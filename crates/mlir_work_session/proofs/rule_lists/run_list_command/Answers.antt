@@ -1,5 +1,5 @@
 use Rattle.std.proofs.Common.{sym}
-use Rattle.mlir_work_session.proofs.Mixes.{rule_list, plainly}
+use Rattle.mlir_work_session.proofs.AnswersRuleList.{rule_list, plainly}
 use Rattle.mlir_work_session.proofs.rule_lists.run_list_command.Goals as goal
 
 pub returns-in-Some-clause-fulfils : goal.returns-in-Some-clause-fulfils

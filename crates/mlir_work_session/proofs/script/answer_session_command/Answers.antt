@@ -1,5 +1,5 @@
 use Rattle.std.proofs.Common.{refl}
-use Rattle.mlir_work_script.specs.SessionCommands.{order_of}
+use Rattle.mlir_work_script.specs.SessionCommands.{session_command_of}
 use Rattle.mlir_work_transforms.specs.registry.Registry.{registry_model}
 use Rattle.mlir_work_transforms.specs.rewriter.RewriterCalls.{state_of}
 use Rattle.mlir_work_session.specs.Machine.{response_of, session_setting}
@@ -14,7 +14,7 @@ returns-clause-fulfils g c = (response_of c.run_named_command-answered.result.re
 pub returns-clause-bounded : goal.returns-clause-bounded
 returns-clause-bounded g c =
     let model = registry_model c.args.registry.now in
-    let command = order_of c.args.session_command.now in
+    let command = session_command_of c.args.session_command.now in
     let response = response_of c.run_named_command-answered.result.reply in
     within_of c.args.session_options.now.bytes response
     (named_bounded (session_setting g.L.AnalysisSource.supply c.args.session_options.now) model c.args.session_options.now.bytes (asked_pattern command model)

@@ -1,4 +1,4 @@
-use Rattle.std.proofs.Common.{◌≡◌, ◌∙◌, ap, sym, ℕ, Option, Some, None}
+use Rattle.std.proofs.Common.{◌∙◌, ap, sym, ℕ, Option}
 use Rattle.std.specs.Prelude.{option_map}
 use Rattle.mlir_work_transforms.specs.rewriter.Panels.{Shown, shown}
 use Rattle.mlir_work_transforms.specs.rewriter.Held.{TransactionModel}

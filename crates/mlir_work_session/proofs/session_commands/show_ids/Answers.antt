@@ -1,4 +1,4 @@
-use Rattle.mlir_work_session.proofs.Fulfilling.{fulfils_printed, fulfils_unprinted}
+use Rattle.mlir_work_session.proofs.Fulfilling.{fulfils_printed}
 use Rattle.mlir_work_session.proofs.Reading.{held_ids}
 use Rattle.mlir_work_session.proofs.session_commands.show_ids.Goals as goal
 

@@ -1,4 +1,4 @@
-use Rattle.std.proofs.Common.{◌∙◌, ap, sym}
+use Rattle.std.proofs.Common.{◌∙◌}
 use Rattle.mlir_work_session.proofs.Asking.{in_held, lines_held}
 use Rattle.mlir_work_session.proofs.Fulfilling.{fulfils_absent, fulfils_unwhy, fulfils_why}
 use Rattle.mlir_work_session.proofs.why.reasons_reply.Goals as goal

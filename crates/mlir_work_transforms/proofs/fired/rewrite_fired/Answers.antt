@@ -1,6 +1,6 @@
 use Rattle.conversion.specs.rewriter.RewriterCalls.{state_of}
 use Rattle.greedy.specs.PatternSet.{by_rules}
-use Rattle.greedy.proofs.Trials.{rules_fire}
+use Rattle.greedy.proofs.Applications.{rules_fire}
 use Rattle.mlir_work_transforms.proofs.Firings.{fired_told}
 use Rattle.mlir_work_transforms.proofs.Limited.{rewriting_length}
 use Rattle.mlir_work_transforms.proofs.fired.rewrite_fired.Goals as goal

@@ -1,7 +1,6 @@
 use Rattle.std.proofs.Common.{◌≡◌, ◌∙◌, ap, List, ◌++◌, Option, subst, ◌+◌}
 use Rattle.std.specs.Prelude.{OnOk}
 use Rattle.ir_event.specs.types.declared.bits.Bits.{Bits}
-use Rattle.ir_event.specs.Modules.{module_in}
 use Rattle.user_patterns_data.specs.Planning.{extra_place}
 use Rattle.user_patterns_data.specs.Shapes.{pattern_model}
 use Rattle.mlir_work_transforms.specs.WhyPattern.{Number, computed_at, condition_text, numbers_view}

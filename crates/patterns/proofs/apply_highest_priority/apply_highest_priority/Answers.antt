@@ -1,12 +1,12 @@
 use Rattle.std.proofs.Common.{◌∙◌, refl, inl, subst, sym}
 use Rattle.patterns_soundness.specs.base.Canonicalization.{highest_priority}
 use Rattle.patterns_lowering.specs.Held.{module_held}
-use Rattle.patterns.specs.Lowest.{IsHighestPriority}
+use Rattle.patterns.specs.HighestPriority.{IsHighestPriority}
 use Rattle.patterns.specs.Planned.{planned_edits}
 use Rattle.patterns_lowering.proofs.Journals.{recorded_none}
 use Rattle.patterns.proofs.Applying.{gave, is_there, not_there, stopped}
 use Rattle.patterns.proofs.Carrying.{applied_none, journaled_none}
-use Rattle.patterns.proofs.Lowering.{none_applied, none_held, applied_held, fits_held, free_held, rule_held, lowest_due}
+use Rattle.patterns.proofs.Lowering.{none_applied, none_held, applied_held, fits_held, free_held, rule_held, highest_priority_due}
 use Rattle.patterns.proofs.apply_highest_priority.apply_highest_priority.Goals as goal
 
 pub returns-then-not-in_tree-clause-refused : goal.returns-then-not-in_tree-clause-refused
@@ -33,7 +33,7 @@ apply_plan-requires-clause-of g c = fits_held c.world-world.result.now c.args.be
 pub returns-in-Ok-apply_plan-clause-ok : goal.returns-in-Ok-apply_plan-clause-ok
 returns-in-Ok-apply_plan-clause-ok g c =
     gave (highest_priority (module_held c.args.bench.now.transaction) c.args.op) (module_held c.args.bench.now.transaction) (module_held c.apply_plan.new.bench.transaction)
-    (lowest_due c.world-world.result.now c.args.bench.now.transaction c.world-world.ensures.ctx c.world-world.ensures.store c.args.op c.in-Some.found (subst (IsHighestPriority c.world-world.result.now c.args.op) c.in-Some.is c.in-Ok.ensures)
+    (highest_priority_due c.world-world.result.now c.args.bench.now.transaction c.world-world.ensures.ctx c.world-world.ensures.store c.args.op c.in-Some.found (subst (IsHighestPriority c.world-world.result.now c.args.op) c.in-Some.is c.in-Ok.ensures)
     ∙ c.in-Ok-apply_plan.ensures.carried)
 
 pub returns-in-Ok-apply_plan-clause-rule : goal.returns-in-Ok-apply_plan-clause-rule
@@ -45,7 +45,7 @@ returns-in-Err-clause-err g c = c.in-Err.ensures.carried.0
 pub returns-in-Err-clause-refused : goal.returns-in-Err-clause-refused
 returns-in-Err-clause-refused g c =
     stopped (highest_priority (module_held c.args.bench.now.transaction) c.args.op) (planned_edits c.args.bench.now.transaction.ctx (module_held c.args.bench.now.transaction).next c.args.op c.in-Some.found.planned) c.args.op (module_held c.args.bench.now.transaction) c.apply_plan.new.bench.transaction.ctx c.in-Err.refusal
-    (lowest_due c.world-world.result.now c.args.bench.now.transaction c.world-world.ensures.ctx c.world-world.ensures.store c.args.op c.in-Some.found (subst (IsHighestPriority c.world-world.result.now c.args.op) c.in-Some.is c.in-Ok.ensures)) c.in-Err.ensures.carried.1
+    (highest_priority_due c.world-world.result.now c.args.bench.now.transaction c.world-world.ensures.ctx c.world-world.ensures.store c.args.op c.in-Some.found (subst (IsHighestPriority c.world-world.result.now c.args.op) c.in-Some.is c.in-Ok.ensures)) c.in-Err.ensures.carried.1
 
 pub returns-in_default-lowest-clause-journal : goal.returns-in_default-lowest-clause-journal
 returns-in_default-lowest-clause-journal g c = journaled_none g.L.Analysis.meaning c.args.bench.now

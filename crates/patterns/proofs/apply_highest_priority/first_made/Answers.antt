@@ -2,10 +2,10 @@ use Rattle.std.proofs.Common.{◌∙◌, ◌-◌, ap, sym, subst, refl, List, So
 use Rattle.std.specs.Prelude.{IfOk}
 use Rattle.ir_event.specs.Modules.{module_in}
 use Rattle.ir_event.proofs.of_types.Truths.{none_left, rest_at}
-use Rattle.patterns.specs.Firing.{firing}
+use Rattle.patterns.specs.FirstMatching.{first_matching_rule}
 use Rattle.patterns_soundness.specs.base.declared.rule.Rule.{Rule}
 use Rattle.patterns_soundness.specs.base.declared.rule.Rule.TheVariants.{EraseDead}
-use Rattle.patterns.specs.Lowest.{BeginsLikely, IsFirst, FirstMatch, greedy}
+use Rattle.patterns.specs.HighestPriority.{BeginsLikely, IsFirst, FirstMatch, greedy}
 use Rattle.patterns.proofs.Firsts.{none_first}
 use Rattle.patterns.proofs.Lowering.{first_others_ok}
 use Rattle.patterns.proofs.apply_highest_priority.first_made.Goals as goal
@@ -19,7 +19,7 @@ abbrev others : List Rule → List Rule
 others xs = take (length xs - 1) (drop 1 xs)
 
 pub returns-in_default : goal.returns-in_default
-returns-in_default c = ap (λ z. firing (greedy z) (module_in c.args.world.now) c.args.op) (none_left c.args.rules.now c.in_default.len_below) ∙ none_first (module_in c.args.world.now) c.args.op
+returns-in_default c = ap (λ z. first_matching_rule (greedy z) (module_in c.args.world.now) c.args.op) (none_left c.args.rules.now c.in_default.len_below) ∙ none_first (module_in c.args.world.now) c.args.op
 
 pub try_likely-requires-clause-likely : goal.try_likely-requires-clause-likely
 try_likely-requires-clause-likely c =

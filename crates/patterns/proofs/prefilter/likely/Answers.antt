@@ -1,7 +1,7 @@
 use Rattle.std.proofs.Common.{◌∙◌, ap}
 use Rattle.ir_event.specs.Modules.{module_in}
-use Rattle.patterns.specs.Firing.{firing}
-use Rattle.patterns.specs.Lowest.{greedy}
+use Rattle.patterns.specs.FirstMatching.{first_matching_rule}
+use Rattle.patterns.specs.HighestPriority.{greedy}
 use Rattle.patterns.proofs.Firsts.{none_first}
 use Rattle.patterns.proofs.prefilter.likely.Goals as goal
 use Rattle.ir_event.proofs.of_types.Truths.{none_left}
@@ -10,4 +10,4 @@ pub returns-then-is_likely-clause-likely : goal.returns-then-is_likely-clause-li
 returns-then-is_likely-clause-likely c = c.rules.invariant
 
 pub returns-clause-likely : goal.returns-clause-likely
-returns-clause-likely c = c.rules.invariant ∙ ap (λ z. firing (greedy z) (module_in c.args.world.now) c.args.op) (none_left c.rules.rest.now c.in_default.len_below) ∙ none_first (module_in c.args.world.now) c.args.op
+returns-clause-likely c = c.rules.invariant ∙ ap (λ z. first_matching_rule (greedy z) (module_in c.args.world.now) c.args.op) (none_left c.rules.rest.now c.in_default.len_below) ∙ none_first (module_in c.args.world.now) c.args.op

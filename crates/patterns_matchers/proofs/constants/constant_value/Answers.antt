@@ -18,10 +18,10 @@ returns-in_default c =
     let t = (module_in c.args.world.now).tree in
     known_not t c.args.value.now false (ap is_of_constant c.in_default.ensures.node ∙ sym (ap (is_constant t) c.in-Result.is)) refl
 
-pub returns-in-Some-plain_bits : goal.returns-in-Some-plain_bits
-returns-in-Some-plain_bits c =
+pub returns-in-Some-constant_bits_of_node : goal.returns-in-Some-constant_bits_of_node
+returns-in-Some-constant_bits_of_node c =
     let w = c.args.world.now in
-    known_plainly w.ctx w.store.module_of.tree c.args.value.now c.in-Result.op _ c.in-Some.node _ _ c.in-Result.is c.in-Some.ensures.stored c.in-Some.ensures.node c.in-Some-plain_bits.ensures
+    known_plainly w.ctx w.store.module_of.tree c.args.value.now c.in-Result.op _ c.in-Some.node _ _ c.in-Result.is c.in-Some.ensures.stored c.in-Some.ensures.node c.in-Some-constant_bits_of_node.ensures
 
 pub returns-then-not-is_word : goal.returns-then-not-is_word
 returns-then-not-is_word c =

@@ -4,7 +4,7 @@ use Rattle.ir_event.specs.types.declared.refusal.Refusal.TheVariants.{Memory}
 use Rattle.ir_event.specs.trees.Meaning.{IsSoundIn}
 use Rattle.rewriter.specs.Contents.{tests_in}
 use Rattle.rewriter.specs.Creating.{AreHeadersOf, IsRefusedAmong}
-use Rattle.rewriter.proofs.Tried.{header_there, made_none, made_more, made_refused}
+use Rattle.rewriter.proofs.IsMadeOrRefused.{header_there, made_none, made_more, made_refused}
 use Rattle.rewriter.proofs.making.make_each.Goals as goal
 
 pub loop-header-init : goal.loop-header-init

@@ -1,4 +1,4 @@
-use Rattle.rewriter.proofs.Tried.{IsMade}
+use Rattle.rewriter.proofs.IsMadeOrRefused.{IsMade}
 use Rattle.rewriter.proofs.making.make_each.Given as goal
 
 abbrev pub invariant-loop-header : goal.invariant-loop-header

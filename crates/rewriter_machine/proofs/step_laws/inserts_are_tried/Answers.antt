@@ -1,4 +1,4 @@
-use Rattle.rewriter_machine.proofs.Tried.{reason_split, tried_whole, tried_through, tried_failed}
+use Rattle.rewriter_machine.proofs.IsMadeOrRefused.{reason_split, tried_whole, tried_through, tried_failed}
 use Rattle.rewriter_machine.proofs.step_laws.inserts_are_tried.Goals as goal
 
 pub returns-clause-split : goal.returns-clause-split

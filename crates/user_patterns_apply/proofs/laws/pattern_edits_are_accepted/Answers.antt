@@ -1,5 +1,5 @@
-use Rattle.user_patterns_apply.proofs.Accepted.{own_are_accepted}
+use Rattle.user_patterns_apply.proofs.Accepted.{user_patterns_are_accepted}
 use Rattle.user_patterns_apply.proofs.laws.pattern_edits_are_accepted.Goals as goal
 
 pub returns : goal.returns
-returns c = own_are_accepted
+returns c = user_patterns_are_accepted

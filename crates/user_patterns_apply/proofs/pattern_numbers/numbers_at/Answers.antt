@@ -6,7 +6,7 @@ use Rattle.dialects_int.specs.Folds.{known_of}
 use Rattle.patterns_base.specs.Looks.{is_verified}
 use Rattle.user_patterns_check.specs.Contents.{Content}
 use Rattle.user_patterns_data.specs.Fitting.{content_with}
-use Rattle.user_patterns_data.specs.Planning.{kind_standing, outcomes, typed}
+use Rattle.user_patterns_data.specs.Planning.{bound_type, outcomes, typed}
 use Rattle.user_patterns_data.specs.Shapes.{pattern_model}
 use Rattle.user_patterns_apply.specs.Types.{types_in}
 use Rattle.user_patterns_apply.proofs.NumbersAt.{all_numbers, no_numbers}
@@ -22,7 +22,7 @@ returns-then-branch c =
     (types_in w.ctx c.in-Ok-2.types.items)
     (ap (λ r. option_map (λ ts. types_in w.ctx ts.items) (result_ok r)) (sym c.in-Ok-2.is) ∙ c.in_ok-types.ensures.types ∙ ap (typed m.tree (is_verified m.tree) m.next p) c.deref.ensures.value)
     c.first_steps.result.now
-    (c.first_steps.ensures ∙ ap (take c.args.most) (c.as_slice-steps.ensures.value ∙ c.in_ok-steps.ensures ∙ ap (λ ks. Content.given (content_with ks p)) (c.deref-4.ensures.value ∙ c.in_ok-value_types.ensures ∙ ap (λ ts. map kind_standing (types_in w.ctx ts)) c.deref-2.ensures.value)))
+    (c.first_steps.ensures ∙ ap (take c.args.most) (c.as_slice-steps.ensures.value ∙ c.in_ok-steps.ensures ∙ ap (λ ks. Content.given (content_with ks p)) (c.deref-4.ensures.value ∙ c.in_ok-value_types.ensures ∙ ap (λ ts. map bound_type (types_in w.ctx ts)) c.deref-2.ensures.value)))
     (map known_of c.in_ok-env.env.items) (c.in_ok-env.ensures ∙ ap (outcomes m.tree (is_verified m.tree) m.next p 0 p.values) c.deref-3.ensures.value)
     (map known_of c.run.new.env.items) c.in_ok-run.field-0 c.in_ok-run.ensures c.if-branch.true
 
@@ -37,6 +37,6 @@ returns c =
     (types_in w.ctx c.in-Ok-2.types.items)
     (ap (λ r. option_map (λ ts. types_in w.ctx ts.items) (result_ok r)) (sym c.in-Ok-2.is) ∙ c.in_ok-types.ensures.types ∙ ap (typed m.tree (is_verified m.tree) m.next p) c.deref.ensures.value)
     c.first_steps.result.now
-    (c.first_steps.ensures ∙ ap (take c.args.most) (c.as_slice-steps.ensures.value ∙ c.in_ok-steps.ensures ∙ ap (λ ks. Content.given (content_with ks p)) (c.deref-4.ensures.value ∙ c.in_ok-value_types.ensures ∙ ap (λ ts. map kind_standing (types_in w.ctx ts)) c.deref-2.ensures.value)))
+    (c.first_steps.ensures ∙ ap (take c.args.most) (c.as_slice-steps.ensures.value ∙ c.in_ok-steps.ensures ∙ ap (λ ks. Content.given (content_with ks p)) (c.deref-4.ensures.value ∙ c.in_ok-value_types.ensures ∙ ap (λ ts. map bound_type (types_in w.ctx ts)) c.deref-2.ensures.value)))
     (map known_of c.in_ok-env.env.items) (c.in_ok-env.ensures ∙ ap (outcomes m.tree (is_verified m.tree) m.next p 0 p.values) c.deref-3.ensures.value)
     (map known_of c.run.new.env.items) c.in_ok-run.field-0 c.in_ok-run.ensures c.if-branch.false

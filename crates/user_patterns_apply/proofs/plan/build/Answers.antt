@@ -3,7 +3,7 @@ use Rattle.std.specs.Prelude.{is_none, option_map}
 use Rattle.ir_event.specs.Modules.{module_in}
 use Rattle.dialects_int.specs.Folds.{known_of}
 use Rattle.patterns_base.specs.Looks.{is_verified}
-use Rattle.user_patterns_data.specs.Matching.{standing}
+use Rattle.user_patterns_data.specs.Matching.{binding_at}
 use Rattle.user_patterns_data.specs.Planning.{new_place}
 use Rattle.user_patterns_data.specs.Shapes.{pattern_model}
 use Rattle.user_patterns_apply.specs.Built.{made_in, operand_in, operands_in}
@@ -56,7 +56,7 @@ returns-in-Some-operand_at-clause-plan c =
     let shown : c.deref-2.result.now ≡ c.make_all.new.operands = c.deref-2.ensures.value ∙ whole_again c.in_ok-operands.operands.len c.make_all.new.operands c.in_ok-operands.operands.items (omega (arith, c.make_all.auto.operands, c.deref_mut.ensures.len)) in
     let all = made_some w.ctx c.next_id-next.result _ _ os c.in_ok-made.ensures.made c.in-Some-2.made.items (ap (option_map (λ v. v.items)) c.in-Some-2.is) ∙ ap (λ j. Some (map (made_in w.ctx j) c.in-Some-2.made.items, operands_in j os)) c.next_id-next.ensures in
     is_given m.tree (is_verified m.tree) m.next p c.args.values.now ts env (is_none c.in_ok-mismatch.field-0) (extra_by m.tree (is_verified m.tree) m.next p c.args.values.now env _ c.in_ok-mismatch.ensures) (ap is_none c.in_default.is) _ same w.ctx c.in-Some-2.made.items os all c.in-Some-operand_at.result
-    (sym c.in-Some-operand_at.is ∙ c.operand_at.ensures ∙ ap (standing p.result) shown)
+    (sym c.in-Some-operand_at.is ∙ c.operand_at.ensures ∙ ap (binding_at p.result) shown)
 
 pub returns-clause-plan : goal.returns-clause-plan
 returns-clause-plan c =
@@ -71,7 +71,7 @@ returns-clause-plan c =
     let shown : c.deref-2.result.now ≡ c.make_all.new.operands = c.deref-2.ensures.value ∙ whole_again c.in_ok-operands.operands.len c.make_all.new.operands c.in_ok-operands.operands.items (omega (arith, c.make_all.auto.operands, c.deref_mut.ensures.len)) in
     let all = made_some w.ctx c.next_id-next.result _ _ os c.in_ok-made.ensures.made c.in-Some-2.made.items (ap (option_map (λ v. v.items)) c.in-Some-2.is) ∙ ap (λ j. Some (map (made_in w.ctx j) c.in-Some-2.made.items, operands_in j os)) c.next_id-next.ensures in
     not_given m.tree (is_verified m.tree) m.next p c.args.values.now ts env (is_none c.in_ok-mismatch.field-0) (extra_by m.tree (is_verified m.tree) m.next p c.args.values.now env _ c.in_ok-mismatch.ensures) (ap is_none c.in_default.is) _ same w.ctx c.in-Some-2.made.items os all
-    (sym c.in-None.is ∙ c.operand_at.ensures ∙ ap (standing p.result) shown)
+    (sym c.in-None.is ∙ c.operand_at.ensures ∙ ap (binding_at p.result) shown)
 
 pub returns-in_default-2-clause-tests : goal.returns-in_default-2-clause-tests
 returns-in_default-2-clause-tests c =
@@ -98,7 +98,7 @@ returns-in-Some-operand_at-clause-tests c =
     let shown : c.deref-2.result.now ≡ c.make_all.new.operands = c.deref-2.ensures.value ∙ whole_again c.in_ok-operands.operands.len c.make_all.new.operands c.in_ok-operands.operands.items (omega (arith, c.make_all.auto.operands, c.deref_mut.ensures.len)) in
     let all = made_some w.ctx c.next_id-next.result _ _ os c.in_ok-made.ensures.made c.in-Some-2.made.items (ap (option_map (λ v. v.items)) c.in-Some-2.is) ∙ ap (λ j. Some (map (made_in w.ctx j) c.in-Some-2.made.items, operands_in j os)) c.next_id-next.ensures in
     planned_passes m.tree (is_verified m.tree) m.next p c.args.values.now ts env (sym c.in_default.is ∙ c.in_ok-mismatch.ensures) _ _ (sym same ∙ all)
-    (sym (ap (option_map (operand_in m.next)) (sym c.in-Some-operand_at.is ∙ c.operand_at.ensures ∙ ap (standing p.result) shown) ∙ value_standing m.next p.result os))
+    (sym (ap (option_map (operand_in m.next)) (sym c.in-Some-operand_at.is ∙ c.operand_at.ensures ∙ ap (binding_at p.result) shown) ∙ value_standing m.next p.result os))
 
 pub returns-clause-tests : goal.returns-clause-tests
 returns-clause-tests c =
@@ -113,4 +113,4 @@ returns-clause-tests c =
     let shown : c.deref-2.result.now ≡ c.make_all.new.operands = c.deref-2.ensures.value ∙ whole_again c.in_ok-operands.operands.len c.make_all.new.operands c.in_ok-operands.operands.items (omega (arith, c.make_all.auto.operands, c.deref_mut.ensures.len)) in
     let all = made_some w.ctx c.next_id-next.result _ _ os c.in_ok-made.ensures.made c.in-Some-2.made.items (ap (option_map (λ v. v.items)) c.in-Some-2.is) ∙ ap (λ j. Some (map (made_in w.ctx j) c.in-Some-2.made.items, operands_in j os)) c.next_id-next.ensures in
     result_stops m.tree (is_verified m.tree) m.next p c.args.values.now ts env (sym c.in_default.is ∙ c.in_ok-mismatch.ensures) _ (sym same ∙ all)
-    (sym (ap (option_map (operand_in m.next)) (sym c.in-None.is ∙ c.operand_at.ensures ∙ ap (standing p.result) shown) ∙ value_standing m.next p.result os))
+    (sym (ap (option_map (operand_in m.next)) (sym c.in-None.is ∙ c.operand_at.ensures ∙ ap (binding_at p.result) shown) ∙ value_standing m.next p.result os))

@@ -6,5 +6,5 @@ pub types-preserved : goal.types-preserved
 types-preserved c =
     let split = from_item c.types.rest.now c.first-item.result _ c.in-len1-up.len_at_least c.first-item.is in record {
       of = types_left c.args.ctx.now c.types.rest.now c.first-item.result _ split c.types.invariant.of;
-      left = kinds_more c.args.ctx.now c.types.rest.now c.first-item.result _ split c.types.value_types.items _ c.kind_standing.result c.in_ok-push.ensures.items c.kind_standing.ensures _ c.types.invariant.left;
+      left = kinds_more c.args.ctx.now c.types.rest.now c.first-item.result _ split c.types.value_types.items _ c.bound_type.result c.in_ok-push.ensures.items c.bound_type.ensures _ c.types.invariant.left;
     }

@@ -2,7 +2,7 @@ use Rattle.std.proofs.Common.{◌≡◌, ◌∙◌, List, ℕ, sym, ap, subst, f
 use Rattle.user_patterns_check.specs.Cases.{AreBelow, first_failing}
 use Rattle.user_patterns_check.proofs.Found.{fails}
 use Rattle.user_patterns_check.specs.Checks.{counts, first_broken, keeps}
-use Rattle.user_patterns_check.specs.Families.{AreWidths, bounds, few_at, kept_at, silent_at, widths_at}
+use Rattle.user_patterns_check.specs.Families.{AreWidths, bounds, few_at, kept_at, is_vacuous_at, widths_at}
 use Rattle.user_patterns_check.proofs.Verdicts.{all_kept, all_silent, broken_widths, some_notified, too_many}
 use Rattle.user_patterns_check.proofs.check.check.Goals as goal
 
@@ -46,7 +46,7 @@ returns-in-None-clause-verdict g c =
     let few_all : first_failing (few_at f) (bounds c.args.types c.args.most) ≡ None = sym (few ∙ ap (first_failing (few_at f)) (c.deref.ensures.value ∙ listed)) in
     λ ws a. (
       all_kept f c.args.types c.args.most c.requires few_all (sym (kept ∙ ap (first_failing (kept_at f)) (c.deref-2.ensures.value ∙ listed))) ws a,
-      all_silent f c.args.types c.args.most c.requires few_all (sym (quiet ∙ ap (first_failing (silent_at f)) (c.deref-3.ensures.value ∙ listed))) ws a,
+      all_silent f c.args.types c.args.most c.requires few_all (sym (quiet ∙ ap (first_failing (is_vacuous_at f)) (c.deref-3.ensures.value ∙ listed))) ws a,
     )
 
 pub returns-clause-verdict : goal.returns-clause-verdict
@@ -58,5 +58,5 @@ returns-clause-verdict g c =
     let loud = rw c.in-Some-4.is at c.in_ok-counterexample-2.ensures in
     let few_all : first_failing (few_at f) (bounds c.args.types c.args.most) ≡ None = sym (few ∙ ap (first_failing (few_at f)) (c.deref.ensures.value ∙ listed)) in (
       all_kept f c.args.types c.args.most c.requires few_all (sym (kept ∙ ap (first_failing (kept_at f)) (c.deref-2.ensures.value ∙ listed))),
-      some_notified f c.args.types c.args.most c.requires c.in-Some-4.field-0.items (sym (loud ∙ ap (first_failing (silent_at f)) (c.deref-3.ensures.value ∙ listed))),
+      some_notified f c.args.types c.args.most c.requires c.in-Some-4.field-0.items (sym (loud ∙ ap (first_failing (is_vacuous_at f)) (c.deref-3.ensures.value ∙ listed))),
     )

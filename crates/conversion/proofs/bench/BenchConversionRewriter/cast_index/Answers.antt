@@ -7,7 +7,7 @@ use Rattle.conversion_base.specs.Makes.{made_by}
 use Rattle.patterns.specs.Held.{module_held}
 use Rattle.conversion.specs.Benches.{seen}
 use Rattle.conversion.specs.States.{Answers}
-use Rattle.conversion.proofs.Seen.{answered_none, index_due, index_fits, index_gone, index_one, failure, wanted}
+use Rattle.conversion.proofs.VisibleValues.{answered_none, index_due, index_fits, index_gone, index_one, failure, wanted}
 use Rattle.conversion.proofs.bench.BenchConversionRewriter.cast_index.Goals as goal
 
 pub returns-in_default-clause-answers : goal.returns-in_default-clause-answers

@@ -6,7 +6,7 @@ use Rattle.conversion_base.proofs.Collapsing.{collapse_erased, collapse_none, co
 use Rattle.patterns.specs.Held.{module_held}
 use Rattle.conversion.specs.Benches.{seen}
 use Rattle.conversion.specs.States.{Answers}
-use Rattle.conversion.proofs.Seen.{answered_none, same_module, failure}
+use Rattle.conversion.proofs.VisibleValues.{answered_none, same_module, failure}
 use Rattle.conversion.proofs.bench.BenchConversionRewriter.collapse.Goals as goal
 
 pub returns-then-not-is_inner_cast-clause-answers : goal.returns-then-not-is_inner_cast-clause-answers

@@ -1,4 +1,4 @@
-use Rattle.conversion.proofs.Seen.{committed_so}
+use Rattle.conversion.proofs.VisibleValues.{committed_so}
 use Rattle.conversion.proofs.bench.BenchConversionRewriter.commit.Goals as goal
 
 pub returns-clause-committed : goal.returns-clause-committed

@@ -1,6 +1,6 @@
 use Rattle.ir_event.specs.Modules.{module_in}
 use Rattle.patterns.specs.Held.{module_held}
-use Rattle.conversion.proofs.Seen.{same_module}
+use Rattle.conversion.proofs.VisibleValues.{same_module}
 use Rattle.conversion.proofs.Walking.{gives_held}
 use Rattle.conversion.proofs.bench.BenchConversionRewriter.defining_ops.Goals as goal
 

@@ -1,4 +1,4 @@
-use Rattle.conversion.proofs.Seen.{here_or_gone}
+use Rattle.conversion.proofs.VisibleValues.{here_or_gone}
 use Rattle.conversion.proofs.bench.BenchConversionRewriter.in_tree.Goals as goal
 
 pub returns : goal.returns

@@ -1,7 +1,7 @@
 use Rattle.std.proofs.Common.{ap, ◌∙◌}
 use Rattle.ir_event.specs.Modules.{Module}
 use Rattle.conversion_base.specs.Reconciling.{is_cast}
-use Rattle.conversion.proofs.Seen.{same_module}
+use Rattle.conversion.proofs.VisibleValues.{same_module}
 use Rattle.conversion.proofs.bench.BenchConversionRewriter.is_cast.Goals as goal
 
 pub returns : goal.returns

@@ -1,7 +1,7 @@
 use Rattle.std.proofs.Common.{sym, subst, ◌∙◌}
 use Rattle.ir_event.specs.types.Things.{ContextModel}
 use Rattle.conversion_base.specs.Targets.{IsNamedIn, target_model, is_legal}
-use Rattle.conversion.proofs.Seen.{same_module}
+use Rattle.conversion.proofs.VisibleValues.{same_module}
 use Rattle.conversion.proofs.bench.BenchConversionRewriter.is_legal.Goals as goal
 
 pub is_legal-requires : goal.is_legal-requires

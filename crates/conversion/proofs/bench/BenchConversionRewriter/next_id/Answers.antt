@@ -1,4 +1,4 @@
-use Rattle.conversion.proofs.Seen.{next_free}
+use Rattle.conversion.proofs.VisibleValues.{next_free}
 use Rattle.conversion.proofs.bench.BenchConversionRewriter.next_id.Goals as goal
 
 pub returns : goal.returns

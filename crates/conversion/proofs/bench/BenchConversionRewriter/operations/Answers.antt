@@ -1,4 +1,4 @@
-use Rattle.conversion.proofs.Seen.{all_in_order}
+use Rattle.conversion.proofs.VisibleValues.{all_in_order}
 use Rattle.conversion.proofs.bench.BenchConversionRewriter.operations.Goals as goal
 
 pub returns : goal.returns

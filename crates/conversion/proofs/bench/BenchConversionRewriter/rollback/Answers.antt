@@ -1,4 +1,4 @@
-use Rattle.conversion.proofs.Seen.{rolled_so}
+use Rattle.conversion.proofs.VisibleValues.{rolled_so}
 use Rattle.conversion.proofs.bench.BenchConversionRewriter.rollback.Goals as goal
 
 pub returns-clause-rolled : goal.returns-clause-rolled

@@ -1,4 +1,4 @@
-use Rattle.conversion.proofs.Seen.{step_leaves, step_marks, step_refused}
+use Rattle.conversion.proofs.VisibleValues.{step_leaves, step_marks, step_refused}
 use Rattle.conversion.proofs.bench.BenchConversionRewriter.step.Goals as goal
 
 pub returns-clause-ok : goal.returns-clause-ok

@@ -1,4 +1,4 @@
-use Rattle.conversion.proofs.Seen.{why_here}
+use Rattle.conversion.proofs.VisibleValues.{why_here}
 use Rattle.conversion.proofs.rules.BenchRuleApplier.reason.Goals as goal
 
 pub returns-in-Ok-clause-ok : goal.returns-in-Ok-clause-ok

@@ -5,7 +5,7 @@ use Rattle.ir_store_reads.specs.trees.Meaning.{isolated_in}
 use Rattle.ir_store_reads.specs.trees.WellFormed.{IsWellFormed}
 use Rattle.ir_store_reads.proofs.of_tree_laws.WellKept.{shift_keeps}
 use Rattle.ir_store.specs.Calls.{after_shift}
-use Rattle.ir_store.specs.Looks.{CanLook, is_seen}
+use Rattle.ir_store.specs.Looks.{CanLook, is_dominated}
 use Rattle.ir_store.specs.Shifting.{CanRelink}
 use Rattle.ir_store.proofs.Back.{can_go_back, gone_back}
 use Rattle.ir_store.proofs.Moving.{may_look, may_relink, refused_before, seen_reason, unseen_refused}
@@ -32,7 +32,7 @@ pub returns-then-operands_dominate-clause-done : goal.returns-then-operands_domi
 returns-then-operands_dominate-clause-done c =
     let isolated = isolated_in c.args.ctx.now in (
       seen_reason isolated (λ n. is_table (name_term c.args.ctx.now n)) c.args.op c.args.place c.args.self.now.module_of c.requires (sym c.in-None.ensures)
-          (ap (λ s. is_seen isolated c.args.op s.module_of.tree) (sym c.move_unchecked.ensures) ∙ sym c.operands_dominate.ensures ∙ c.if-operands_dominate.true),
+          (ap (λ s. is_dominated isolated c.args.op s.module_of.tree) (sym c.move_unchecked.ensures) ∙ sym c.operands_dominate.ensures ∙ c.if-operands_dominate.true),
       c.move_unchecked.ensures,
     )
 
@@ -42,7 +42,7 @@ returns-then-operands_dominate-clause-wellformed c =
     subst (λ s. IsWellFormed isolated s.module_of) (sym c.move_unchecked.ensures)
     (shift_keeps isolated (λ n. is_table (name_term c.args.ctx.now n)) c.args.op c.args.place c.args.self.now.module_of c.requires
     (seen_reason isolated (λ n. is_table (name_term c.args.ctx.now n)) c.args.op c.args.place c.args.self.now.module_of c.requires (sym c.in-None.ensures)
-    (ap (λ s. is_seen isolated c.args.op s.module_of.tree) (sym c.move_unchecked.ensures) ∙ sym c.operands_dominate.ensures ∙ c.if-operands_dominate.true)))
+    (ap (λ s. is_dominated isolated c.args.op s.module_of.tree) (sym c.move_unchecked.ensures) ∙ sym c.operands_dominate.ensures ∙ c.if-operands_dominate.true)))
 
 pub move_unchecked-requires-2 : goal.move_unchecked-requires-2
 move_unchecked-requires-2 c =
@@ -55,7 +55,7 @@ returns-clause-done c =
     let isolated = isolated_in c.args.ctx.now in
     let can = may_relink isolated (λ n. is_table (name_term c.args.ctx.now n)) c.args.op c.args.place c.args.self.now.module_of c.requires (sym c.in-None.ensures) in (
       unseen_refused isolated (λ n. is_table (name_term c.args.ctx.now n)) c.args.op c.args.place c.args.self.now.module_of c.requires (sym c.in-None.ensures)
-          (ap (λ s. is_seen isolated c.args.op s.module_of.tree) (sym c.move_unchecked.ensures) ∙ sym c.operands_dominate.ensures ∙ c.if-operands_dominate.false),
+          (ap (λ s. is_dominated isolated c.args.op s.module_of.tree) (sym c.move_unchecked.ensures) ∙ sym c.operands_dominate.ensures ∙ c.if-operands_dominate.false),
       c.move_unchecked-2.ensures ∙ ap (after_shift c.args.op c.in-Some-place.old) c.move_unchecked.ensures
           ∙ gone_back c.args.op c.args.place c.in-Some-place.old c.args.self.now c.distinct.ensures can (sym c.in-Some-place.ensures),
     )

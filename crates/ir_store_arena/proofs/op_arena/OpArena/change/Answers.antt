@@ -1,6 +1,6 @@
 use Rattle.std.proofs.Common.{◌≡◌, ap, sym, subst, true}
 use Rattle.ir_store_arena.specs.trees.Meaning.{key_before_in, rises}
-use Rattle.ir_store_arena.specs.Slots.{with_change, WantsNoSlot}
+use Rattle.ir_store_arena.specs.Slots.{with_change, NeedsNoSlot}
 use Rattle.ir_store_arena.specs.Contents.{Contents, with_dictionary, dictionary_in}
 use Rattle.ir_store_arena.specs.Registry.{or_none, contents_at, Swaps}
 use Rattle.ir_store_arena.proofs.Keys.{in_each, swap_swap}
@@ -27,4 +27,4 @@ returns-clause-slot c sorted wants =
     let e : contents_at c.args.self.now c.args.held.now ≡ contents_at c.widen.new.self c.widen.new.held = sym (ap or_none c.widen.ensures.same.own) in
     c.change_entry.ensures.slot
     (subst (λ z. rises before (dictionary_in part z).present ≡ true) e sorted)
-    (subst (λ z. WantsNoSlot c.args.key c.args.value (dictionary_in part z)) e wants)
+    (subst (λ z. NeedsNoSlot c.args.key c.args.value (dictionary_in part z)) e wants)

@@ -6,7 +6,7 @@ use Rattle.ir_store_arena.specs.Made.{made_contents}
 use Rattle.ir_store_arena.specs.Registry.{contents_at, keyless_contents, vacated_held, respared, Swaps}
 use Rattle.ir_store_arena.specs.Gone.{none_gone}
 use Rattle.ir_store_arena.specs.Rows.{Row, row_at, row_with_operand, row_with_entry, slots_in, vacated}
-use Rattle.ir_store_arena.specs.Slots.{Slots, with_change, WantsNoSlot}
+use Rattle.ir_store_arena.specs.Slots.{Slots, with_change, NeedsNoSlot}
 use Rattle.ir_store_arena.specs.trees.Meaning.{key_before_in, rises}
 use Rattle.ir_store_arena.proofs.Keys.{swaps_none, add_take, give_swaps, give_told, spare_swaps, row_inside, operand_inside, row_stands, old_row, entry_told, slots_told, written_sound, written_rows, in_both, where_ok, where_err, kept_rows, popped_sound, popped_is}
 use Rattle.ir_store_arena.proofs.rows.Slots.change.Goals as goal
@@ -81,4 +81,4 @@ returns-clause-slot c sorted wants =
     let e : slots_in part (row_at old k) ≡ dictionary_in part (contents_at s n.held) = ap (slots_in part) (old_row s rows old k n c.self.view_is l c.index_mut-row.ensures.value) ∙ slots_told n part (contents_at s n.held) in
     c.change.ensures.slot
     (subst (λ z. rises before z.present ≡ true) e sorted)
-    (subst (WantsNoSlot c.args.key c.args.value) e wants)
+    (subst (NeedsNoSlot c.args.key c.args.value) e wants)

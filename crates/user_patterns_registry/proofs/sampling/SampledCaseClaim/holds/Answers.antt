@@ -10,7 +10,7 @@ returns c =
     let s = content c.in_ok-sides.sides in
     let values = c.deref-3.result.now in
     let is =
-    keeps_is_tried p c.args.self.now.near.now c.args.self.now.width c.args.numbers.now c.deref.result.now values c.deref-2.result.now c.case_tried-case.result s
-    (c.deref.ensures.value ∙ c.in_ok-widths.ensures) c.in_ok-sides.ensures c.deref-2.ensures.value c.case_tried-case.ensures
+    keeps_is_tried p c.args.self.now.near.now c.args.self.now.width c.args.numbers.now c.deref.result.now values c.deref-2.result.now c.number_of_case-case.result s
+    (c.deref.ensures.value ∙ c.in_ok-widths.ensures) c.in_ok-sides.ensures c.deref-2.ensures.value c.number_of_case-case.ensures
     (c.deref-3.ensures.value ∙ c.in_ok-values.ensures) in
     subst (λ (k : Bool). IfOk c.holds.result (λ b. b ≡ k)) is c.holds.ensures

@@ -1,0 +1,5 @@
+use Rattle.std.proofs.Common.{length}
+use Rattle.ir_text_operations.proofs.dictionaries.+insert_attributes.Given as goal
+
+abbrev pub decreases-insert_attributes : goal.decreases-insert_attributes
+decreases-insert_attributes l = length l.entries.now

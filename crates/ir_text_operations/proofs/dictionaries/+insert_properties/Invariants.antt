@@ -1,0 +1,5 @@
+use Rattle.std.proofs.Common.{length}
+use Rattle.ir_text_operations.proofs.dictionaries.+insert_properties.Given as goal
+
+abbrev pub decreases-insert_properties : goal.decreases-insert_properties
+decreases-insert_properties l = length l.entries.now

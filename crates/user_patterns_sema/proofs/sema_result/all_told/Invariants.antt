@@ -1,9 +1,0 @@
-use Rattle.std.proofs.Common.{◌≡◌, length}
-use Rattle.user_patterns_sema.specs.Sema.{all_told}
-use Rattle.user_patterns_sema.proofs.sema_result.all_told.Given as goal
-
-abbrev pub invariant-types : goal.invariant-types
-invariant-types l = all_told l.fn.value_types l.fn.olds l.rest ≡ all_told l.fn.value_types l.fn.olds l.fn.told
-
-abbrev pub decreases-types : goal.decreases-types
-decreases-types l = length l.rest
