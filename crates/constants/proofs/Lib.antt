@@ -1,7 +1,7 @@
 pub mod Tables
 pub mod Using
 pub mod Forgetful
-pub mod Told
+pub mod Notified
 pub mod Learnable
 pub mod Finding
 pub mod Reporting

@@ -14,7 +14,7 @@ use Rattle.ir_event.specs.Listener.{Listener}
 use Rattle.ir_event.specs.Modules.{Module, module_in, module_meaning}
 use Rattle.ir_event.specs.declared.world.World.{World}
 use Rattle.patterns.proofs.of_rewriter.Calls.{stepped, unstepped}
-use Rattle.patterns.proofs.of_rewriter.Told.{notified_none}
+use Rattle.patterns.proofs.of_rewriter.Notified.{notified_none}
 use Rattle.patterns.specs.rewriter.Machine.{Goes, Nothing, Step}
 use Rattle.patterns.specs.rewriter.Wholes.{IsFinished}
 use Rattle.patterns.specs.runs.Interning.{IsFull as AddedFull}

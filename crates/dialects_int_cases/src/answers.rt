@@ -27,7 +27,7 @@ pub fn checked_fold(
     }
 }
 
-fn told(alloc: Global, bits: Option<Bits>) -> Result<String, AllocError> {
+fn bits_text(alloc: Global, bits: Option<Bits>) -> Result<String, AllocError> {
     let Some(bits) = bits else {
         return format!(in alloc; "none");
     };
@@ -48,7 +48,7 @@ fn folded_by(
     text: &str,
 ) -> Result<String, AllocError> {
     let known = operands(alloc, text)?;
-    told(alloc, checked_fold(context, name, props, &known, results))
+    bits_text(alloc, checked_fold(context, name, props, &known, results))
 }
 
 /// Answers a fold of an operation, given its name and results, and a text `OPERANDS PROPERTIES`.

@@ -19,7 +19,7 @@ use Rattle.ir_event.specs.tree_laws.Stands.{StepOf, OpWithPathOf, op_with_path_i
 use Rattle.ir_event.proofs.of_tree_laws.Readings.{stands_find}
 use Rattle.ir_event.proofs.of_tree_laws.Members.{stand, joined_ops, member, stand_found, stand_of_member, found_stands, same_stand}
 use Rattle.ir_event.proofs.of_tree_laws.Around.{place_of_member, member_of_place, present_stand, stand_present}
-use Rattle.ir_verify.specs.Beyond.{told}
+use Rattle.ir_verify.specs.Beyond.{reported}
 use Rattle.ir_verify.specs.Breaks.{broken}
 use Rattle.listeners_support.specs.Surroundings.{SurroundingsOf, surround, surroundings, outer_of}
 use Rattle.patterns_laws.specs.Keeps.{given}
@@ -137,7 +137,7 @@ module _ (t u : Operation) where
   unfolding eligible is_in_order
   eligible_alike r h e =
       let cleans = verified_alike h e in
-      let orders = ap (λ a. breaks_none (option_map told a) && has_own_properties h) e in
+      let orders = ap (λ a. breaks_none (option_map reported a) && has_own_properties h) e in
       λ i. if is_erasing r then orders i else cleans i
 
   pub heads_alike : (y : ℕ) → surroundings y t ≡ surroundings y u → option_map head (find y t) ≡ option_map head (find y u)

@@ -9,9 +9,9 @@ use Rattle.ir_store_reads.specs.trees.Edits.{each_head, regions_each_head, regio
 use Rattle.ir_store_reads.specs.trees.Places.{put}
 use Rattle.ir_store_reads.proofs.of_trees.Gained.{gained_distinct}
 use Rattle.ir_store_reads.proofs.of_trees.Returns.{cons_distinct, nil_distinct}
-use Rattle.ir_store_reads.specs.Rows.{Row, Shape, bare, bare_regions}
+use Rattle.ir_store_reads.specs.Rows.{Row, RegionShape, bare, bare_regions}
 
-bare_ids : (xs : List Shape) → regions_ids (bare_regions xs) ≡ []
+bare_ids : (xs : List RegionShape) → regions_ids (bare_regions xs) ≡ []
 bare_ids [] = refl
 bare_ids (None ∷ xs) = bare_ids xs
 bare_ids (Some a ∷ xs) = bare_ids xs

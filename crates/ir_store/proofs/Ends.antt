@@ -3,7 +3,7 @@ use Rattle.std.proofs.Common.{◌≡◌, ℕ, ◌<◌, List, [], ◌∷◌, ◌+
 use Rattle.ir_store_reads.specs.Lists.{last_of, list_at}
 use Rattle.ir_store_reads.specs.trees.Tree.{Op, op, Regions, no_regions, region, empty, block, Ops, no_ops, next}
 use Rattle.ir_store_reads.specs.trees.Ids.{ids, regions_ids, ops_ids, find, first_of}
-use Rattle.ir_store_reads.specs.Rows.{Row, Shape, row_at, live_slot}
+use Rattle.ir_store_reads.specs.Rows.{Row, RegionShape, row_at, live_slot}
 use Rattle.ir_store_reads.specs.Spells.{SpellsOp, SpellsRegions, SpellsOps, SpellsOp-one}
 use Rattle.ir_store_reads.specs.Right.{Live}
 use Rattle.ir_store_reads.proofs.SlotLaws.{Found, found, found_op, slot_of_live}
@@ -34,7 +34,7 @@ module _ (rows : List Row) (lists : List (List ℕ)) where
   ops_end other zs w (k ∷ ks) no_ops s = absurd s
   ops_end other zs w (k ∷ ks) (next o os) s = subst (EndsWith (last_of (Some k) ks)) (append_assoc zs (ids o) (ops_ids os)) (ops_end (Some k) (zs ++ ids o) (zs, o, s.0, refl) ks os s.1)
 
-  regions_end : (other : Option ℕ) (zs : List ℕ) → EndsWith other zs → (xs : List Shape) (rs : Regions) → SpellsRegions rows lists xs rs → EndsWith (last_in lists other xs) (zs ++ regions_ids rs)
+  regions_end : (other : Option ℕ) (zs : List ℕ) → EndsWith other zs → (xs : List RegionShape) (rs : Regions) → SpellsRegions rows lists xs rs → EndsWith (last_in lists other xs) (zs ++ regions_ids rs)
   regions_end other zs w [] no_regions s = subst (EndsWith other) (sym (append-nil zs)) w
   regions_end other zs w [] (region g rs) s = absurd s
   regions_end other zs w (a ∷ xs) no_regions s = absurd s

@@ -13,7 +13,7 @@ use Rattle.ir_store_reads.specs.trees.Frames.{owner_of}
 use Rattle.ir_store_reads.specs.trees.Ids.{has_id}
 use Rattle.ir_store_reads.specs.trees.Tree.{Op}
 use Rattle.ir_store_reads.specs.Stored.{Gone}
-use Rattle.ir_store_reads.specs.Rows.{Row, Shape, row_at, held_in, gone_in, bare}
+use Rattle.ir_store_reads.specs.Rows.{Row, RegionShape, row_at, held_in, gone_in, bare}
 use Rattle.ir_store_reads.specs.Spells.{SpellsOp}
 use Rattle.ir_store_reads.specs.Right.{Live, Used, HoldsId, Right}
 use Rattle.ir_store_reads.specs.Index.{operand_at, use_at, argument_head, slot_head, value_head, CellOf, LinkedTo, Index, Celled, cell_at, lives}
@@ -76,7 +76,7 @@ module _ (q : Parts) (even : IsEven q) (few : length q.sibs.homes < free) (keys 
         subst (NewHead q bound k i) f.1 (ready.results i (ltb-true i (length w.head.results) f.0))
     named (Arg y j i) h e = go (slice_get w.shapes j) refl (ap (λ z. option_and_then (argument_head rows' i) (slice_get z.shapes j)) (sym own) ∙ e)
       where
-        go : (o : Option Shape) → slice_get w.shapes j ≡ o → option_and_then (argument_head rows' i) o ≡ Some h → (a : List ℕ × ℕ) × ((slice_get w.shapes j ≡ Some (Some a)) × NewHead q bound a.1 i h)
+        go : (o : Option RegionShape) → slice_get w.shapes j ≡ o → option_and_then (argument_head rows' i) o ≡ Some h → (a : List ℕ × ℕ) × ((slice_get w.shapes j ≡ Some (Some a)) × NewHead q bound a.1 i h)
         go None f g = absurd cc
         go (Some None) f g = absurd cc
         go (Some (Some a)) f g =
@@ -92,7 +92,7 @@ module _ (q : Parts) (even : IsEven q) (few : length q.sibs.homes < free) (keys 
     other_slot (Result y i) j u = ap (λ z. if nat_lt i (length z.head.results) then Some (z.values + i) else None) (same j (used_not j u))
     other_slot (Arg y n i) j u = ap (λ z. option_and_then (argument_head rows' i) (slice_get z.shapes n)) (same j (used_not j u)) ∙ go (slice_get (row_at q.rows j).shapes n) refl
       where
-        go : (o : Option Shape) → slice_get (row_at q.rows j).shapes n ≡ o → option_and_then (argument_head rows' i) o ≡ option_and_then (argument_head q.rows i) o
+        go : (o : Option RegionShape) → slice_get (row_at q.rows j).shapes n ≡ o → option_and_then (argument_head rows' i) o ≡ option_and_then (argument_head q.rows i) o
         go None e = refl
         go (Some None) e = refl
         go (Some (Some a)) e = ap (λ z. if nat_lt i (length a.0) then Some (z.values + i) else None) (block_row j n a (r.blocks j n a u e).head)

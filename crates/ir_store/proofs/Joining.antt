@@ -10,7 +10,7 @@ use Rattle.ir_store_reads.specs.trees.declared.place.Place.{Place}
 use Rattle.ir_store_reads.specs.trees.Tree.{Op, op, Ops, no_ops}
 use Rattle.ir_store_reads.specs.trees.Ids.{has_id, find}
 use Rattle.ir_store_reads.specs.trees.Places.{put, put_here, put_in, is_in_block}
-use Rattle.ir_store_reads.specs.Rows.{Row, Shape, row_at, bare, bare_regions, held_in, gone_in}
+use Rattle.ir_store_reads.specs.Rows.{Row, RegionShape, row_at, bare, bare_regions, held_in, gone_in}
 use Rattle.ir_store_reads.specs.Spells.{SpellsOp, SpellsRegions, SpellsOps}
 use Rattle.ir_store_reads.specs.Points.{joined}
 use Rattle.ir_store_reads.specs.Right.{Live, Used, Placed, BlockOf, Right}
@@ -41,7 +41,7 @@ pub record Point (rows : List Row) (homes : List ℕ) (place : Place) (a : List 
   pub shape : slice_get (row_at rows parent).shapes place.region ≡ Some (Some a)
   pub before : Before rows homes a.1 at place.before
 
-pub bare_spells : (rows : List Row) (lists : List (List ℕ)) (xs : List Shape) → ((r : ℕ) (a : List ℕ × ℕ) → slice_get xs r ≡ Some (Some a) → list_at lists a.1 ≡ []) → SpellsRegions rows lists xs (bare_regions xs)
+pub bare_spells : (rows : List Row) (lists : List (List ℕ)) (xs : List RegionShape) → ((r : ℕ) (a : List ℕ × ℕ) → slice_get xs r ≡ Some (Some a) → list_at lists a.1 ≡ []) → SpellsRegions rows lists xs (bare_regions xs)
 bare_spells rows lists [] f = tt
 bare_spells rows lists (None ∷ xs) f = (tt, bare_spells rows lists xs (λ r. f (suc r)))
 bare_spells rows lists (Some a ∷ xs) f = ((refl, subst (λ l. SpellsOps rows lists l no_ops) (sym (f 0 a refl)) tt), bare_spells rows lists xs (λ r. f (suc r)))

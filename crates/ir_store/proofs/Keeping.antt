@@ -22,7 +22,7 @@ use Rattle.ir_store_reads.proofs.of_tree_laws.Members.{stand_found}
 use Rattle.ir_store_reads.proofs.of_tree_laws.Around.{stand_present}
 use Rattle.ir_store.specs.declared.store.Store.TheInside.{Inside}
 use Rattle.ir_store_reads.specs.Stored.{Stored}
-use Rattle.ir_store_reads.specs.Rows.{Row, Shape, row_at, live_slot}
+use Rattle.ir_store_reads.specs.Rows.{Row, RegionShape, row_at, live_slot}
 use Rattle.ir_store_reads.specs.Right.{Live}
 use Rattle.ir_store_reads.specs.Index.{operand_at, use_at, cell_at, cells_of, argument_head, slot_head, value_head}
 use Rattle.ir_store_reads.specs.Spells.{SpellsOp, SpellsRegions, SpellsOps}
@@ -47,7 +47,7 @@ shuffle false l b r = refl
 
 -- the walk tests the slot of each id
 module _ (rows : List Row) (lists : List (List ℕ)) (f : ℕ → ℕ → Bool) (keys : ℕ → Option ℕ) (keyed : (k : ℕ) → Live rows k → keys (row_at rows k).head.id ≡ Some k) where
-  abbrev pub args_all : List Shape → Bool
+  abbrev pub args_all : List RegionShape → Bool
   args_all [] = true
   args_all (None ∷ xs) = args_all xs
   args_all (Some a ∷ xs) = f (row_at rows a.1).values (length a.0) && args_all xs
@@ -67,7 +67,7 @@ module _ (rows : List Row) (lists : List (List ℕ)) (f : ℕ → ℕ → Bool) 
         ∙ and_assoc (f (row_at rows k).values (length (row_at rows k).head.results)) (args_all (row_at rows k).shapes) (list_all test (regions_ids rs))
         ∙ ap (λ o. row_test o && list_all test (regions_ids rs)) (sym (ap keys (ap (λ z. z.id) (sym s.1.0)) ∙ keyed k (record { live = s.0 })))
 
-    regions_keep : (n : ℕ) (xs : List Shape) (rs : Regions) → regions_depth rs ≤ n → SpellsRegions rows lists xs rs → shapes_keep rows lists f (slot_keeps rows lists f n) xs ≡ (args_all xs && list_all test (regions_ids rs))
+    regions_keep : (n : ℕ) (xs : List RegionShape) (rs : Regions) → regions_depth rs ≤ n → SpellsRegions rows lists xs rs → shapes_keep rows lists f (slot_keeps rows lists f n) xs ≡ (args_all xs && list_all test (regions_ids rs))
     regions_keep n [] no_regions l s = refl
     regions_keep n [] (region g rs) l s = absurd s
     regions_keep n (a ∷ xs) no_regions l s = absurd s
@@ -110,7 +110,7 @@ all_any p y (x ∷ xs) e h =
 
 -- the values of a slot, by their heads
 module _ (rows : List Row) (sibs lists : List (List ℕ)) (p : ℕ → Bool) (keys : ℕ → Option ℕ) (keyed : (k : ℕ) → Live rows k → keys (row_at rows k).head.id ≡ Some k) where
-  abbrev pub args_pass : List Shape → Bool
+  abbrev pub args_pass : List RegionShape → Bool
   args_pass = args_all rows sibs (lists_pass lists p) keys keyed
 
   abbrev pub row_passes : Option ℕ → Bool
@@ -128,7 +128,7 @@ module _ (rows : List Row) (sibs lists : List (List ℕ)) (p : ℕ → Bool) (ke
       (λ f. let r = fail_at (b + 1) n f in (suc r.0, omega (arith, r.1), ap (λ z. list_all p (list_at lists z)) (omega arith) ∙ r.2))
       (and_cases (list_all p (list_at lists b)) (lists_pass lists p (b + 1) n) e)
 
-  args_at : (xs : List Shape) (r : ℕ) (a : List ℕ × ℕ) → args_pass xs ≡ true → slice_get xs r ≡ Some (Some a) → lists_pass lists p (row_at rows a.1).values (length a.0) ≡ true
+  args_at : (xs : List RegionShape) (r : ℕ) (a : List ℕ × ℕ) → args_pass xs ≡ true → slice_get xs r ≡ Some (Some a) → lists_pass lists p (row_at rows a.1).values (length a.0) ≡ true
   args_at [] r a e f = absurd cc
   args_at (None ∷ xs) zero a e f = absurd cc
   args_at (None ∷ xs) (suc r) a e f = args_at xs r a e f
@@ -137,10 +137,10 @@ module _ (rows : List Row) (sibs lists : List (List ℕ)) (p : ℕ → Bool) (ke
       subst (λ z. lists_pass lists p (row_at rows z.1).values (length z.0) ≡ true) same (both (lists_pass lists p (row_at rows c.1).values (length c.0)) (args_pass xs) e).0
   args_at (Some c ∷ xs) (suc r) a e f = args_at xs r a (both (lists_pass lists p (row_at rows c.1).values (length c.0)) (args_pass xs) e).1 f
 
-  abbrev FailingArg : List Shape → Type 0
+  abbrev FailingArg : List RegionShape → Type 0
   FailingArg xs = (r : ℕ) × (a : List ℕ × ℕ) × (slice_get xs r ≡ Some (Some a)) × (lists_pass lists p (row_at rows a.1).values (length a.0) ≡ false)
 
-  fail_arg : (xs : List Shape) → args_pass xs ≡ false → FailingArg xs
+  fail_arg : (xs : List RegionShape) → args_pass xs ≡ false → FailingArg xs
   fail_arg [] e = absurd (true≢false e)
   fail_arg (None ∷ xs) e = let w = fail_arg xs e in (suc w.0, w.1, w.2, w.3)
   fail_arg (Some c ∷ xs) e = ⊎_elim
@@ -156,7 +156,7 @@ module _ (rows : List Row) (sibs lists : List (List ℕ)) (p : ℕ → Bool) (ke
       subst (λ z. list_all p (list_at lists z) ≡ true) g.1 (pass_at (row_at rows k).values (length (row_at rows k).head.results) i b.0 (ltb-true i (length (row_at rows k).head.results) g.0))
   value_passes k e (Arg x r i) h f = go (slice_get (row_at rows k).shapes r) refl f
     where
-      go : (o : Option Shape) → slice_get (row_at rows k).shapes r ≡ o → option_and_then (argument_head rows i) o ≡ Some h → list_all p (list_at lists h) ≡ true
+      go : (o : Option RegionShape) → slice_get (row_at rows k).shapes r ≡ o → option_and_then (argument_head rows i) o ≡ Some h → list_all p (list_at lists h) ≡ true
       go None m f = absurd cc
       go (Some None) m f = absurd cc
       go (Some (Some a)) m f =

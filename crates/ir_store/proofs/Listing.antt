@@ -16,7 +16,7 @@ use Rattle.ir_store_reads.specs.tree_laws.Reads.{ops_in, ops_at, last_id, is_amo
 use Rattle.ir_store_reads.proofs.of_tree_laws.Members.{stand}
 use Rattle.ir_store_reads.proofs.of_tree_laws.Around.{member_of_place}
 use Rattle.ir_store_reads.proofs.of_tree_laws.Neighbours.{list_there}
-use Rattle.ir_store_reads.specs.Rows.{Row, Shape, row_at, live_slot, head_in}
+use Rattle.ir_store_reads.specs.Rows.{Row, RegionShape, row_at, live_slot, head_in}
 use Rattle.ir_store_reads.specs.Spells.{SpellsOp, SpellsRegions, SpellsOps}
 use Rattle.ir_store_reads.specs.Points.{id_in, slot_place}
 use Rattle.ir_store_reads.specs.Right.{Live, Right}
@@ -112,7 +112,7 @@ ListIs rows sibs (Some h) None = ⊥
 ListIs rows sibs (Some h) (Some os) = IsHead sibs.homes h × SpellsOps rows sibs.lists (list_at sibs.lists h) os
 
 module _ (rows : List Row) (keys : ℕ → Option ℕ) (sibs : Lists) (root : ℕ) (t : Op) (r : Right rows keys sibs root t) (s : SpellsOp rows sibs.lists root t) where
-  regions_list : (n : ℕ) (xs : List Shape) (rs : Regions) → ((i : ℕ) (a : List ℕ × ℕ) → slice_get xs i ≡ Some (Some a) → IsHead sibs.homes a.1) → SpellsRegions rows sibs.lists xs rs
+  regions_list : (n : ℕ) (xs : List RegionShape) (rs : Regions) → ((i : ℕ) (a : List ℕ × ℕ) → slice_get xs i ≡ Some (Some a) → IsHead sibs.homes a.1) → SpellsRegions rows sibs.lists xs rs
       → ListIs rows sibs (option_and_then head_in (slice_get xs n)) (option_and_then ops_in (region_at n rs))
   regions_list n [] no_regions f z = tt
   regions_list n [] (region g rs) f z = absurd z
@@ -189,7 +189,7 @@ module _ (rows : List Row) (keys : ℕ → Option ℕ) (sibs : Lists) (root : �
             owned : (h : ℕ) → Some h ≡ block_in rows (live_slot rows keys) place.parent place.region → home_at sibs.homes k ≡ h → Live rows (row_at rows (home_at sibs.homes k)).owner
             owned h w home = go (live_slot rows keys place.parent) refl w
               where
-                in_shapes : (q : ℕ) → Live rows q → (o : Option Shape) → slice_get (row_at rows q).shapes place.region ≡ o → Some h ≡ option_and_then head_in o → Live rows (row_at rows (home_at sibs.homes k)).owner
+                in_shapes : (q : ℕ) → Live rows q → (o : Option RegionShape) → slice_get (row_at rows q).shapes place.region ≡ o → Some h ≡ option_and_then head_in o → Live rows (row_at rows (home_at sibs.homes k)).owner
                 in_shapes q l None e w = absurd cc
                 in_shapes q l (Some None) e w = absurd cc
                 in_shapes q l (Some (Some a)) e w =

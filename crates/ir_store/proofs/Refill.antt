@@ -8,7 +8,7 @@ use Rattle.ir_store_reads.specs.trees.declared.value.Value.{Value}
 use Rattle.ir_store_reads.specs.trees.declared.value.Value.TheVariants.{Result, Arg}
 use Rattle.ir_store_reads.specs.trees.Frames.{owner_of}
 use Rattle.ir_store_reads.specs.trees.Tree.{Op}
-use Rattle.ir_store_reads.specs.Rows.{Row, Shape, row_at}
+use Rattle.ir_store_reads.specs.Rows.{Row, RegionShape, row_at}
 use Rattle.ir_store_reads.specs.Right.{Used, Right}
 use Rattle.ir_store_reads.specs.Index.{argument_head, slot_head, value_head, cell_at, Celled}
 use Rattle.ir_store_reads.specs.Grows.{Parts, Ready}
@@ -60,7 +60,7 @@ module _ (q : Parts) (keys : ℕ → Option ℕ) (root : ℕ) (t : Op) (r : Righ
           (y, (u, inl (ap (λ b. (cell_at q.cells b).0) (sym g.1) ∙ ap (λ b. b.0) (c.results y i u (ltb-true i (length (row_at q.rows y).head.results) g.0)))))
       at (Arg z j i) y u f = shape (slice_get (row_at q.rows y).shapes j) refl f
         where
-          shape : (o : Option Shape) → slice_get (row_at q.rows y).shapes j ≡ o → option_and_then (argument_head q.rows i) o ≡ Some h → Theirs (cell_at q.cells h).0
+          shape : (o : Option RegionShape) → slice_get (row_at q.rows y).shapes j ≡ o → option_and_then (argument_head q.rows i) o ≡ Some h → Theirs (cell_at q.cells h).0
           shape None m n = absurd cc
           shape (Some None) m n = absurd cc
           shape (Some (Some a)) m n =

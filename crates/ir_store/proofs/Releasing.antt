@@ -16,7 +16,7 @@ use Rattle.ir_store.specs.declared.store.Store.TheInside.{Inside}
 use Rattle.ir_store_reads.specs.Stored.{Gone, none_gone}
 use Rattle.ir_store.specs.Calls.{Releases, gone_left}
 use Rattle.ir_store_reads.specs.Releases.{is_given, released, key_left}
-use Rattle.ir_store_reads.specs.Rows.{Row, Shape, row_at, vacated, held_in, gone_in, bare, if_live}
+use Rattle.ir_store_reads.specs.Rows.{Row, RegionShape, row_at, vacated, held_in, gone_in, bare, if_live}
 use Rattle.ir_store_reads.specs.Spells.{SpellsOp, SpellsRegions, SpellsRegion, SpellsOps, Represented, rendered_is}
 use Rattle.ir_store.specs.Holds.{HoldsOf, GoneOf, map_is}
 use Rattle.ir_store_reads.specs.Right.{Live, Used, Right}
@@ -88,13 +88,13 @@ module _ (rows rows' : List Row) (lists : List (List ℕ)) (live : (k : ℕ) →
         let l : Live rows k = record { live = s.0 } in
         (live k ∙ s.0, (heads k l ∙ s.1.0, subst (λ z. SpellsRegions rows' lists z rs) (sym (shapes k l)) (still_regions (row_at rows k).shapes rs s.1.1)))
 
-    still_regions : (xs : List Shape) (rs : Regions) → SpellsRegions rows lists xs rs → SpellsRegions rows' lists xs rs
+    still_regions : (xs : List RegionShape) (rs : Regions) → SpellsRegions rows lists xs rs → SpellsRegions rows' lists xs rs
     still_regions [] no_regions s = tt
     still_regions [] (region g rs) s = absurd s
     still_regions (a ∷ xs) no_regions s = absurd s
     still_regions (a ∷ xs) (region g rs) s = (still_region a g s.0, still_regions xs rs s.1)
 
-    still_region : (a : Shape) (g : Region) → SpellsRegion rows lists a g → SpellsRegion rows' lists a g
+    still_region : (a : RegionShape) (g : Region) → SpellsRegion rows lists a g → SpellsRegion rows' lists a g
     still_region None empty s = tt
     still_region None (block args os) s = absurd s
     still_region (Some a) empty s = absurd s
@@ -285,7 +285,7 @@ module _ (from : ℕ) (rows : List Row) (keys : ℕ → Option ℕ) (sibs : List
           shown k false b e = e
 
   -- the heads of values are unchanged
-  argument_same : (i : ℕ) (a : Shape) → argument_head rows' i a ≡ argument_head rows i a
+  argument_same : (i : ℕ) (a : RegionShape) → argument_head rows' i a ≡ argument_head rows i a
   argument_same i None = refl
   argument_same i (Some a) = ap (λ z. argument_with z i a) (kept (λ z. z.values) (λ b. refl) (λ b. refl) a.1)
 
@@ -293,7 +293,7 @@ module _ (from : ℕ) (rows : List Row) (keys : ℕ → Option ℕ) (sibs : List
   slot_same (Result y i) q g = λ j. result_with i (kept_in (λ z. z.head) (λ b. refl) q g j) (kept (λ z. z.values) (λ b. refl) (λ b. refl) q j)
   slot_same (Arg y n i) q g = ap (λ z. option_and_then (argument_head rows' i) z) (shapes_same q n g) ∙ arguments_same (slice_get (row_at rows q).shapes n)
     where
-      arguments_same : (o : Option Shape) → option_and_then (argument_head rows' i) o ≡ option_and_then (argument_head rows i) o
+      arguments_same : (o : Option RegionShape) → option_and_then (argument_head rows' i) o ≡ option_and_then (argument_head rows i) o
       arguments_same None = refl
       arguments_same (Some a) = argument_same i a
 

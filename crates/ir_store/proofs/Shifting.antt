@@ -16,7 +16,7 @@ use Rattle.ir_store_reads.specs.tree_laws.Reads.{is_within}
 use Rattle.ir_store_reads.specs.tree_laws.Reasons.{leads_inside, before_within}
 use Rattle.ir_store_reads.proofs.of_tree_laws.Shift.{own_distinct, is_put, may_shift, shift_distinct, shift_found}
 use Rattle.ir_store_reads.proofs.of_tree_laws.Edited.{taken_order, taken_op_count, put_op_count}
-use Rattle.ir_store_reads.specs.Rows.{Row, Shape, row_at}
+use Rattle.ir_store_reads.specs.Rows.{Row, RegionShape, row_at}
 use Rattle.ir_store_reads.specs.Spells.{SpellsOp, SpellsRegions, SpellsRegion, SpellsOps}
 use Rattle.ir_store_reads.specs.Points.{joined, IsNodeIn}
 use Rattle.ir_store.specs.Shifting.{CanRelink}
@@ -45,7 +45,7 @@ module _ (rows : List Row) (lists lists' : List (List ℕ)) (y : ℕ)
           ),
         )
 
-    same_regions : (k : ℕ) → Live rows k → ((row_at rows k).head.id ≡ y → ⊥) → (r : ℕ) (xs : List Shape) (rs : Regions) → ((i : ℕ) → slice_get xs i ≡ slice_get (row_at rows k).shapes (i + r)) → has_regions y rs ≡ false
+    same_regions : (k : ℕ) → Live rows k → ((row_at rows k).head.id ≡ y → ⊥) → (r : ℕ) (xs : List RegionShape) (rs : Regions) → ((i : ℕ) → slice_get xs i ≡ slice_get (row_at rows k).shapes (i + r)) → has_regions y rs ≡ false
         → SpellsRegions rows lists xs rs → SpellsRegions rows lists' xs rs
     same_regions k l ne r [] no_regions e n s = tt
     same_regions k l ne r [] (region g rs) e n s = absurd s
@@ -56,7 +56,7 @@ module _ (rows : List Row) (lists lists' : List (List ℕ)) (y : ℕ)
           same_regions k l ne (r + 1) xs rs (λ i. e (suc i) ∙ ap (slice_get (row_at rows k).shapes) (omega arith)) b.1 s.1,
         )
 
-    same_region : (k : ℕ) → Live rows k → ((row_at rows k).head.id ≡ y → ⊥) → (r : ℕ) (a : Shape) (g : Region) → slice_get (row_at rows k).shapes r ≡ Some a → has_region y g ≡ false → SpellsRegion rows lists a g → SpellsRegion rows lists' a g
+    same_region : (k : ℕ) → Live rows k → ((row_at rows k).head.id ≡ y → ⊥) → (r : ℕ) (a : RegionShape) (g : Region) → slice_get (row_at rows k).shapes r ≡ Some a → has_region y g ≡ false → SpellsRegion rows lists a g → SpellsRegion rows lists' a g
     same_region k l ne r None empty e n s = tt
     same_region k l ne r None (block args os) e n s = absurd s
     same_region k l ne r (Some a) empty e n s = absurd s

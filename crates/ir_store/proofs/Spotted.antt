@@ -10,7 +10,7 @@ use Rattle.ir_store_reads.specs.trees.Places.{put}
 use Rattle.ir_store.specs.declared.store.Store.TheInside.{Inside}
 use Rattle.ir_store_reads.specs.Stored.{Stored}
 use Rattle.ir_store.specs.Calls.{after_restore, put_held}
-use Rattle.ir_store_reads.specs.Rows.{Row, Shape, row_at, live_slot, held_slot, if_held, head_in, held_in, gone_in, bare}
+use Rattle.ir_store_reads.specs.Rows.{Row, RegionShape, row_at, live_slot, held_slot, if_held, head_in, held_in, gone_in, bare}
 use Rattle.ir_store_reads.specs.Spells.{SpellsOp, Represented, rendered_is}
 use Rattle.ir_store.specs.Holds.{HoldsOf, GoneOf, map_is}
 use Rattle.ir_store_reads.specs.Points.{point_in, before_in, at_slot, stands, joined, IsNodeIn}
@@ -77,7 +77,7 @@ module _ (rows : List Row) (keys : ℕ → Option ℕ) (sibs : Lists) (root : �
                 one None e = absurd cc
                 one (Some q) e = ap (λ z. z.0) (cond_some (stands sibs.homes m q) (m, Some q) (n, at) e).1
 
-            shape : (c : Option Shape) → slice_get (row_at rows p).shapes place.region ≡ c → option_and_then (λ a. option_and_then (before_in rows keys sibs.homes place.before) (head_in a)) c ≡ Some (n, at) → Spotted
+            shape : (c : Option RegionShape) → slice_get (row_at rows p).shapes place.region ≡ c → option_and_then (λ a. option_and_then (before_in rows keys sibs.homes place.before) (head_in a)) c ≡ Some (n, at) → Spotted
             shape None h e = absurd cc
             shape (Some None) h e = absurd cc
             shape (Some (Some a)) h e =

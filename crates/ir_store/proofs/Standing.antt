@@ -10,7 +10,7 @@ use Rattle.ir_store_reads.specs.trees.Tree.{Op, op, Regions, no_regions, region,
 use Rattle.ir_store_reads.specs.trees.Ids.{regions_ids, first_of, HasDistinctIds}
 use Rattle.ir_store_reads.specs.trees.Places.{place_of, regions_place, region_place, ops_place, first_id}
 use Rattle.ir_store_reads.proofs.of_trees.Returns.{absent_first}
-use Rattle.ir_store_reads.specs.Rows.{Row, Shape, row_at, live_slot}
+use Rattle.ir_store_reads.specs.Rows.{Row, RegionShape, row_at, live_slot}
 use Rattle.ir_store_reads.specs.Spells.{SpellsOp, SpellsRegions, SpellsRegion, SpellsOps}
 use Rattle.ir_store_reads.specs.Points.{id_in, slot_place}
 use Rattle.ir_store_reads.specs.Right.{Live, Right}
@@ -94,7 +94,7 @@ module _ (rows : List Row) (keys : ℕ → Option ℕ) (sibs : Lists) (root : �
       op_place : (q : ℕ) (u : Op) → SpellsOp rows sibs.lists q u → eqb (head u).id x ≡ false → has_op x u ≡ true → PlaceIs (place_of x u)
       op_place q (op h rs) z m e0 = let e = either (eqb h.id x) (has_regions x rs) e0 m in subst (λ p. PlaceIs (regions_place x p 0 rs)) (ap (λ w. w.id) z.1.0) (regions_at q (record { live = z.0 }) 0 (row_at rows q).shapes rs (λ i. ap (slice_get (row_at rows q).shapes) (omega arith)) z.1.1 e)
 
-      regions_at : (q : ℕ) → Live rows q → (n : ℕ) (xs : List Shape) (rs : Regions) → ((i : ℕ) → slice_get xs i ≡ slice_get (row_at rows q).shapes (i + n)) → SpellsRegions rows sibs.lists xs rs → has_regions x rs ≡ true → PlaceIs (regions_place x (row_at rows q).head.id n rs)
+      regions_at : (q : ℕ) → Live rows q → (n : ℕ) (xs : List RegionShape) (rs : Regions) → ((i : ℕ) → slice_get xs i ≡ slice_get (row_at rows q).shapes (i + n)) → SpellsRegions rows sibs.lists xs rs → has_regions x rs ≡ true → PlaceIs (regions_place x (row_at rows q).head.id n rs)
       regions_at q l n xs no_regions f z e = absurd (false≢true e)
       regions_at q l n [] (region g rs) f z e = absurd z
       regions_at q l n (a ∷ xs) (region g rs) f z e = ⊎_elim
@@ -103,7 +103,7 @@ module _ (rows : List Row) (keys : ℕ → Option ℕ) (sibs : Lists) (root : �
           (regions_at q l (n + 1) xs rs (λ i. f (suc i) ∙ ap (slice_get (row_at rows q).shapes) (omega arith)) z.1 (either (has_region x g) (has_regions x rs) e m)))
           (cases_Bool (has_region x g))
 
-      region_at : (q : ℕ) → Live rows q → (n : ℕ) (a : Shape) (g : Region) → slice_get (row_at rows q).shapes n ≡ Some a → SpellsRegion rows sibs.lists a g → has_region x g ≡ true → PlaceIs (region_place x (row_at rows q).head.id n g)
+      region_at : (q : ℕ) → Live rows q → (n : ℕ) (a : RegionShape) (g : Region) → slice_get (row_at rows q).shapes n ≡ Some a → SpellsRegion rows sibs.lists a g → has_region x g ≡ true → PlaceIs (region_place x (row_at rows q).head.id n g)
       region_at q l n a empty f z e = absurd (false≢true e)
       region_at q l n None (block args os) f z e = absurd z
       region_at q l n (Some a) (block args os) f z e = ops_at q l n a f [] (list_at sibs.lists a.1) refl os z.1 e

@@ -14,7 +14,7 @@ use Rattle.ir_store_reads.specs.trees.Tree.{Op, op, Regions, no_regions, region,
 use Rattle.ir_store_reads.specs.trees.Ids.{has_id, find}
 use Rattle.ir_store_reads.specs.trees.Places.{without}
 use Rattle.ir_store_reads.specs.tree_laws.Reasons.{hold_none, holds_none}
-use Rattle.ir_store_reads.specs.Rows.{Row, Shape, row_at, held_in, gone_in, live_slot}
+use Rattle.ir_store_reads.specs.Rows.{Row, RegionShape, row_at, held_in, gone_in, live_slot}
 use Rattle.ir_store_reads.specs.Spells.{SpellsOp, SpellsRegions, SpellsOps}
 use Rattle.ir_store_reads.specs.Right.{Live, Used, Right}
 use Rattle.ir_store_reads.specs.Plans.{is_nil, AllHeads, all_bare, leaf_in, cut_reason}
@@ -25,7 +25,7 @@ use Rattle.ir_store.proofs.Cut.{not_item, has_cut, cut_lists, has_others, bare_i
 use Rattle.ir_store_reads.proofs.Items.{eq_nat}
 
 -- the heads of blocks
-all_heads : (homes : List ℕ) (xs : List Shape) → ((r : ℕ) (a : List ℕ × ℕ) → slice_get xs r ≡ Some (Some a) → IsHead homes a.1) → AllHeads homes xs
+all_heads : (homes : List ℕ) (xs : List RegionShape) → ((r : ℕ) (a : List ℕ × ℕ) → slice_get xs r ≡ Some (Some a) → IsHead homes a.1) → AllHeads homes xs
 all_heads homes [] f = tt
 all_heads homes (None ∷ xs) f = all_heads homes xs (λ r. f (suc r))
 all_heads homes (Some a ∷ xs) f = (f 0 a refl, all_heads homes xs (λ r. f (suc r)))
@@ -33,7 +33,7 @@ all_heads homes (Some a ∷ xs) f = (f 0 a refl, all_heads homes xs (λ r. f (su
 pub heads_of : (rows : List Row) (keys : ℕ → Option ℕ) (sibs : Lists) (root : ℕ) (t : Op) → Right rows keys sibs root t → (k : ℕ) → Live rows k → AllHeads sibs.homes (row_at rows k).shapes
 heads_of rows keys sibs root t r k l = all_heads sibs.homes (row_at rows k).shapes (λ i a e. (r.blocks k i a (r.live_used k l) e).head)
 
-bare_at : (lists : List (List ℕ)) (xs : List Shape) → all_bare lists xs ≡ true → (r : ℕ) (a : List ℕ × ℕ) → slice_get xs r ≡ Some (Some a) → list_at lists a.1 ≡ []
+bare_at : (lists : List (List ℕ)) (xs : List RegionShape) → all_bare lists xs ≡ true → (r : ℕ) (a : List ℕ × ℕ) → slice_get xs r ≡ Some (Some a) → list_at lists a.1 ≡ []
 bare_at lists [] b r a e = absurd cc
 bare_at lists (None ∷ xs) b zero a e = absurd cc
 bare_at lists (None ∷ xs) b (suc r) a e = bare_at lists xs b r a e
@@ -46,7 +46,7 @@ bare_at lists (Some c ∷ xs) b r a e = go (list_at lists c.1) refl b r e (λ d 
     go (k ∷ ks) f d i g rest = absurd (false≢true d)
 
 module _ (rows : List Row) (lists : List (List ℕ)) where
-  bare_holds : (xs : List Shape) (rs : Regions) → SpellsRegions rows lists xs rs → all_bare lists xs ≡ hold_none rs
+  bare_holds : (xs : List RegionShape) (rs : Regions) → SpellsRegions rows lists xs rs → all_bare lists xs ≡ hold_none rs
   bare_holds [] no_regions s = refl
   bare_holds [] (region g rs) s = absurd s
   bare_holds (a ∷ xs) no_regions s = absurd s

@@ -15,7 +15,7 @@ use Rattle.ir_store_reads.specs.trees.Limits.{every, regions_every, region_every
 use Rattle.ir_store_reads.specs.trees.Tree.{Head, Op, op, Regions, no_regions, region, Region, empty, block, Ops, no_ops, next, head}
 use Rattle.ir_store_reads.specs.trees.Ids.{has_id, find, regions_find, region_find, ops_find, first_of}
 use Rattle.ir_store_reads.specs.tree_laws.Reasons.{leaves, unused, take_reason, holds_none, unless}
-use Rattle.ir_store_reads.specs.Rows.{Row, Shape, row_at, live_slot}
+use Rattle.ir_store_reads.specs.Rows.{Row, RegionShape, row_at, live_slot}
 use Rattle.ir_store_reads.specs.Spells.{SpellsOp, SpellsRegions, SpellsRegion, SpellsOps}
 use Rattle.ir_store_reads.specs.Right.{Live, Right}
 use Rattle.ir_store_reads.specs.Plans.{is_nil, leaf_in}
@@ -35,12 +35,12 @@ module _ (f : Head → Bool) where
       pub every_spelt : (k : ℕ) (t : Op) → SpellsOp rows lists k t → every (λ o. f (head o)) t ≡ true
       every_spelt k (op h rs) s = (λ i. sym (ap f s.1.0) i && regions_every (λ o. f (head o)) rs) ∙ rw (pass k (record { live = s.0 })) (every_regions (row_at rows k).shapes rs s.1.1)
 
-      every_regions : (xs : List Shape) (rs : Regions) → SpellsRegions rows lists xs rs → regions_every (λ o. f (head o)) rs ≡ true
+      every_regions : (xs : List RegionShape) (rs : Regions) → SpellsRegions rows lists xs rs → regions_every (λ o. f (head o)) rs ≡ true
       every_regions xs no_regions s = refl
       every_regions [] (region g rs) s = absurd s
       every_regions (a ∷ xs) (region g rs) s = rw (every_region a g s.0) (every_regions xs rs s.1)
 
-      every_region : (a : Shape) (g : Region) → SpellsRegion rows lists a g → region_every (λ o. f (head o)) g ≡ true
+      every_region : (a : RegionShape) (g : Region) → SpellsRegion rows lists a g → region_every (λ o. f (head o)) g ≡ true
       every_region a empty s = refl
       every_region None (block args os) s = absurd s
       every_region (Some a) (block args os) s = every_ops (list_at lists a.1) os s.1
@@ -98,7 +98,7 @@ module _ (rows : List Row) (lists : List (List ℕ)) where
       (λ f. let r = busy_at (b + 1) n f in (suc r.0, (omega (arith, r.1.0), ap (λ z. is_nil (list_at lists z)) (omega arith) ∙ r.1.1)))
       (and_cases (is_nil (list_at lists b)) (all_idle lists (b + 1) n) e)
 
-  args_at : (xs : List Shape) (r : ℕ) (a : List ℕ × ℕ) → args_idle rows lists xs ≡ true → slice_get xs r ≡ Some (Some a) → all_idle lists (row_at rows a.1).values (length a.0) ≡ true
+  args_at : (xs : List RegionShape) (r : ℕ) (a : List ℕ × ℕ) → args_idle rows lists xs ≡ true → slice_get xs r ≡ Some (Some a) → all_idle lists (row_at rows a.1).values (length a.0) ≡ true
   args_at [] r a e f = absurd cc
   args_at (None ∷ xs) zero a e f = absurd cc
   args_at (None ∷ xs) (suc r) a e f = args_at xs r a e f
@@ -107,10 +107,10 @@ module _ (rows : List Row) (lists : List (List ℕ)) where
       subst (λ z. all_idle lists (row_at rows z.1).values (length z.0) ≡ true) same (and_parts (all_idle lists (row_at rows c.1).values (length c.0)) (args_idle rows lists xs) e).0
   args_at (Some c ∷ xs) (suc r) a e f = args_at xs r a (and_parts (all_idle lists (row_at rows c.1).values (length c.0)) (args_idle rows lists xs) e).1 f
 
-  abbrev BusyArg : List Shape → Type 0
+  abbrev BusyArg : List RegionShape → Type 0
   BusyArg xs = (r : ℕ) × ((a : List ℕ × ℕ) × ((slice_get xs r ≡ Some (Some a)) × (all_idle lists (row_at rows a.1).values (length a.0) ≡ false)))
 
-  busy_arg : (xs : List Shape) → args_idle rows lists xs ≡ false → BusyArg xs
+  busy_arg : (xs : List RegionShape) → args_idle rows lists xs ≡ false → BusyArg xs
   busy_arg [] e = absurd (false≢true (sym e))
   busy_arg (None ∷ xs) e = let w = busy_arg xs e in (suc w.0, (w.1.0, (w.1.1.0, w.1.1.1)))
   busy_arg (Some c ∷ xs) e = ⊎_elim
@@ -126,7 +126,7 @@ module _ (rows : List Row) (lists : List (List ℕ)) where
       subst (λ z. is_nil (list_at lists z) ≡ true) g.1 (idle_at (row_at rows k).values (length (row_at rows k).head.results) i b.0 (ltb-true i (length (row_at rows k).head.results) g.0))
   idle_value k e (Arg x r i) h f = go (slice_get (row_at rows k).shapes r) refl f
     where
-      go : (o : Option Shape) → slice_get (row_at rows k).shapes r ≡ o → option_and_then (argument_head rows i) o ≡ Some h → is_nil (list_at lists h) ≡ true
+      go : (o : Option RegionShape) → slice_get (row_at rows k).shapes r ≡ o → option_and_then (argument_head rows i) o ≡ Some h → is_nil (list_at lists h) ≡ true
       go None m f = absurd cc
       go (Some None) m f = absurd cc
       go (Some (Some a)) m f =

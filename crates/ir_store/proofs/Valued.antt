@@ -11,7 +11,7 @@ use Rattle.ir_store_reads.specs.trees.Tree.{Op, op, Regions, no_regions, region,
 use Rattle.ir_store_reads.specs.tree_laws.Values.{region_at, arguments_of, arguments_at, type_of_value, has_value}
 use Rattle.ir_store_reads.specs.tree_laws.Reads.{ops_in, is_among}
 use Rattle.ir_store_reads.specs.tree_laws.Reasons.{is_in_list, has_place}
-use Rattle.ir_store_reads.specs.Rows.{Row, Shape, row_at, live_slot, head_in}
+use Rattle.ir_store_reads.specs.Rows.{Row, RegionShape, row_at, live_slot, head_in}
 use Rattle.ir_store_reads.specs.Spells.{SpellsOp, SpellsRegions, SpellsOps}
 use Rattle.ir_store_reads.specs.Points.{point_in, before_in, at_slot, stands}
 use Rattle.ir_store_reads.specs.Right.{Live, Right}
@@ -26,7 +26,7 @@ some_test true k = refl
 some_test false k = refl
 
 module _ (rows : List Row) (keys : ℕ → Option ℕ) (sibs : Lists) (root : ℕ) (t : Op) (r : Right rows keys sibs root t) (s : SpellsOp rows sibs.lists root t) where
-  args_are : (i n : ℕ) (xs : List Shape) (rs : Regions) → SpellsRegions rows sibs.lists xs rs → is_some (option_and_then (argument_head rows i) (slice_get xs n)) ≡ is_some (option_and_then (λ args. slice_get args i) (option_and_then arguments_of (region_at n rs)))
+  args_are : (i n : ℕ) (xs : List RegionShape) (rs : Regions) → SpellsRegions rows sibs.lists xs rs → is_some (option_and_then (argument_head rows i) (slice_get xs n)) ≡ is_some (option_and_then (λ args. slice_get args i) (option_and_then arguments_of (region_at n rs)))
   args_are i n [] no_regions z = refl
   args_are i n [] (region g rs) z = absurd z
   args_are i n (a ∷ xs) no_regions z = absurd z
@@ -55,7 +55,7 @@ module _ (rows : List Row) (keys : ℕ → Option ℕ) (sibs : Lists) (root : �
       go None e = rw (none_found rows keys sibs root t r s x e) refl
       go (Some q) e = let o = found_op rows keys sibs root t r s x q (found rows keys sibs root t r s x q e) in rw o.1.0 (in_op q o.0 o.1.1)
 
-  arg_types : (i n : ℕ) (xs : List Shape) (rs : Regions) → SpellsRegions rows sibs.lists xs rs → option_and_then (shape_type i) (slice_get xs n) ≡ option_and_then (λ args. slice_get args i) (option_and_then arguments_of (region_at n rs))
+  arg_types : (i n : ℕ) (xs : List RegionShape) (rs : Regions) → SpellsRegions rows sibs.lists xs rs → option_and_then (shape_type i) (slice_get xs n) ≡ option_and_then (λ args. slice_get args i) (option_and_then arguments_of (region_at n rs))
   arg_types i n [] no_regions z = refl
   arg_types i n [] (region g rs) z = absurd z
   arg_types i n (a ∷ xs) no_regions z = absurd z
@@ -141,7 +141,7 @@ module _ (rows : List Row) (keys : ℕ → Option ℕ) (sibs : Lists) (root : �
             (cases_Bool (is_among x os))
         go (Some q) e = test q e (stands sibs.homes h q) refl
 
-    regions_point : (b : Option ℕ) (n : ℕ) (xs : List Shape) (rs : Regions) → ((i : ℕ) (a : List ℕ × ℕ) → slice_get xs i ≡ Some (Some a) → IsHead sibs.homes a.1) → SpellsRegions rows sibs.lists xs rs
+    regions_point : (b : Option ℕ) (n : ℕ) (xs : List RegionShape) (rs : Regions) → ((i : ℕ) (a : List ℕ × ℕ) → slice_get xs i ≡ Some (Some a) → IsHead sibs.homes a.1) → SpellsRegions rows sibs.lists xs rs
         → is_some (option_and_then (λ a. option_and_then (before_in rows keys sibs.homes b) (head_in a)) (slice_get xs n)) ≡ is_in_list b (option_and_then ops_in (region_at n rs))
     regions_point b n [] no_regions f z = refl
     regions_point b n [] (region g rs) f z = absurd z

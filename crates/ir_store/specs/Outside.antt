@@ -5,7 +5,7 @@ use Rattle.ir_store_reads.specs.Lists.{list_at}
 use Rattle.ir_store_reads.specs.trees.Tree.{Op}
 use Rattle.ir_store_reads.specs.trees.Ids.{has_id}
 use Rattle.ir_store_reads.specs.trees.Places.{without}
-use Rattle.ir_store_reads.specs.Rows.{Row, Shape, row_at}
+use Rattle.ir_store_reads.specs.Rows.{Row, RegionShape, row_at}
 use Rattle.ir_store_reads.specs.Using.{use_in}
 
 -- whether the user at a node of the use lists stays if operation x is taken out
@@ -19,7 +19,7 @@ lists_pass lists p b (suc n) = list_all p (list_at lists b) && lists_pass lists 
 
 -- whether the arguments of each block pass a test of their first head and their number, and each operation in the
 -- blocks passes a test of its slot
-abbrev pub shapes_keep : List Row → List (List ℕ) → (ℕ → ℕ → Bool) → (ℕ → Bool) → List Shape → Bool
+abbrev pub shapes_keep : List Row → List (List ℕ) → (ℕ → ℕ → Bool) → (ℕ → Bool) → List RegionShape → Bool
 shapes_keep rows lists f p [] = true
 shapes_keep rows lists f p (None ∷ xs) = shapes_keep rows lists f p xs
 shapes_keep rows lists f p (Some a ∷ xs) = f (row_at rows a.1).values (length a.0) && (list_all p (list_at lists a.1) && shapes_keep rows lists f p xs)

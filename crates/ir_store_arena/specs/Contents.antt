@@ -6,7 +6,7 @@ use Rattle.ir_tree_laws.specs.trees.declared.value.Value.{Value}
 use Rattle.ir_tree_laws.specs.trees.Tree.{Head}
 use Rattle.ir_store_arena.specs.Slots.{Slots}
 use Rattle.ir_store_arena.specs.declared.op_data.Entries.{Entries}
-use Rattle.ir_store_arena.specs.Shapes.{Shape}
+use Rattle.ir_store_arena.specs.Shapes.{RegionShape}
 
 -- a dictionary includes the slots of its removed keys
 pub record Contents : Type 0 where
@@ -14,7 +14,7 @@ pub record Contents : Type 0 where
   pub results : List ℕ
   pub properties : Slots
   pub attributes : Slots
-  pub shapes : List Shape
+  pub shapes : List RegionShape
   -- for the head of a block: the slot of the parent operation, and the index of the region
   pub owner : ℕ
   pub region : ℕ
@@ -30,7 +30,7 @@ abbrev pub head_contents : ℕ → ℕ → Contents
 head_contents owner number = record no_contents { owner = owner; region = number }
 
 -- the contents of an operation with these regions
-abbrev pub contents_with : Head → List Shape → Contents
+abbrev pub contents_with : Head → List RegionShape → Contents
 contents_with h shapes = record no_contents {
   operands = h.operands;
   results = h.results;

@@ -13,7 +13,7 @@ use Rattle.ir_store_arena.specs.declared.slot_kind.Slot.{Slot as Kept}
 use Rattle.ir_store_arena.specs.declared.op_arena.OpArena.{OpArena}
 use Rattle.ir_store_arena.specs.Contents.{Contents}
 use Rattle.ir_store_arena.specs.Gone.{Gone, gone_code, none_gone, gone_in, change_gone}
-use Rattle.ir_store_arena.specs.Shapes.{Shape}
+use Rattle.ir_store_arena.specs.Shapes.{RegionShape}
 use Rattle.ir_store_arena.specs.Registry.{found, contents_at, is_key}
 
 pub record Row : Type 0 where
@@ -21,7 +21,7 @@ pub record Row : Type 0 where
   pub live : Bool
   pub head : Head
   pub gone : Gone
-  pub shapes : List Shape
+  pub shapes : List RegionShape
   pub owner : ℕ
   pub region : ℕ
   -- the use node of the first operand
@@ -31,7 +31,7 @@ pub record Row : Type 0 where
 
 abbrev pub row_code : Coded Row
 row_code =
-    code_by (Bool × (Bool × (Head × (Gone × (List Shape × (ℕ × (ℕ × (ℕ × ℕ))))))))
+    code_by (Bool × (Bool × (Head × (Gone × (List RegionShape × (ℕ × (ℕ × (ℕ × ℕ))))))))
     (coded× coded_bool (coded× coded_bool (coded× head_code (coded× gone_code (coded× (coded_list (coded_option (coded× (coded_list coded_ℕ) coded_ℕ))) (coded× coded_ℕ (coded× coded_ℕ (coded× coded_ℕ coded_ℕ))))))))
     (λ r. (r.used, (r.live, (r.head, (r.gone, (r.shapes, (r.owner, (r.region, (r.uses, r.values)))))))))
     (λ p. record { used = p.0; live = p.1.0; head = p.1.1.0; gone = p.1.1.1.0; shapes = p.1.1.1.1.0; owner = p.1.1.1.1.1.0; region = p.1.1.1.1.1.1.0; uses = p.1.1.1.1.1.1.1.0; values = p.1.1.1.1.1.1.1.1 })
@@ -89,7 +89,7 @@ abbrev pub row_spare : ℕ → ℕ → ℕ → Row
 row_spare owner number values = record no_row { owner = owner; region = number; values = values }
 
 -- the row of a held operation
-abbrev pub row_held : ℕ → Head → List Shape → ℕ → ℕ → Row
+abbrev pub row_held : ℕ → Head → List RegionShape → ℕ → ℕ → Row
 row_held x h shapes uses values = record no_row { used = true; head = record h { id = x }; shapes = shapes; uses = uses; values = values }
 
 -- a row with v as operand j

@@ -4,7 +4,7 @@ ghost use Rattle.std.specs.List.{All};
 ghost use Rattle.ir_tree.specs.Ids.{HasDistinctIds, ids};
 ghost use Rattle.ir_tree.specs.Meaning.{IsSoundIn};
 
-use crate::edits::{Told, entry_line, put_line, set_line, take_line, unasked};
+use crate::edits::{ExpectedAnswer, entry_line, put_line, set_line, take_line, unasked};
 use crate::moves::{release_line, shift_line};
 use crate::reads::{sum, write_reads};
 use crate::state::{Show, State};
@@ -94,7 +94,7 @@ fn edit(
     taken: &mut Vec<TreeOp>,
     tree: &TreeOp,
     line: &str,
-) -> Result<Told, Refusal> {
+) -> Result<ExpectedAnswer, Refusal> {
     let (call, rest) = first_word(line);
     match call {
         "put" => put_line(alloc, ctx, store, tree, rest),

@@ -18,29 +18,29 @@ use std::alloc::Global;
 
 /// An answer, and the tree that the module should have after the edit.
 #[derive(Drop)]
-pub struct Told {
+pub struct ExpectedAnswer {
     pub answer: String,
     pub tree: TreeOp,
 }
 
 /// Returns the answer to an accepted edit, with the expected tree.
-pub fn accepted(alloc: Global, answer: &str, tree: TreeOp) -> Result<Told, Refusal> {
-    Ok(Told {
+pub fn accepted(alloc: Global, answer: &str, tree: TreeOp) -> Result<ExpectedAnswer, Refusal> {
+    Ok(ExpectedAnswer {
         answer: written::word(alloc, answer)?,
         tree,
     })
 }
 
 /// Returns the answer to a refused edit, with the unchanged tree.
-pub fn refused(alloc: Global, refusal: Refusal, tree: &TreeOp) -> Result<Told, Refusal> {
-    Ok(Told {
+pub fn refused(alloc: Global, refusal: Refusal, tree: &TreeOp) -> Result<ExpectedAnswer, Refusal> {
+    Ok(ExpectedAnswer {
         answer: written::refusal(alloc, refusal)?,
         tree: copy(tree)?,
     })
 }
 
 /// Returns the answer to an edit whose precondition doesn't hold, so that the module isn't called.
-pub fn unasked(alloc: Global, tree: &TreeOp) -> Result<Told, Refusal> {
+pub fn unasked(alloc: Global, tree: &TreeOp) -> Result<ExpectedAnswer, Refusal> {
     accepted(alloc, "unasked", copy(tree)?)
 }
 
@@ -64,7 +64,7 @@ pub fn put_line(
     store: &mut Store,
     tree: &TreeOp,
     text: &str,
-) -> Result<Told, Refusal> {
+) -> Result<ExpectedAnswer, Refusal> {
     let (at, words) = text.split_once(" : ").unwrap_or((text, ""));
     let header = build::tree(alloc, words)?;
     let place = place(at);
@@ -92,7 +92,7 @@ pub fn take_line(
     taken: &mut Vec<TreeOp>,
     tree: &TreeOp,
     text: &str,
-) -> Result<Told, Refusal> {
+) -> Result<ExpectedAnswer, Refusal> {
     let op = op_id(text);
     match store.take(op) {
         Ok(()) => {
@@ -110,7 +110,7 @@ pub fn set_line(
     store: &mut Store,
     tree: &TreeOp,
     text: &str,
-) -> Result<Told, Refusal> {
+) -> Result<ExpectedAnswer, Refusal> {
     let (op, rest) = first_word(text);
     let (operand, word) = first_word(rest);
     let (op, operand, value) = (op_id(op), number(operand), value(word));
@@ -132,7 +132,7 @@ pub fn entry_line(
     store: &mut Store,
     tree: &TreeOp,
     text: &str,
-) -> Result<Told, Refusal> {
+) -> Result<ExpectedAnswer, Refusal> {
     let (op, rest) = first_word(text);
     let (dictionary, rest) = first_word(rest);
     let (key, attr) = first_word(rest);

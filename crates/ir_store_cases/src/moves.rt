@@ -4,7 +4,7 @@ ghost use Rattle.ir_tree.specs.Meaning.{isolated_in};
 ghost use Rattle.ir_tree.specs.WellFormed.{IsWellFormed};
 
 use crate::calls::are_below;
-use crate::edits::{Told, accepted, refused, unasked};
+use crate::edits::{ExpectedAnswer, accepted, refused, unasked};
 use ir_store::store::Store;
 use ir_tree::check::check;
 use ir_tree::copy::copy;
@@ -47,7 +47,7 @@ pub fn shift_line(
     store: &mut Store,
     tree: &TreeOp,
     text: &str,
-) -> Result<Told, Refusal> {
+) -> Result<ExpectedAnswer, Refusal> {
     let (op, at) = first_word(text);
     let (op, place) = (op_id(op), place(at));
     if !may_shift(alloc, ctx, store)? {
@@ -65,7 +65,7 @@ pub fn release_line(
     store: &mut Store,
     tree: &TreeOp,
     text: &str,
-) -> Result<Told, Refusal> {
+) -> Result<ExpectedAnswer, Refusal> {
     store.release(number(text));
     accepted(alloc, "ok", copy(tree)?)
 }

@@ -2,7 +2,7 @@
 ghost use Rattle.std.specs.Prelude.{◌≡◌, ◌+◌, true, false, IfOk};
 ghost use Rattle.ir_store.specs.Calls.{CanRetract};
 
-use crate::edits::{Told, accepted, refused, unasked};
+use crate::edits::{ExpectedAnswer, accepted, refused, unasked};
 use crate::may::{may_restore, may_revert, may_set};
 use ir_store::store::Store;
 use ir_tree::copy::copy;
@@ -40,7 +40,7 @@ pub fn restore_line(
     taken: &[TreeOp],
     tree: &TreeOp,
     text: &str,
-) -> Result<Told, Refusal> {
+) -> Result<ExpectedAnswer, Refusal> {
     let (age, rest) = first_word(text);
     let (op, at) = first_word(rest);
     let (fresh, op, place) = (age == "new", op_id(op), place(at));
@@ -116,7 +116,7 @@ pub fn retract_line(
     taken: &mut Vec<TreeOp>,
     tree: &TreeOp,
     text: &str,
-) -> Result<Told, Refusal> {
+) -> Result<ExpectedAnswer, Refusal> {
     let (age, op) = first_word(text);
     let op = op_id(op);
     match retract(alloc, store, op, age == "new") {
@@ -140,7 +140,7 @@ pub fn revert_line(
     store: &mut Store,
     tree: &TreeOp,
     text: &str,
-) -> Result<Told, Refusal> {
+) -> Result<ExpectedAnswer, Refusal> {
     let (op, rest) = first_word(text);
     let (dictionary, rest) = first_word(rest);
     let (key, attr) = first_word(rest);

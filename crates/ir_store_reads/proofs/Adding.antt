@@ -4,7 +4,7 @@ use Rattle.ir_store_slots.specs.trees.Tree.{op, no_regions, region, empty, block
 use Rattle.ir_store_slots.specs.trees.Ids.{ids, region_ids, regions_ids, ops_ids}
 use Rattle.ir_store_slots.specs.Lists.{Once, list_at, after}
 use Rattle.ir_store_slots.specs.RegionData.{RegionData}
-use Rattle.ir_store_slots.specs.Rows.{Row, Shape, row_at, shape_of}
+use Rattle.ir_store_slots.specs.Rows.{Row, RegionShape, row_at, shape_of}
 use Rattle.ir_store_slots.specs.Plans.{AllHeads}
 use Rattle.ir_store_slots.specs.Walks.{from_slot}
 use Rattle.ir_store_reads.specs.Added.{AddsOp, AddsRegions, AddsOps}
@@ -41,7 +41,7 @@ module _ (rows : List Row) (lists : List (List ℕ)) where
   adds_block x a b f (region (block args os) (region g rs)) s = absurd s.1
 
   -- a region, followed by the others
-  pub adds_region : (x : Shape) (xs : List Shape) (a b c : List ℕ) → AddsRegions rows lists (x ∷ []) a b → AddsRegions rows lists xs b c → AddsRegions rows lists (x ∷ xs) a c
+  pub adds_region : (x : RegionShape) (xs : List RegionShape) (a b c : List ℕ) → AddsRegions rows lists (x ∷ []) a b → AddsRegions rows lists xs b c → AddsRegions rows lists (x ∷ xs) a c
   adds_region x xs a b c f g no_regions s = absurd s
   adds_region x xs a b c f g (region r rs) s =
       let first : b ≡ a ++ region_ids r = f (region r no_regions) (s.0, tt) ∙ ap (λ z. a ++ z) (append-nil (region_ids r)) in
@@ -53,7 +53,7 @@ module _ (rows : List Row) (lists : List (List ℕ)) where
   adds_op k ks a b c f g (next o os) s = g os s.1 ∙ ap (λ z. z ++ ops_ids os) (f o s.0) ∙ append_assoc a (ids o) (ops_ids os)
 
 -- the heads of the blocks after the first
-others : (homes : List ℕ) (x : Shape) (xs : List Shape) → AllHeads homes (x ∷ xs) → AllHeads homes xs
+others : (homes : List ℕ) (x : RegionShape) (xs : List RegionShape) → AllHeads homes (x ∷ xs) → AllHeads homes xs
 others homes None xs h = h
 others homes (Some a) xs h = h.1
 

@@ -5,12 +5,12 @@ use Rattle.ir_store_slots.specs.trees.declared.tree.TreeRegion.{TreeRegion}
 use Rattle.ir_store_slots.specs.trees.View.{region_view}
 use Rattle.ir_store_slots.specs.trees.Tree.{Op, Region, regions_of, ops_of}
 use Rattle.ir_store_slots.specs.RegionData.{RegionData}
-use Rattle.ir_store_slots.specs.Rows.{Row, Shape, shape_of}
+use Rattle.ir_store_slots.specs.Rows.{Row, RegionShape, shape_of}
 use Rattle.ir_store_slots.specs.Spells.{SpellsOp, SpellsRegions, SpellsRegion, SpellsOps}
 use Rattle.ir_store_slots.specs.Plans.{AllHeads}
 
 module _ (rows : List Row) (lists : List (List ℕ)) where
-  regions_more : (xs : List Shape) (gs : List Region) (x : Shape) (g : Region) → SpellsRegions rows lists xs (regions_of gs) → SpellsRegion rows lists x g → SpellsRegions rows lists (xs ++ x ∷ []) (regions_of (gs ++ g ∷ []))
+  regions_more : (xs : List RegionShape) (gs : List Region) (x : RegionShape) (g : Region) → SpellsRegions rows lists xs (regions_of gs) → SpellsRegion rows lists x g → SpellsRegions rows lists (xs ++ x ∷ []) (regions_of (gs ++ g ∷ []))
   regions_more [] [] x g s r = (r, tt)
   regions_more [] (h ∷ gs) x g s r = absurd s
   regions_more (y ∷ xs) [] x g s r = absurd s
@@ -43,11 +43,11 @@ pub heads_at : (homes : List ℕ) (areas : List RegionData) (n : ℕ) (x : Regio
 heads_at homes [] n x l e h = absurd (omega (arith, l))
 heads_at homes (y ∷ areas) zero x l e h = subst (λ z. AllHeads homes (shape_of z ∷ [])) (sym e) (first (shape_of y) (map shape_of areas) h)
   where
-    first : (a : Shape) (xs : List Shape) → AllHeads homes (a ∷ xs) → AllHeads homes (a ∷ [])
+    first : (a : RegionShape) (xs : List RegionShape) → AllHeads homes (a ∷ xs) → AllHeads homes (a ∷ [])
     first None xs h = tt
     first (Some a) xs h = (h.0, tt)
 heads_at homes (y ∷ areas) (suc n) x l e h = heads_at homes areas n x (omega (arith, l)) e (others (shape_of y) (map shape_of areas) h)
   where
-    others : (a : Shape) (xs : List Shape) → AllHeads homes (a ∷ xs) → AllHeads homes xs
+    others : (a : RegionShape) (xs : List RegionShape) → AllHeads homes (a ∷ xs) → AllHeads homes xs
     others None xs h = h
     others (Some a) xs h = h.1

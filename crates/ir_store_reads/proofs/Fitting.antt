@@ -8,7 +8,7 @@ use Rattle.ir_store_slots.specs.Lists.{IsHead, IsFree}
 use Rattle.ir_store_slots.specs.trees.Tree.{Op, op, head, Region, regions_of}
 use Rattle.ir_store_slots.specs.tree_laws.Reasons.{with_id}
 use Rattle.ir_store_slots.specs.declared.row.UseNode.{UseNode}
-use Rattle.ir_store_slots.specs.Rows.{Row, Shape, row_at}
+use Rattle.ir_store_slots.specs.Rows.{Row, RegionShape, row_at}
 use Rattle.ir_store_slots.specs.Index.{cells_of, cell_at}
 use Rattle.ir_store_slots.specs.Emptied.{emptied}
 use Rattle.ir_store_slots.specs.Grows.{Parts, AreBlocks, NewBlock, Grown, row_held, AreEmptied}
@@ -54,7 +54,7 @@ block_fit q k i h n args e b = record {
 }
 
 -- an operation can be written into a slot that fits
-pub fit_grown : (q : Parts) (k x : ℕ) (o : Op) (gs : List Region) (xs : List Shape) (w r : Row) → k < length q.rows → row_at q.rows k ≡ w → op (head o) (regions_of gs) ≡ o → RowFits q.sibs.homes q.homes q.cells k w (head o)
+pub fit_grown : (q : Parts) (k x : ℕ) (o : Op) (gs : List Region) (xs : List RegionShape) (w r : Row) → k < length q.rows → row_at q.rows k ≡ w → op (head o) (regions_of gs) ≡ o → RowFits q.sibs.homes q.homes q.cells k w (head o)
     → AreEmptied xs gs → AreBlocks q 0 k xs → r ≡ row_held x (head o) xs w.uses w.values → Grown 0 q x o k r
 fit_grown q k x o gs xs w r inside ew eo f emptied_xs blocks er = subst (Grown 0 q x o k) (sym er) (record {
   ready = λ keys none. record {

@@ -2,7 +2,7 @@
 use Rattle.std.specs.Prelude.{◌≡◌, ℕ, List, ◌++◌}
 use Rattle.ir_store_slots.specs.trees.Tree.{Op, Regions, Ops}
 use Rattle.ir_store_slots.specs.trees.Ids.{ids, regions_ids, ops_ids}
-use Rattle.ir_store_slots.specs.Rows.{Row, Shape}
+use Rattle.ir_store_slots.specs.Rows.{Row, RegionShape}
 use Rattle.ir_store_slots.specs.Spells.{SpellsOp, SpellsRegions, SpellsOps}
 
 module _ (rows : List Row) (lists : List (List ℕ)) where
@@ -11,7 +11,7 @@ module _ (rows : List Row) (lists : List (List ℕ)) where
   AddsOp k before after = (t : Op) → SpellsOp rows lists k t → after ≡ before ++ ids t
 
   -- the ids in regions
-  abbrev pub AddsRegions : List Shape → List ℕ → List ℕ → Type 0
+  abbrev pub AddsRegions : List RegionShape → List ℕ → List ℕ → Type 0
   AddsRegions xs before after = (rs : Regions) → SpellsRegions rows lists xs rs → after ≡ before ++ regions_ids rs
 
   -- the ids in a list

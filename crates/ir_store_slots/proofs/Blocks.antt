@@ -3,7 +3,7 @@ use Rattle.std.proofs.Common.{◌≡◌, ℕ, zero, suc, ◌+◌, ◌<◌, ◌�
 use Rattle.std.proofs.lemmas.Bool.{cases_lt, cases_eq}
 use Rattle.std.proofs.lemmas.List.{get_or_past}
 use Rattle.ir_store_lists.specs.Lists.{Lists, home_at}
-use Rattle.ir_store_slots.specs.Rows.{Row, Shape, row_at}
+use Rattle.ir_store_slots.specs.Rows.{Row, RegionShape, row_at}
 use Rattle.ir_store_slots.specs.Grows.{Parts, IsEven, Wider, NewHead, NewBlock, AreBlocks, IsBlock, Runs, AddsSlot, KeepsSlots, row_spare}
 use Rattle.ir_store_slots.proofs.Wide.{wide_then, head_stays, blocks_stay}
 use Rattle.ir_store_slots.proofs.Runs.{run_wide, run_heads, slot_wide, slot_row, slot_home, keep_wide, push_long}
@@ -55,12 +55,12 @@ lower_block q bound low k i a l b = record {
   arguments = λ j m. let f = b.arguments j m in record { head = f.head; cell = f.cell; new = omega (arith, l, f.new) };
 }
 
-pub lower_is : (q : Parts) (bound low k i : ℕ) (x : Shape) → low ≤ bound → IsBlock q bound k i x → IsBlock q low k i x
+pub lower_is : (q : Parts) (bound low k i : ℕ) (x : RegionShape) → low ≤ bound → IsBlock q bound k i x → IsBlock q low k i x
 lower_is q bound low k i None l b = tt
 lower_is q bound low k i (Some a) l b = lower_block q bound low k i a l b
 
 -- one more block
-pub blocks_push : (q : Parts) (bound k : ℕ) (xs : List Shape) (x : Shape) → AreBlocks q bound k xs → IsBlock q bound k (length xs) x → AreBlocks q bound k (xs ++ x ∷ [])
+pub blocks_push : (q : Parts) (bound k : ℕ) (xs : List RegionShape) (x : RegionShape) → AreBlocks q bound k xs → IsBlock q bound k (length xs) x → AreBlocks q bound k (xs ++ x ∷ [])
 blocks_push q bound k xs x f b i a e = ⊎_elim
     (λ l. f i a (sym (in_preceding xs (x ∷ []) i l) ∙ e))
     (λ g. ⊎_elim
@@ -86,12 +86,12 @@ blocks_push q bound k xs x f b i a e = ⊎_elim
     only_end (z ∷ ys) y zero o l e = absurd (omega (arith, l))
     only_end (z ∷ ys) y (suc i) o l e = ap suc (only_end ys y i o (omega (arith, l)) e)
 
-    last : (x : Shape) → IsBlock q bound k (length xs) x → Some x ≡ Some (Some a) → i ≡ length xs → NewBlock q bound k i a
+    last : (x : RegionShape) → IsBlock q bound k (length xs) x → Some x ≡ Some (Some a) → i ≡ length xs → NewBlock q bound k i a
     last None b e z = absurd cc
     last (Some c) b e z = let f : c ≡ a = cc in subst (λ j. NewBlock q bound k j a) (sym z) (subst (NewBlock q bound k (length xs)) f b)
 
 -- the invariant of a loop over regions
-pub areas_step : (p q r : Parts) → IsEven p → Wider p q → Wider q r → (owner : ℕ) (xs : List Shape) (x : Shape) (ys : List Shape) → AreBlocks q (length p.homes) owner xs → (n : ℕ) → n ≡ length xs
+pub areas_step : (p q r : Parts) → IsEven p → Wider p q → Wider q r → (owner : ℕ) (xs : List RegionShape) (x : RegionShape) (ys : List RegionShape) → AreBlocks q (length p.homes) owner xs → (n : ℕ) → n ≡ length xs
     → IsBlock r (length q.homes) owner n x → ys ≡ xs ++ x ∷ [] → AreBlocks r (length p.homes) owner ys × (n + 1 ≡ length ys)
 areas_step p q r e a b owner xs x ys f n en g ey = (
   subst (AreBlocks r (length p.homes) owner) (sym ey)

@@ -5,7 +5,7 @@ use Rattle.std.proofs.lemmas.Bool.{eqb-true, cases_Bool, false≢true, or_cases}
 use Rattle.ir_store_arena.specs.trees.Tree.{Op, op, Regions, no_regions, region, Region, empty, block, Ops, no_ops, next}
 use Rattle.ir_store_arena.specs.trees.Ids.{ids, regions_ids, region_ids, ops_ids, has_id, find, regions_find, region_find, ops_find, first_of}
 use Rattle.ir_store_lists.specs.Lists.{list_at}
-use Rattle.ir_store_slots.specs.Rows.{Row, Shape, row_at}
+use Rattle.ir_store_slots.specs.Rows.{Row, RegionShape, row_at}
 use Rattle.ir_store_slots.specs.Spells.{SpellsOp, SpellsRegions, SpellsRegion, SpellsOps}
 use Rattle.ir_store_slots.specs.Right.{Live}
 use Rattle.ir_store_slots.proofs.Mapped.{has_op, has_regions, has_region, has_ops, neither}
@@ -70,7 +70,7 @@ module _ (rows : List Row) (lists : List (List ℕ)) where
           (λ n. rw n (find_regions (row_at rows q).shapes rs s.1.1 (either (eqb h.id x) (has_regions x rs) e n)))
           (cases_Bool (eqb h.id x))
 
-      find_regions : (xs : List Shape) (rs : Regions) → SpellsRegions rows lists xs rs → has_regions x rs ≡ true → Spelt k (regions_find x rs)
+      find_regions : (xs : List RegionShape) (rs : Regions) → SpellsRegions rows lists xs rs → has_regions x rs ≡ true → Spelt k (regions_find x rs)
       find_regions xs no_regions s e = absurd (false≢true e)
       find_regions [] (region g rs) s e = absurd s
       find_regions (a ∷ xs) (region g rs) s e = ⊎_elim
@@ -78,7 +78,7 @@ module _ (rows : List Row) (lists : List (List ℕ)) where
           (λ n. rw (none_first_of (region_find x g) (regions_find x rs) (not_found_region x g n)) (find_regions xs rs s.1 (either (has_region x g) (has_regions x rs) e n)))
           (cases_Bool (has_region x g))
 
-      find_region : (a : Shape) (g : Region) → SpellsRegion rows lists a g → has_region x g ≡ true → Spelt k (region_find x g)
+      find_region : (a : RegionShape) (g : Region) → SpellsRegion rows lists a g → has_region x g ≡ true → Spelt k (region_find x g)
       find_region None empty s e = absurd (false≢true e)
       find_region None (block args os) s e = absurd s
       find_region (Some a) empty s e = absurd s
@@ -103,12 +103,12 @@ module _ (rows : List Row) (lists : List (List ℕ)) where
         (λ y. regions_live x (row_at rows q).shapes rs s.1.1 y)
         (or_cases (eqb h.id x) (has_regions x rs) e)
 
-    regions_live : (x : ℕ) (xs : List Shape) (rs : Regions) → SpellsRegions rows lists xs rs → has_regions x rs ≡ true → HasSlot x
+    regions_live : (x : ℕ) (xs : List RegionShape) (rs : Regions) → SpellsRegions rows lists xs rs → has_regions x rs ≡ true → HasSlot x
     regions_live x xs no_regions s e = absurd (false≢true e)
     regions_live x [] (region g rs) s e = absurd s
     regions_live x (a ∷ xs) (region g rs) s e = ⊎_elim (λ y. region_live x a g s.0 y) (λ y. regions_live x xs rs s.1 y) (or_cases (has_region x g) (has_regions x rs) e)
 
-    region_live : (x : ℕ) (a : Shape) (g : Region) → SpellsRegion rows lists a g → has_region x g ≡ true → HasSlot x
+    region_live : (x : ℕ) (a : RegionShape) (g : Region) → SpellsRegion rows lists a g → has_region x g ≡ true → HasSlot x
     region_live x None empty s e = absurd (false≢true e)
     region_live x None (block args os) s e = absurd s
     region_live x (Some a) empty s e = absurd s

@@ -7,7 +7,7 @@ use Rattle.ir_store_arena.specs.trees.declared.tree.TreeRegion.{TreeRegion}
 use Rattle.ir_store_arena.specs.trees.View.{region_view}
 use Rattle.ir_store_arena.specs.trees.Tree.{Op, op, head, region, Region, empty, block, no_ops, regions_of}
 use Rattle.ir_store_arena.specs.tree_laws.Reasons.{with_id}
-use Rattle.ir_store_slots.specs.Rows.{Row, Shape, bare_regions}
+use Rattle.ir_store_slots.specs.Rows.{Row, RegionShape, bare_regions}
 use Rattle.ir_store_slots.specs.Grows.{Parts, IsEven, Wider, Ready, AreBlocks, Runs, AddsSlot, Grown, row_spare, row_held, bare_region}
 use Rattle.ir_store_slots.specs.Emptied.{emptied_region, emptied_regions, emptied}
 use Rattle.ir_store_slots.proofs.Wide.{wide_then, head_stays, blocks_stay}
@@ -20,7 +20,7 @@ take_all (suc n) [] e = absurd (omega (arith, e))
 take_all (suc n) (x ∷ xs) e = ap (λ z. x ∷ z) (take_all n xs (omega (arith, e)))
 
 -- one more region has no operations
-pub emptied_step : (xs ys : List Shape) (x : Shape) (rest : List TreeRegion) (w : TreeRegion) (goal : List Region) → w ≡ get_or rest 0 w → 1 ≤ length rest → bare_region x ≡ emptied_region (region_view w) → ys ≡ xs ++ x ∷ []
+pub emptied_step : (xs ys : List RegionShape) (x : RegionShape) (rest : List TreeRegion) (w : TreeRegion) (goal : List Region) → w ≡ get_or rest 0 w → 1 ≤ length rest → bare_region x ≡ emptied_region (region_view w) → ys ≡ xs ++ x ∷ []
     → map bare_region xs ++ map emptied_region (map region_view rest) ≡ goal → map bare_region ys ++ map emptied_region (map region_view (take (length rest - 1) (drop 1 rest))) ≡ goal
 emptied_step xs ys x [] w goal ew l ex ey e = absurd (omega (arith, l))
 emptied_step xs ys x (y ∷ rest) w goal ew l ex ey e =
@@ -32,7 +32,7 @@ emptied_step xs ys x (y ∷ rest) w goal ew l ex ey e =
     ∙ ap (λ z. map bare_region xs ++ z ∷ map emptied_region (map region_view rest)) (ex ∙ ap (λ z. emptied_region (region_view z)) ew)
     ∙ e
 
-pub bare_list : (xs : List Shape) → bare_regions xs ≡ regions_of (map bare_region xs)
+pub bare_list : (xs : List RegionShape) → bare_regions xs ≡ regions_of (map bare_region xs)
 bare_list [] = refl
 bare_list (None ∷ xs) = ap (region empty) (bare_list xs)
 bare_list (Some a ∷ xs) = ap (region (block a.0 no_ops)) (bare_list xs)
@@ -78,7 +78,7 @@ module _ (p : Parts) (even : IsEven p) (slot : ℕ) (es : slot ≡ length p.rows
         slot_in : slot < length rows1
         slot_in = omega (arith, es, ap length a.row, push_long p.rows w w)
 
-        module _ (x : ℕ) (o : Op) (gs : List Region) (eo : op (head o) (regions_of gs) ≡ o) (xs : List Shape) (emptied_xs : map bare_region xs ≡ map emptied_region gs) (blocks : AreBlocks q (length first.homes) slot xs)
+        module _ (x : ℕ) (o : Op) (gs : List Region) (eo : op (head o) (regions_of gs) ≡ o) (xs : List RegionShape) (emptied_xs : map bare_region xs ≡ map emptied_region gs) (blocks : AreBlocks q (length first.homes) slot xs)
             (values base : ℕ) (ev : values ≡ length q.homes) (eb : base ≡ length homes3) (en : n ≡ length (head o).results) (em : m ≡ length (head o).operands)
             (u : Row) (eu : u ≡ row_held x (head o) xs base values) where
           is_ready : (keys : ℕ → Option ℕ) → keys x ≡ None → Ready fourth keys (length p.homes) slot x (row_held x (head o) xs base values)

@@ -5,7 +5,7 @@ use Rattle.ir_store_arena.specs.trees.Tree.{Head, Op, op, Regions, no_regions, r
 use Rattle.ir_store_arena.specs.trees.Edits.{each_head, regions_each_head, region_each_head, ops_each_head}
 use Rattle.ir_store_arena.specs.trees.Places.{each_list, regions_each_list, region_each_list, ops_each_list}
 use Rattle.ir_store_lists.specs.Lists.{list_at}
-use Rattle.ir_store_slots.specs.Rows.{Row, Shape, row_at}
+use Rattle.ir_store_slots.specs.Rows.{Row, RegionShape, row_at}
 use Rattle.ir_store_slots.specs.Spells.{SpellsOp, SpellsRegions, SpellsRegion, SpellsOps}
 use Rattle.ir_store_slots.specs.Right.{Live}
 
@@ -43,13 +43,13 @@ module _ (rows rows' : List Row) (f : Head → Head) (lists : List (List ℕ)) (
         let p = step k (record { live = s.0 }) in
         (p.live, (p.head ∙ ap f s.1.0, subst (λ z. SpellsRegions rows' lists z (regions_each_head f rs)) (sym p.shapes) (maps_regions (row_at rows k).shapes rs s.1.1)))
 
-    maps_regions : (xs : List Shape) (rs : Regions) → SpellsRegions rows lists xs rs → SpellsRegions rows' lists xs (regions_each_head f rs)
+    maps_regions : (xs : List RegionShape) (rs : Regions) → SpellsRegions rows lists xs rs → SpellsRegions rows' lists xs (regions_each_head f rs)
     maps_regions [] no_regions s = tt
     maps_regions [] (region g rs) s = absurd s
     maps_regions (a ∷ xs) no_regions s = absurd s
     maps_regions (a ∷ xs) (region g rs) s = (maps_region a g s.0, maps_regions xs rs s.1)
 
-    maps_region : (a : Shape) (g : Region) → SpellsRegion rows lists a g → SpellsRegion rows' lists a (region_each_head f g)
+    maps_region : (a : RegionShape) (g : Region) → SpellsRegion rows lists a g → SpellsRegion rows' lists a (region_each_head f g)
     maps_region None empty s = tt
     maps_region None (block args os) s = absurd s
     maps_region (Some a) empty s = absurd s
@@ -76,7 +76,7 @@ module _ (rows : List Row) (lists lists' : List (List ℕ)) (f : ℕ → ℕ →
       ),
     )
 
-    lists_regions : (k : ℕ) → Live rows k → (r : ℕ) (xs : List Shape) (rs : Regions) → ((i : ℕ) → slice_get xs i ≡ slice_get (row_at rows k).shapes (i + r)) → SpellsRegions rows lists xs rs
+    lists_regions : (k : ℕ) → Live rows k → (r : ℕ) (xs : List RegionShape) (rs : Regions) → ((i : ℕ) → slice_get xs i ≡ slice_get (row_at rows k).shapes (i + r)) → SpellsRegions rows lists xs rs
         → SpellsRegions rows lists' xs (regions_each_list f (row_at rows k).head.id r rs)
     lists_regions k l r [] no_regions e s = tt
     lists_regions k l r [] (region g rs) e s = absurd s
@@ -86,7 +86,7 @@ module _ (rows : List Row) (lists lists' : List (List ℕ)) (f : ℕ → ℕ →
       lists_regions k l (r + 1) xs rs (λ i. e (suc i) ∙ ap (slice_get (row_at rows k).shapes) (omega arith)) s.1,
     )
 
-    lists_region : (k : ℕ) → Live rows k → (r : ℕ) (a : Shape) (g : Region) → slice_get (row_at rows k).shapes r ≡ Some a → SpellsRegion rows lists a g
+    lists_region : (k : ℕ) → Live rows k → (r : ℕ) (a : RegionShape) (g : Region) → slice_get (row_at rows k).shapes r ≡ Some a → SpellsRegion rows lists a g
         → SpellsRegion rows lists' a (region_each_list f (row_at rows k).head.id r g)
     lists_region k l r None empty e s = tt
     lists_region k l r None (block args os) e s = absurd s
@@ -108,13 +108,13 @@ module _ (rows rows' : List Row) (lists : List (List ℕ)) (x : ℕ) (same : (q 
         let row = same k (record { live = s.0 }) (λ e. eqb-false h.id x b.0 (sym (ap (λ z. z.id) s.1.0) ∙ e)) in
         (ap (λ z. z.live) row ∙ s.0, (ap (λ z. z.head) row ∙ s.1.0, subst (λ z. SpellsRegions rows' lists z rs) (sym (ap (λ z. z.shapes) row)) (rows_regions (row_at rows k).shapes rs b.1 s.1.1)))
 
-    rows_regions : (xs : List Shape) (rs : Regions) → has_regions x rs ≡ false → SpellsRegions rows lists xs rs → SpellsRegions rows' lists xs rs
+    rows_regions : (xs : List RegionShape) (rs : Regions) → has_regions x rs ≡ false → SpellsRegions rows lists xs rs → SpellsRegions rows' lists xs rs
     rows_regions [] no_regions n s = tt
     rows_regions [] (region g rs) n s = absurd s
     rows_regions (a ∷ xs) no_regions n s = absurd s
     rows_regions (a ∷ xs) (region g rs) n s = let b = neither (has_region x g) (has_regions x rs) n in (rows_region a g b.0 s.0, rows_regions xs rs b.1 s.1)
 
-    rows_region : (a : Shape) (g : Region) → has_region x g ≡ false → SpellsRegion rows lists a g → SpellsRegion rows' lists a g
+    rows_region : (a : RegionShape) (g : Region) → has_region x g ≡ false → SpellsRegion rows lists a g → SpellsRegion rows' lists a g
     rows_region None empty n s = tt
     rows_region None (block args os) n s = absurd s
     rows_region (Some a) empty n s = absurd s

@@ -12,7 +12,7 @@ use Rattle.ir_store_lists.specs.Lists.{Lists}
 use Rattle.ir_store_arena.specs.trees.Tree.{Op, op, Regions, no_regions, region, empty, block, head}
 use Rattle.ir_store_arena.specs.trees.Ids.{has_id, find, first_of}
 use Rattle.ir_store_slots.specs.Nodes.{node_of, regions_arguments}
-use Rattle.ir_store_slots.specs.Rows.{node_row, Row, Shape, row_at, no_row, if_live, live_slot, held_in, bare, bare_regions}
+use Rattle.ir_store_slots.specs.Rows.{node_row, Row, RegionShape, row_at, no_row, if_live, live_slot, held_in, bare, bare_regions}
 use Rattle.ir_store_slots.specs.Spells.{SpellsOp, SpellsRegions}
 use Rattle.ir_store_slots.specs.Right.{Live, Used, Right}
 use Rattle.ir_store_slots.proofs.Mapped.{has_op}
@@ -92,7 +92,7 @@ module _ (rows : List Row) (keys : ℕ → Option ℕ) (sibs : Lists) (root : �
       go (op h rs) w = ap (λ z. z.id) w.1.0
 
 module _ (rows : List Row) (lists : List (List ℕ)) where
-  arguments_spelt : (xs : List Shape) (rs : Regions) → SpellsRegions rows lists xs rs → map (option_map (λ a. a.0)) xs ≡ regions_arguments rs
+  arguments_spelt : (xs : List RegionShape) (rs : Regions) → SpellsRegions rows lists xs rs → map (option_map (λ a. a.0)) xs ≡ regions_arguments rs
   arguments_spelt [] no_regions s = refl
   arguments_spelt [] (region g rs) s = absurd s
   arguments_spelt (a ∷ xs) no_regions s = absurd s
@@ -104,7 +104,7 @@ module _ (rows : List Row) (lists : List (List ℕ)) where
   pub node_spelt : (k : ℕ) (o : Op) → SpellsOp rows lists k o → node_row (row_at rows k) ≡ node_of o
   node_spelt k (op h rs) s = λ i. record { head = s.1.0 i; arguments = arguments_spelt (row_at rows k).shapes rs s.1.1 i }
 
-pub bare_arguments : (xs : List Shape) → map (option_map (λ a. a.0)) xs ≡ regions_arguments (bare_regions xs)
+pub bare_arguments : (xs : List RegionShape) → map (option_map (λ a. a.0)) xs ≡ regions_arguments (bare_regions xs)
 bare_arguments [] = refl
 bare_arguments (None ∷ xs) = ap (λ l. None ∷ l) (bare_arguments xs)
 bare_arguments (Some a ∷ xs) = ap (λ l. Some a.0 ∷ l) (bare_arguments xs)

@@ -8,7 +8,7 @@ use Rattle.std.proofs.lemmas.List.{get_or_past}
 use Rattle.ir_store_lists.specs.Lists.{free, Once, Laws, IsHead, IsItem, list_at, has, after}
 use Rattle.ir_store_arena.specs.trees.Tree.{Op, op, Regions, no_regions, region, empty, block, Ops, no_ops, next}
 use Rattle.ir_store_arena.specs.trees.Limits.{depth, regions_depth, ops_depth}
-use Rattle.ir_store_slots.specs.Rows.{Row, Shape, row_at}
+use Rattle.ir_store_slots.specs.Rows.{Row, RegionShape, row_at}
 use Rattle.ir_store_slots.specs.Spells.{SpellsOp, SpellsRegions, SpellsOps}
 use Rattle.ir_store_slots.specs.Walks.{shapes_pass, slot_fits, from_slot}
 use Rattle.ir_store_arena.proofs.of_trees.Counts.{below_none}
@@ -126,7 +126,7 @@ module _ (rows : List Row) (lists : List (List ℕ)) where
     fits_is zero k (op h rs) s = sym (below_none (regions_depth rs))
     fits_is (suc n) k (op h rs) s = (λ i. s.0 i && regions_fit n (row_at rows k).shapes rs s.1.1 i) ∙ le_lt (regions_depth rs) n
 
-    regions_fit : (n : ℕ) (xs : List Shape) (rs : Regions) → SpellsRegions rows lists xs rs → shapes_pass lists (slot_fits rows lists n) xs ≡ nat_le (regions_depth rs) n
+    regions_fit : (n : ℕ) (xs : List RegionShape) (rs : Regions) → SpellsRegions rows lists xs rs → shapes_pass lists (slot_fits rows lists n) xs ≡ nat_le (regions_depth rs) n
     regions_fit n [] no_regions s = sym (zero_le n)
     regions_fit n [] (region g rs) s = absurd s
     regions_fit n (a ∷ xs) no_regions s = absurd s

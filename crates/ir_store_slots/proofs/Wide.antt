@@ -9,7 +9,7 @@ use Rattle.ir_store_arena.specs.trees.declared.value.Value.TheVariants.{Result, 
 use Rattle.ir_store_arena.specs.trees.Frames.{owner_of}
 use Rattle.ir_store_arena.specs.trees.Ids.{has_id}
 use Rattle.ir_store_arena.specs.trees.Tree.{Op, op, Regions, no_regions, region, Region, empty, block, Ops, no_ops, next}
-use Rattle.ir_store_slots.specs.Rows.{Row, Shape, row_at, no_row, held_in, gone_in, bare}
+use Rattle.ir_store_slots.specs.Rows.{Row, RegionShape, row_at, no_row, held_in, gone_in, bare}
 use Rattle.ir_store_slots.specs.Spells.{SpellsOp, SpellsRegions, SpellsRegion, SpellsOps}
 use Rattle.ir_store_slots.specs.Right.{Live, Used, HoldsId, BlockOf, Right}
 use Rattle.ir_store_slots.specs.Index.{operand_at, use_at, argument_head, slot_head, value_head, CellOf, LinkedTo, Index, lives}
@@ -74,7 +74,7 @@ block_stays q r e w bound k i a f =
       arguments = λ j m. head_stays q r w bound a.1 j ((row_at r.rows a.1).values + j) (subst (λ z. NewHead q bound a.1 j (z + j)) (sym (ap (λ z. z.values) same)) (f.arguments j m));
     }
 
-pub blocks_stay : (q r : Parts) → IsEven q → Wider q r → (bound k : ℕ) (xs : List Shape) → AreBlocks q bound k xs → AreBlocks r bound k xs
+pub blocks_stay : (q r : Parts) → IsEven q → Wider q r → (bound k : ℕ) (xs : List RegionShape) → AreBlocks q bound k xs → AreBlocks r bound k xs
 blocks_stay q r e w bound k xs f = λ i a g. block_stays q r e w bound k i a (f i a g)
 
 -- a tree is represented by equal rows and lists
@@ -85,13 +85,13 @@ module _ (rows rows' : List Row) (lists lists' : List (List ℕ)) (same : (k : �
         let e = same k (record { live = s.0 }) in
         (ap (λ z. z.live) e ∙ s.0, (ap (λ z. z.head) e ∙ s.1.0, subst (λ z. SpellsRegions rows' lists' z rs) (sym (ap (λ z. z.shapes) e)) (same_regions (row_at rows k).shapes rs s.1.1)))
 
-    same_regions : (xs : List Shape) (rs : Regions) → SpellsRegions rows lists xs rs → SpellsRegions rows' lists' xs rs
+    same_regions : (xs : List RegionShape) (rs : Regions) → SpellsRegions rows lists xs rs → SpellsRegions rows' lists' xs rs
     same_regions [] no_regions s = tt
     same_regions [] (region g rs) s = absurd s
     same_regions (a ∷ xs) no_regions s = absurd s
     same_regions (a ∷ xs) (region g rs) s = (same_region a g s.0, same_regions xs rs s.1)
 
-    same_region : (a : Shape) (g : Region) → SpellsRegion rows lists a g → SpellsRegion rows' lists' a g
+    same_region : (a : RegionShape) (g : Region) → SpellsRegion rows lists a g → SpellsRegion rows' lists' a g
     same_region None empty s = tt
     same_region None (block args os) s = absurd s
     same_region (Some a) empty s = absurd s
@@ -147,7 +147,7 @@ module _ (p q : Parts) (w : Wider p q) (keys : ℕ → Option ℕ) (r : Keyed p.
   pub wide_head : (v : Value) → value_head q.rows keys v ≡ value_head p.rows keys v
   wide_head v = go (keys (owner_of v).0) refl
     where
-      arg : (i q' j : ℕ) → Used p.rows q' → (o : Option Shape) → slice_get (row_at p.rows q').shapes j ≡ o → option_and_then (argument_head q.rows i) o ≡ option_and_then (argument_head p.rows i) o
+      arg : (i q' j : ℕ) → Used p.rows q' → (o : Option RegionShape) → slice_get (row_at p.rows q').shapes j ≡ o → option_and_then (argument_head q.rows i) o ≡ option_and_then (argument_head p.rows i) o
       arg i k j u None e = refl
       arg i k j u (Some None) e = refl
       arg i k j u (Some (Some a)) e = ap (λ z. if nat_lt i (length a.0) then Some (z.values + i) else None) (w.row a.1 (inside_rows a.1 (r.blocks k j a u e).head.inside))

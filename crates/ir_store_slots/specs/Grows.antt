@@ -5,7 +5,7 @@ use Rattle.ir_store_arena.specs.trees.Tree.{Op, Region, empty, block, no_ops}
 use Rattle.ir_store_slots.specs.Emptied.{emptied_region, emptied}
 use Rattle.ir_store_arena.specs.trees.declared.value.Value.{Value}
 use Rattle.ir_store_slots.specs.declared.row.UseNode.{UseNode}
-use Rattle.ir_store_slots.specs.Rows.{Row, Shape, row_at, bare}
+use Rattle.ir_store_slots.specs.Rows.{Row, RegionShape, row_at, bare}
 pub use Rattle.ir_store_arena.specs.Rows.{row_spare, row_held}
 use Rattle.ir_store_slots.specs.Stored.{none_gone}
 use Rattle.ir_store_arena.specs.tree_laws.Reasons.{with_id}
@@ -94,16 +94,16 @@ pub record Runs (heads : Bool) (row n : ℕ) (old new : List ℕ) (cells more : 
   pub meant : more ≡ cells ++ run_cells row n
 
 -- the region of a shape
-abbrev pub bare_region : Shape → Region
+abbrev pub bare_region : RegionShape → Region
 bare_region None = empty
 bare_region (Some a) = block a.0 no_ops
 
 -- the blocks of slot k, for region n and the following ones
-abbrev pub AreBlocks : Parts → ℕ → ℕ → List Shape → Type 0
+abbrev pub AreBlocks : Parts → ℕ → ℕ → List RegionShape → Type 0
 AreBlocks q bound k xs = (i : ℕ) (a : List ℕ × ℕ) → slice_get xs i ≡ Some (Some a) → NewBlock q bound k i a
 
 -- a shape of region i of slot k
-abbrev pub IsBlock : Parts → ℕ → ℕ → ℕ → Shape → Type 0
+abbrev pub IsBlock : Parts → ℕ → ℕ → ℕ → RegionShape → Type 0
 IsBlock q bound k i None = Unit {0}
 IsBlock q bound k i (Some a) = NewBlock q bound k i a
 
@@ -125,5 +125,5 @@ pub record KeepsSlots (rows new : List Row) (sibs more : Lists) : Type 0 where
   pub kept : more ≡ sibs
 
 -- the shapes are those of the regions with empty blocks
-abbrev pub AreEmptied : List Shape → List Region → Type 0
+abbrev pub AreEmptied : List RegionShape → List Region → Type 0
 AreEmptied xs gs = map bare_region xs ≡ map emptied_region gs

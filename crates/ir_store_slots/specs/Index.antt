@@ -7,7 +7,7 @@ use Rattle.ir_store_arena.specs.trees.Ids.{HasDistinctIds, op_count}
 use Rattle.ir_store_arena.specs.trees.Tree.{Op}
 use Rattle.ir_store_arena.specs.trees.Frames.{owner_of}
 use Rattle.ir_store_slots.specs.declared.row.UseNode.{UseNode}
-use Rattle.ir_store_slots.specs.Rows.{Row, Shape, row_at, live_slot}
+use Rattle.ir_store_slots.specs.Rows.{Row, RegionShape, row_at, live_slot}
 use Rattle.ir_store_slots.specs.Right.{Live, Used, Right}
 use Rattle.ir_store_slots.specs.Plans.{is_nil}
 use Rattle.ir_store_slots.specs.Marks.{Marked}
@@ -31,7 +31,7 @@ use_at rows k j = (row_at rows k).uses + j
 abbrev pub result_head : ℕ → Row → Option ℕ
 result_head i r = if nat_lt i (length r.head.results) then Some (r.values + i) else None
 
-abbrev pub argument_head : List Row → ℕ → Shape → Option ℕ
+abbrev pub argument_head : List Row → ℕ → RegionShape → Option ℕ
 argument_head rows i None = None
 argument_head rows i (Some a) = if nat_lt i (length a.0) then Some ((row_at rows a.1).values + i) else None
 
@@ -83,8 +83,8 @@ abbrev pub lives : List Row → ℕ → ℕ → Bool
 lives rows k j = (row_at rows k).live
 
 -- the operands of the module's operations, with those of slot k only from index a on, and before b
-abbrev pub between : List Row → ℕ → ℕ → ℕ → ℕ → ℕ → Bool
-between rows k a b q j = if eqb q k then not (nat_lt j a) && nat_lt j b else (row_at rows q).live
+abbrev pub operands_between : List Row → ℕ → ℕ → ℕ → ℕ → ℕ → Bool
+operands_between rows k a b q j = if eqb q k then not (nat_lt j a) && nat_lt j b else (row_at rows q).live
 
 -- the lists of n heads from b on are empty
 abbrev pub all_idle : List (List ℕ) → ℕ → ℕ → Bool
@@ -92,7 +92,7 @@ all_idle lists b zero = true
 all_idle lists b (suc n) = is_nil (list_at lists b) && all_idle lists (b + 1) n
 
 -- the use lists of the arguments of blocks are empty
-abbrev pub args_idle : List Row → List (List ℕ) → List Shape → Bool
+abbrev pub args_idle : List Row → List (List ℕ) → List RegionShape → Bool
 args_idle rows lists [] = true
 args_idle rows lists (None ∷ xs) = args_idle rows lists xs
 args_idle rows lists (Some a ∷ xs) = all_idle lists (row_at rows a.1).values (length a.0) && args_idle rows lists xs
@@ -134,7 +134,7 @@ pub record AreHeads (b n : ℕ) (homes : List ℕ) : Type 0 where
   pub heads : (i : ℕ) → i < n → IsHead homes (b + i)
 
 -- the heads of the arguments of blocks are list heads
-abbrev pub ArgHeads : List Row → List ℕ → List Shape → Type 0
+abbrev pub ArgHeads : List Row → List ℕ → List RegionShape → Type 0
 ArgHeads rows homes [] = Unit {0}
 ArgHeads rows homes (None ∷ xs) = ArgHeads rows homes xs
 ArgHeads rows homes (Some a ∷ xs) = AreHeads (row_at rows a.1).values (length a.0) homes × ArgHeads rows homes xs
@@ -171,7 +171,7 @@ pub record Fits (rows : List Row) (keys : ℕ → Option ℕ) (sibs : Lists) (ro
   pub celled : Celled rows cells
 
 -- the type of a value of an operation that has a slot
-abbrev pub shape_type : ℕ → Shape → Option ℕ
+abbrev pub shape_type : ℕ → RegionShape → Option ℕ
 shape_type i None = None
 shape_type i (Some a) = slice_get a.0 i
 

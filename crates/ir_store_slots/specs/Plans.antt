@@ -5,7 +5,7 @@ use Rattle.ir_store_arena.specs.types.declared.refusal.Refusal.TheVariants.{NoSu
 use Rattle.ir_store_lists.specs.Lists.{list_at, IsHead}
 use Rattle.ir_store_arena.specs.trees.Tree.{OpOf, head}
 use Rattle.ir_store_arena.specs.trees.Ids.{has_id, find}
-use Rattle.ir_store_slots.specs.Rows.{Row, Shape, row_at}
+use Rattle.ir_store_slots.specs.Rows.{Row, RegionShape, row_at}
 use Rattle.ir_store_arena.specs.tree_laws.Reasons.{unless, holds_none, operand_reason}
 
 abbrev pub is_nil : List ℕ → Bool
@@ -13,12 +13,12 @@ is_nil [] = true
 is_nil (k ∷ ks) = false
 
 -- the lists of the blocks have heads, and are empty
-abbrev pub AllHeads : List ℕ → List Shape → Type 0
+abbrev pub AllHeads : List ℕ → List RegionShape → Type 0
 AllHeads homes [] = Unit {0}
 AllHeads homes (None ∷ xs) = AllHeads homes xs
 AllHeads homes (Some a ∷ xs) = IsHead homes a.1 × AllHeads homes xs
 
-abbrev pub all_bare : List (List ℕ) → List Shape → Bool
+abbrev pub all_bare : List (List ℕ) → List RegionShape → Bool
 all_bare lists [] = true
 all_bare lists (None ∷ xs) = all_bare lists xs
 all_bare lists (Some a ∷ xs) = is_nil (list_at lists a.1) && all_bare lists xs

@@ -3,7 +3,7 @@ use Rattle.std.specs.Prelude.{ℕ, List, [], ◌∷◌, map, not, ◌&&◌, if�
 use Rattle.ir_store_arena.specs.trees.Tree.{Op, op, Regions, no_regions, region, empty, block, no_ops}
 use Rattle.ir_store_slots.specs.Stored.{Gone}
 use Rattle.ir_store_slots.specs.Nodes.{Node}
-pub use Rattle.ir_store_arena.specs.Shapes.{Shape, shape_of}
+pub use Rattle.ir_store_arena.specs.Shapes.{RegionShape, shape_of}
 pub use Rattle.ir_store_arena.specs.Rows.{Row, no_head, no_row, kept_head, row_at, row_with_operand, vacated}
 
 -- the slot of an operation of the tree; `keys` maps ids to slots
@@ -15,7 +15,7 @@ abbrev pub live_slot : List Row → (ℕ → Option ℕ) → ℕ → Option ℕ
 live_slot rows keys x = if_live rows (keys x)
 
 -- the operation of a slot, with empty blocks
-abbrev pub bare_regions : List Shape → Regions
+abbrev pub bare_regions : List RegionShape → Regions
 bare_regions [] = no_regions
 bare_regions (None ∷ xs) = region empty (bare_regions xs)
 bare_regions (Some a ∷ xs) = region (block a.0 no_ops) (bare_regions xs)
@@ -41,12 +41,12 @@ abbrev pub held_slot : List Row → (ℕ → Option ℕ) → ℕ → Option ℕ
 held_slot rows keys x = if_held rows (keys x)
 
 -- the head of a region's list
-abbrev pub head_in : Shape → Option ℕ
+abbrev pub head_in : RegionShape → Option ℕ
 head_in None = None
 head_in (Some a) = Some a.1
 
 -- the types of a block's arguments
-abbrev pub shape_arguments : Shape → Option (List ℕ)
+abbrev pub shape_arguments : RegionShape → Option (List ℕ)
 shape_arguments None = None
 shape_arguments (Some a) = Some a.0
 

@@ -6,7 +6,7 @@ use mathlib.Core.HLevel.{Σ_prop_path, ⊥_prop}
 use Rattle.ir_store_arena.specs.trees.Tree.{Op, op, Regions, no_regions, region, Region, empty, block, Ops, no_ops, next}
 use Rattle.ir_store_arena.specs.trees.Code.{head_code}
 use Rattle.ir_store_lists.specs.Lists.{list_at}
-use Rattle.ir_store_slots.specs.Rows.{Row, Shape, row_at}
+use Rattle.ir_store_slots.specs.Rows.{Row, RegionShape, row_at}
 
 module _ (rows : List Row) (lists : List (List ℕ)) where
   abbrev mutual
@@ -14,13 +14,13 @@ module _ (rows : List Row) (lists : List (List ℕ)) where
     pub SpellsOp : ℕ → Op → Type 0
     SpellsOp k (op h rs) = ((row_at rows k).live ≡ true) × (((row_at rows k).head ≡ h) × SpellsRegions (row_at rows k).shapes rs)
 
-    pub SpellsRegions : List Shape → Regions → Type 0
+    pub SpellsRegions : List RegionShape → Regions → Type 0
     SpellsRegions [] no_regions = Unit {0}
     SpellsRegions [] (region g rs) = ⊥
     SpellsRegions (a ∷ xs) no_regions = ⊥
     SpellsRegions (a ∷ xs) (region g rs) = SpellsRegion a g × SpellsRegions xs rs
 
-    pub SpellsRegion : Shape → Region → Type 0
+    pub SpellsRegion : RegionShape → Region → Type 0
     SpellsRegion None empty = Unit {0}
     SpellsRegion None (block args os) = ⊥
     SpellsRegion (Some a) empty = ⊥
@@ -37,13 +37,13 @@ module _ (rows : List Row) (lists : List (List ℕ)) where
     SpellsOp-prop k (op h rs) =
         ×_prop (Coded-set coded_bool _ _) (×_prop (Coded-set head_code _ _) (SpellsRegions-prop (row_at rows k).shapes rs))
 
-    pub SpellsRegions-prop : (xs : List Shape) (rs : Regions) → IsProp (SpellsRegions xs rs)
+    pub SpellsRegions-prop : (xs : List RegionShape) (rs : Regions) → IsProp (SpellsRegions xs rs)
     SpellsRegions-prop [] no_regions = Unit-prop
     SpellsRegions-prop [] (region g rs) = ⊥_prop
     SpellsRegions-prop (a ∷ xs) no_regions = ⊥_prop
     SpellsRegions-prop (a ∷ xs) (region g rs) = ×_prop (SpellsRegion-prop a g) (SpellsRegions-prop xs rs)
 
-    pub SpellsRegion-prop : (a : Shape) (g : Region) → IsProp (SpellsRegion a g)
+    pub SpellsRegion-prop : (a : RegionShape) (g : Region) → IsProp (SpellsRegion a g)
     SpellsRegion-prop None empty = Unit-prop
     SpellsRegion-prop None (block args os) = ⊥_prop
     SpellsRegion-prop (Some a) empty = ⊥_prop
@@ -61,7 +61,7 @@ module _ (rows : List Row) (lists : List (List ℕ)) where
         let e : g ≡ h = sym s.1.0 ∙ r.1.0 in
         λ i. op (e i) (SpellsRegions-one (row_at rows k).shapes rs ss s.1.1 r.1.1 i)
 
-    pub SpellsRegions-one : (xs : List Shape) (rs ss : Regions) → SpellsRegions xs rs → SpellsRegions xs ss → rs ≡ ss
+    pub SpellsRegions-one : (xs : List RegionShape) (rs ss : Regions) → SpellsRegions xs rs → SpellsRegions xs ss → rs ≡ ss
     SpellsRegions-one [] no_regions no_regions s r = refl
     SpellsRegions-one [] no_regions (region h ss) s r = absurd r
     SpellsRegions-one [] (region g rs) ss s r = absurd s
@@ -69,7 +69,7 @@ module _ (rows : List Row) (lists : List (List ℕ)) where
     SpellsRegions-one (a ∷ xs) (region g rs) no_regions s r = absurd r
     SpellsRegions-one (a ∷ xs) (region g rs) (region h ss) s r = λ i. region (SpellsRegion-one a g h s.0 r.0 i) (SpellsRegions-one xs rs ss s.1 r.1 i)
 
-    pub SpellsRegion-one : (a : Shape) (g h : Region) → SpellsRegion a g → SpellsRegion a h → g ≡ h
+    pub SpellsRegion-one : (a : RegionShape) (g h : Region) → SpellsRegion a g → SpellsRegion a h → g ≡ h
     SpellsRegion-one None empty empty s r = refl
     SpellsRegion-one None empty (block args os) s r = absurd r
     SpellsRegion-one None (block args os) h s r = absurd s

@@ -2,10 +2,10 @@
 use Rattle.std.specs.Prelude.{ℕ, zero, suc, List, [], ◌∷◌, eqb, true, false, ◌&&◌, Bool, if◌then◌else◌, Option, Some, None}
 use Rattle.std.specs.List.{list_all}
 use Rattle.ir_store_lists.specs.Lists.{list_at}
-use Rattle.ir_store_slots.specs.Rows.{Row, Shape, row_at}
+use Rattle.ir_store_slots.specs.Rows.{Row, RegionShape, row_at}
 
 -- all slots in the lists of the blocks pass a test
-abbrev pub shapes_pass : List (List ℕ) → (ℕ → Bool) → List Shape → Bool
+abbrev pub shapes_pass : List (List ℕ) → (ℕ → Bool) → List RegionShape → Bool
 shapes_pass lists p [] = true
 shapes_pass lists p (None ∷ xs) = shapes_pass lists p xs
 shapes_pass lists p (Some a ∷ xs) = list_all p (list_at lists a.1) && shapes_pass lists p xs

@@ -7,12 +7,12 @@ use Rattle.ir_tree.specs.View.{region_view}
 use Rattle.ir_tree.specs.declared.tree.TreeRegion.{TreeRegion}
 use Rattle.ir_tree.specs.Limits.{every, arguments_pass, all_arguments_pass, region_every, regions_every, ops_every}
 use Rattle.ir_tree.specs.Meaning.{meaning}
-use Rattle.ir_text.specs.Printing.{Printed, put, comma_at, printed_op, print_regions, print_region, print_ops}
+use Rattle.ir_text.specs.Printing.{Printed, append_text, comma_at, printed_op, print_regions, print_region, print_ops}
 use Rattle.ir_text.specs.View.{region_in, regions_in, ops_in}
 use Rattle.std.proofs.lemmas.Bool.{and_parts}
 
 -- a region is printed after its comma, and the other regions are left
-pub next_region : (d : ContextModel) (margin : List ℕ) (x place : ℕ) (r : TreeRegion) (now rest : List TreeRegion) (o p q whole : Printed) → now ≡ r ∷ rest → p ≡ put (comma_at place) o → q ≡ print_region margin x place (region_in d (region_view r)) p → print_regions margin x place (regions_in d now) o ≡ whole → print_regions margin x (place + 1) (regions_in d rest) q ≡ whole
+pub next_region : (d : ContextModel) (margin : List ℕ) (x place : ℕ) (r : TreeRegion) (now rest : List TreeRegion) (o p q whole : Printed) → now ≡ r ∷ rest → p ≡ append_text (comma_at place) o → q ≡ print_region margin x place (region_in d (region_view r)) p → print_regions margin x place (regions_in d now) o ≡ whole → print_regions margin x (place + 1) (regions_in d rest) q ≡ whole
 next_region d margin x place r now rest o p q whole next comma one s =
     ap (print_regions margin x (place + 1) (regions_in d rest)) (one ∙ ap (print_region margin x place (region_in d (region_view r))) comma)
     ∙ ap (λ (rs : List TreeRegion). print_regions margin x place (regions_in d rs) o) (sym next)

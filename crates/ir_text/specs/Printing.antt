@@ -20,8 +20,8 @@ pub record Printed : Type 0 where
   pub arguments : ℕ
 
 -- appends a text
-abbrev pub put : List ℕ → Printed → Printed
-put t o = record { text = o.text ++ t; named = o.named; results = o.results; arguments = o.arguments }
+abbrev pub append_text : List ℕ → Printed → Printed
+append_text t o = record { text = o.text ++ t; named = o.named; results = o.results; arguments = o.arguments }
 
 -- the margin inside an operation has two more blanks
 abbrev pub deeper : List ℕ → List ℕ
@@ -39,11 +39,11 @@ count_results x ts o =
 -- prints and names the results, if the operation has any
 abbrev pub print_results : ℕ → List TypeTerm → Printed → Printed
 print_results x [] o = o
-print_results x (t ∷ ts) o = count_results x (t ∷ ts) (put (results_text o.results (length (t ∷ ts))) o)
+print_results x (t ∷ ts) o = count_results x (t ∷ ts) (append_text (results_text o.results (length (t ∷ ts))) o)
 
 -- prints the operands by their names
 abbrev pub print_operands : List Value → Printed → Printed
-print_operands vs o = put (in_round (map (value_text o.named) vs)) o
+print_operands vs o = append_text (in_round (map (value_text o.named) vs)) o
 
 -- a dictionary in braces
 abbrev pub dictionary_text : List (List ℕ × AttrTerm) → List ℕ
@@ -60,19 +60,19 @@ attributes_text (e ∷ es) = codes " " ++ dictionary_text (e ∷ es)
 
 -- prints the name, the operands and the properties of an operation
 abbrev pub print_name : HeadOf (List ℕ) TypeTerm AttrTerm → Printed → Printed
-print_name h o = put (properties_text h.properties) (print_operands h.operands (put (string_text h.name) o))
+print_name h o = append_text (properties_text h.properties) (print_operands h.operands (append_text (string_text h.name) o))
 
 -- prints an operation up to its regions
 abbrev pub print_head : List ℕ → HeadOf (List ℕ) TypeTerm AttrTerm → Printed → Printed
-print_head margin h o = print_name h (print_results h.id h.results (put margin o))
+print_head margin h o = print_name h (print_results h.id h.results (append_text margin o))
 
 -- prints the function type of the operands and results
 abbrev pub print_type_of : List Value → List TypeTerm → Printed → Printed
-print_type_of vs ts o = put (type_text (Function (types_of (map (value_type o.named) vs)) (types_of ts))) o
+print_type_of vs ts o = append_text (type_text (Function (types_of (map (value_type o.named) vs)) (types_of ts))) o
 
 -- prints an operation after its regions
 abbrev pub print_tail : HeadOf (List ℕ) TypeTerm AttrTerm → Printed → Printed
-print_tail h o = put (codes "\n") (print_type_of h.operands h.results (put (codes " : ") (put (attributes_text h.attributes) o)))
+print_tail h o = append_text (codes "\n") (print_type_of h.operands h.results (append_text (codes " : ") (append_text (attributes_text h.attributes) o)))
 
 -- the comma before the item at index k, unless the index is 0
 abbrev pub comma_at : ℕ → List ℕ
@@ -88,22 +88,22 @@ argument_text n t = codes "%arg" ++ (decimal n ++ (codes ": " ++ type_text t))
 
 -- prints an argument, and names it
 abbrev pub print_argument : ℕ → ℕ → ℕ → TypeTerm → Printed → Printed
-print_argument x r k t o = count_argument x r k t (put (argument_text o.arguments t) o)
+print_argument x r k t o = count_argument x r k t (append_text (argument_text o.arguments t) o)
 
 -- prints the arguments of a block from index k on
 abbrev pub print_arguments : ℕ → ℕ → ℕ → List TypeTerm → Printed → Printed
 print_arguments x r k [] o = o
-print_arguments x r k (t ∷ ts) o = print_arguments x r (k + 1) ts (print_argument x r k t (put (comma_at k) o))
+print_arguments x r k (t ∷ ts) o = print_arguments x r (k + 1) ts (print_argument x r k t (append_text (comma_at k) o))
 
 -- prints the label of a block without arguments, if the block has no operations
 abbrev pub print_bare_label : {N T A : Type 0} → List ℕ → OpsOf N T A → Printed → Printed
-print_bare_label margin no_ops o = put (codes "^bb0:\n") (put margin o)
+print_bare_label margin no_ops o = append_text (codes "^bb0:\n") (append_text margin o)
 print_bare_label margin (next t ts) o = o
 
 -- prints the label of a block, if the block has arguments or no operations
 abbrev pub print_label : {N T A : Type 0} → List ℕ → ℕ → ℕ → List TypeTerm → OpsOf N T A → Printed → Printed
 print_label margin x r [] os o = print_bare_label margin os o
-print_label margin x r (t ∷ ts) os o = put (codes "):\n") (print_arguments x r 0 (t ∷ ts) (put (codes "^bb0(") (put margin o)))
+print_label margin x r (t ∷ ts) os o = append_text (codes "):\n") (print_arguments x r 0 (t ∷ ts) (append_text (codes "^bb0(") (append_text margin o)))
 
 -- the opening parenthesis of the regions of an operation, if it has any
 abbrev pub opening : {N T A : Type 0} → RegionsOf N T A → List ℕ
@@ -117,17 +117,17 @@ closing_text (region g rs) = codes ")"
 -- prints an operation with its regions; `margin` is the blanks before it
 abbrev mutual
   pub printed_op : List ℕ → Operation → Printed → Printed
-  printed_op margin (op h rs) o = print_tail h (put (closing_text rs) (print_regions margin h.id 0 rs (put (opening rs) (print_head margin h o))))
+  printed_op margin (op h rs) o = print_tail h (append_text (closing_text rs) (print_regions margin h.id 0 rs (append_text (opening rs) (print_head margin h o))))
 
   -- prints the regions from region r on
   pub print_regions : List ℕ → ℕ → ℕ → RegionsOf (List ℕ) TypeTerm AttrTerm → Printed → Printed
   print_regions margin x r no_regions o = o
-  print_regions margin x r (region g rs) o = print_regions margin x (r + 1) rs (print_region margin x r g (put (comma_at r) o))
+  print_regions margin x r (region g rs) o = print_regions margin x (r + 1) rs (print_region margin x r g (append_text (comma_at r) o))
 
   -- prints region r
   pub print_region : List ℕ → ℕ → ℕ → RegionOf (List ℕ) TypeTerm AttrTerm → Printed → Printed
-  print_region margin x r empty o = put (codes "{}") o
-  print_region margin x r (block args os) o = put (codes "}") (put margin (print_ops (deeper margin) os (print_label margin x r args os (put (codes "{\n") o))))
+  print_region margin x r empty o = append_text (codes "{}") o
+  print_region margin x r (block args os) o = append_text (codes "}") (append_text margin (print_ops (deeper margin) os (print_label margin x r args os (append_text (codes "{\n") o))))
 
   -- prints the operations of a block
   pub print_ops : List ℕ → OpsOf (List ℕ) TypeTerm AttrTerm → Printed → Printed

@@ -13,7 +13,7 @@ ghost use Rattle.ir_tree.specs.Passing.{entry_passes, head_passes, op_passes};
 ghost use Rattle.ir_tree.specs.Meaning.{meaning, is_name, is_type, is_attr, is_known};
 ghost use Rattle.ir_text.specs.Naming.{value_type};
 ghost use Rattle.ir_text_types.specs.TypeGrammar.{types_of};
-ghost use Rattle.ir_text.specs.Printing.{put, print_results, results_text, print_operands, dictionary_text, properties_text, attributes_text, print_name, print_head, print_type_of, print_tail, comma_at, argument_text, print_argument, print_arguments, deeper, print_bare_label, print_label, opening, closing_text, printed_op, print_region};
+ghost use Rattle.ir_text.specs.Printing.{append_text, print_results, results_text, print_operands, dictionary_text, properties_text, attributes_text, print_name, print_head, print_type_of, print_tail, comma_at, argument_text, print_argument, print_arguments, deeper, print_bare_label, print_label, opening, closing_text, printed_op, print_region};
 ghost use Rattle.ir_text.specs.View.{named_in, printed_in, head_in, region_in, regions_in, ops_in, types_in, entries_in};
 
 use crate::attributes::write_entries;
@@ -32,7 +32,7 @@ use ir_types::things::name_of;
 use std::alloc::{AllocError, Global};
 
 fn write(out: &mut Printer, bytes: &[u8]) -> Result<(), AllocError>
-    ensures { (c : ContextModel) → OnOk result (printed_in c out.new ≡ put bytes.now (printed_in c out.old)) }
+    ensures { (c : ContextModel) → OnOk result (printed_in c out.new ≡ append_text bytes.now (printed_in c out.old)) }
 {
     out.text.extend_from_slice(bytes)
 }
@@ -191,7 +191,7 @@ fn write_tail(ctx: &Context, out: &mut Printer, op: &TreeOp) -> Result<(), Alloc
 
 /// Appends a comma before the item at index `place`, unless the index is 0.
 fn write_comma(out: &mut Printer, place: usize) -> Result<(), AllocError>
-    ensures { (c : ContextModel) → OnOk result (printed_in c out.new ≡ put (comma_at place) (printed_in c out.old)) }
+    ensures { (c : ContextModel) → OnOk result (printed_in c out.new ≡ append_text (comma_at place) (printed_in c out.old)) }
 {
     if place > 0 {
         write_short(&mut out.text, b", ")?;
@@ -290,7 +290,7 @@ fn write_label(
 
 /// Appends the opening parenthesis of an operation's regions, if it has any.
 fn write_opening(out: &mut Printer, regions: &[TreeRegion]) -> Result<(), AllocError>
-    ensures { (c : ContextModel) → OnOk result (printed_in c out.new ≡ put (opening (regions_in c regions.now)) (printed_in c out.old)) }
+    ensures { (c : ContextModel) → OnOk result (printed_in c out.new ≡ append_text (opening (regions_in c regions.now)) (printed_in c out.old)) }
 {
     match regions {
         [] => Ok(()),
@@ -300,7 +300,7 @@ fn write_opening(out: &mut Printer, regions: &[TreeRegion]) -> Result<(), AllocE
 
 /// Appends the closing parenthesis of an operation's regions, if it has any.
 fn write_closing(out: &mut Printer, regions: &[TreeRegion]) -> Result<(), AllocError>
-    ensures { (c : ContextModel) → OnOk result (printed_in c out.new ≡ put (closing_text (regions_in c regions.now)) (printed_in c out.old)) }
+    ensures { (c : ContextModel) → OnOk result (printed_in c out.new ≡ append_text (closing_text (regions_in c regions.now)) (printed_in c out.old)) }
 {
     match regions {
         [] => Ok(()),

@@ -25,7 +25,7 @@ use Rattle.ir_text.specs.declared.naming.Source.{Source}
 use Rattle.ir_text.specs.declared.naming.Source.TheVariants.{Result, Argument}
 use Rattle.ir_text.specs.AttrText.{is_flag, attr_text, entry_texts}
 use Rattle.ir_text.specs.Naming.{Naming, Named, naming_type, value_text, value_type, source_of, same_source, result_name, name_result, name_results}
-use Rattle.ir_text.specs.Printing.{Printed, put, deeper, results_text, print_results, print_operands, dictionary_text, properties_text, attributes_text, print_head, print_tail, comma_at, argument_text, print_argument, print_arguments, print_bare_label, print_label, opening, closing_text, printed_op, print_regions, print_region, print_ops, blank, text_of}
+use Rattle.ir_text.specs.Printing.{Printed, append_text, deeper, results_text, print_results, print_operands, dictionary_text, properties_text, attributes_text, print_head, print_tail, comma_at, argument_text, print_argument, print_arguments, print_bare_label, print_label, opening, closing_text, printed_op, print_regions, print_region, print_ops, blank, text_of}
 use Rattle.ir_text.specs.TypeText.{in_round, is_lone, type_text, type_texts}
 use Rattle.ir_text_modules.specs.Written.{FitsType}
 use Rattle.ir_text_modules.specs.WrittenAttributes.{IsWritableDictionary, are_bytes, FitsAttr}
@@ -108,10 +108,10 @@ module _ (P : List ℕ → Type 0) (ascii : (xs : List ℕ) → IsAscii xs → P
   Held p = P p.text × Typed p.named
 
   -- appending a text
-  more : (t : List ℕ) (p : Printed) → Held p → P t → Held (put t p)
+  more : (t : List ℕ) (p : Printed) → Held p → P t → Held (append_text t p)
   more t p h k = (append p.text t h.0 k, h.1)
 
-  written : (t : List ℕ) (p : Printed) → Held p → IsAscii t → Held (put t p)
+  written : (t : List ℕ) (p : Printed) → Held p → IsAscii t → Held (append_text t p)
   written t p h k = more t p h (ascii t k)
 
   results : (x : ℕ) (ts : List TypeTerm) (p : Printed) → AllTypes ts → Held p → Held (print_results x ts p)
@@ -124,61 +124,61 @@ module _ (P : List ℕ → Type 0) (ascii : (xs : List ℕ) → IsAscii xs → P
 
   heading : (margin : List ℕ) (h : Head) (p : Printed) → P margin → IsWritableHead o h → Held p → Held (print_head margin h p)
   heading margin h p m w k =
-      let first = print_results h.id h.results (put margin p) in
-      let second = put (string_text h.name) first in
+      let first = print_results h.id h.results (append_text margin p) in
+      let second = append_text (string_text h.name) first in
       let third = print_operands h.operands second in
-      let named = results h.id h.results (put margin p) (types_so o refl h.results w.types w.encoded.0) (more margin p k m) in
+      let named = results h.id h.results (append_text margin p) (types_so o refl h.results w.types w.encoded.0) (more margin p k m) in
       let operands = round P ascii append (map (value_text second.named) h.operands) (rows_so (map (value_text second.named) h.operands) (values second.named h.operands)) in
       more (properties_text h.properties) third (more (in_round (map (value_text second.named) h.operands)) second (written (string_text h.name) first named (quoted h.name w.bytes)) operands) (properties_so h.properties w.properties w.encoded.1)
 
   ending : (h : Head) (p : Printed) → IsWritableHead o h → Held p → Held (print_tail h p)
   ending h p w k =
-      let first = put (attributes_text h.attributes) p in
-      let second = put (codes " : ") first in
+      let first = append_text (attributes_text h.attributes) p in
+      let second = append_text (codes " : ") first in
       let ins = types_of (map (value_type second.named) h.operands) in
       let outs = types_of h.results in
       let ty = Function ins outs in
       let signature = arrow P ascii append (type_texts ins) (is_lone outs) (type_texts outs) (typed_values second.named h.operands k.1) (typed_all h.results (types_so o refl h.results w.types w.encoded.0)) in
-      more (codes "\n") (put (type_text ty) second) (more (type_text ty) second (more (codes " : ") first (more (attributes_text h.attributes) p k (attributes_so h.attributes w.attributes w.encoded.2)) (says P ascii append (codes " : ") refl)) signature) (says P ascii append (codes "\n") refl)
+      more (codes "\n") (append_text (type_text ty) second) (more (type_text ty) second (more (codes " : ") first (more (attributes_text h.attributes) p k (attributes_so h.attributes w.attributes w.encoded.2)) (says P ascii append (codes " : ") refl)) signature) (says P ascii append (codes "\n") refl)
 
   arguments : (x r k : ℕ) (ts : List TypeTerm) (p : Printed) → AllTypes ts → Held p → Held (print_arguments x r k ts p)
   arguments x r k [] p w h = h
   arguments x r k (t ∷ ts) p w h =
-      let first = put (comma_at k) p in
+      let first = append_text (comma_at k) p in
       let text = append (codes "%arg") (decimal first.arguments ++ (codes ": " ++ type_text t)) (says P ascii append (codes "%arg") refl) (append (decimal first.arguments) (codes ": " ++ type_text t) (ascii (decimal first.arguments) (number first.arguments)) (append (codes ": ") (type_text t) (says P ascii append (codes ": ") refl) w.0)) in
       let said = more (argument_text first.arguments t) first (written (comma_at k) p h (comma k)) text in
       arguments x r (k + 1) ts (print_argument x r k t first) w.1 (said.0, typed_more p.named (Argument x r k) (record { name = name.Argument first.arguments; type = t }) h.1 w.0)
 
   bare_label : (margin : List ℕ) (os : Ops) (p : Printed) → P margin → Held p → Held (print_bare_label margin os p)
-  bare_label margin no_ops p m h = more (codes "^bb0:\n") (put margin p) (more margin p h m) (says P ascii append (codes "^bb0:\n") refl)
+  bare_label margin no_ops p m h = more (codes "^bb0:\n") (append_text margin p) (more margin p h m) (says P ascii append (codes "^bb0:\n") refl)
   bare_label margin (next t ts) p m h = h
 
   label : (margin : List ℕ) (x r : ℕ) (ts : List TypeTerm) (os : Ops) (p : Printed) → P margin → AllTypes ts → Held p → Held (print_label margin x r ts os p)
   label margin x r [] os p m w h = bare_label margin os p m h
   label margin x r (t ∷ ts) os p m w h =
-      let first = put (codes "^bb0(") (put margin p) in
-      more (codes "):\n") (print_arguments x r 0 (t ∷ ts) first) (arguments x r 0 (t ∷ ts) first w (more (codes "^bb0(") (put margin p) (more margin p h m) (says P ascii append (codes "^bb0(") refl))) (says P ascii append (codes "):\n") refl)
+      let first = append_text (codes "^bb0(") (append_text margin p) in
+      more (codes "):\n") (print_arguments x r 0 (t ∷ ts) first) (arguments x r 0 (t ∷ ts) first w (more (codes "^bb0(") (append_text margin p) (more margin p h m) (says P ascii append (codes "^bb0(") refl))) (says P ascii append (codes "):\n") refl)
 
   mutual
     op_so : (margin : List ℕ) (t : Operation) (p : Printed) → P margin → IsWritable o t → Held p → Held (printed_op margin t p)
     op_so margin (op h rs) p m w k =
         let first = print_head margin h p in
-        let second = put (opening rs) first in
+        let second = append_text (opening rs) first in
         let third = print_regions margin h.id 0 rs second in
-        ending h (put (closing_text rs) third) w.0 (written (closing_text rs) third (regions_so margin h.id 0 rs second m w.1 (written (opening rs) first (heading margin h p m w.0 k) (opened rs))) (closed rs))
+        ending h (append_text (closing_text rs) third) w.0 (written (closing_text rs) third (regions_so margin h.id 0 rs second m w.1 (written (opening rs) first (heading margin h p m w.0 k) (opened rs))) (closed rs))
 
     regions_so : (margin : List ℕ) (x r : ℕ) (rs : Regions) (p : Printed) → P margin → AreWritableRegions o rs → Held p → Held (print_regions margin x r rs p)
     regions_so margin x r no_regions p m w k = k
-    regions_so margin x r (region g rs) p m w k = regions_so margin x (r + 1) rs (print_region margin x r g (put (comma_at r) p)) m w.1 (region_so margin x r g (put (comma_at r) p) m w.0 (written (comma_at r) p k (comma r)))
+    regions_so margin x r (region g rs) p m w k = regions_so margin x (r + 1) rs (print_region margin x r g (append_text (comma_at r) p)) m w.1 (region_so margin x r g (append_text (comma_at r) p) m w.0 (written (comma_at r) p k (comma r)))
 
     region_so : (margin : List ℕ) (x r : ℕ) (g : Region) (p : Printed) → P margin → IsWritableRegion o g → Held p → Held (print_region margin x r g p)
     region_so margin x r empty p m w k = more (codes "{}") p k (says P ascii append (codes "{}") refl)
     region_so margin x r (block args os) p m w k =
-        let first = print_label margin x r args os (put (codes "{\n") p) in
+        let first = print_label margin x r args os (append_text (codes "{\n") p) in
         let second = print_ops (deeper margin) os first in
         let far = append margin (codes "  ") m (says P ascii append (codes "  ") refl) in
-        let labelled = label margin x r args os (put (codes "{\n") p) m (types_so o refl args w.0 w.1) (more (codes "{\n") p k (says P ascii append (codes "{\n") refl)) in
-        more (codes "}") (put margin second) (more margin second (ops_so (deeper margin) os first far w.2 labelled) m) (says P ascii append (codes "}") refl)
+        let labelled = label margin x r args os (append_text (codes "{\n") p) m (types_so o refl args w.0 w.1) (more (codes "{\n") p k (says P ascii append (codes "{\n") refl)) in
+        more (codes "}") (append_text margin second) (more margin second (ops_so (deeper margin) os first far w.2 labelled) m) (says P ascii append (codes "}") refl)
 
     ops_so : (margin : List ℕ) (os : Ops) (p : Printed) → P margin → AreWritableOps o os → Held p → Held (print_ops margin os p)
     ops_so margin no_ops p m w k = k

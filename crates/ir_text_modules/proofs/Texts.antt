@@ -8,7 +8,7 @@ use Rattle.ir_text_tokens.specs.Printing.{string_text}
 use Rattle.ir_text.specs.TypeText.{in_round, type_text}
 use Rattle.ir_text.specs.Naming.{Named, value_text, value_type, name_results, name_argument}
 use Rattle.ir_text_types.specs.TypeGrammar.{types_of}
-use Rattle.ir_text.specs.Printing.{Printed, put, deeper, results_text, print_results, properties_text, attributes_text, print_name, print_head, print_tail, comma_at, argument_text, print_argument, print_arguments, print_label, opening, closing_text, printed_op, print_regions, print_region, print_ops}
+use Rattle.ir_text.specs.Printing.{Printed, append_text, deeper, results_text, print_results, properties_text, attributes_text, print_name, print_head, print_tail, comma_at, argument_text, print_argument, print_arguments, print_label, opening, closing_text, printed_op, print_regions, print_region, print_ops}
 use Rattle.ir_text_modules.specs.Denotation.{unwritten}
 use Rattle.ir_types.proofs.Truths.{append_none}
 
@@ -123,10 +123,10 @@ puts_then p q f g a b first second = record {
 }
 
 -- a text that depends on the names
-puts_by : (t : Names → List ℕ) → Puts (λ o. put (t (names_of o)) o) (λ n. n) (λ n rest. t n ++ rest)
+puts_by : (t : Names → List ℕ) → Puts (λ o. append_text (t (names_of o)) o) (λ n. n) (λ n rest. t n ++ rest)
 puts_by t = record { names = λ o. refl; text = λ o rest. append_assoc o.text (t (names_of o)) rest }
 
-puts_text : (t : List ℕ) → Puts (put t) (λ n. n) (λ n rest. t ++ rest)
+puts_text : (t : List ℕ) → Puts (append_text t) (λ n. n) (λ n rest. t ++ rest)
 puts_text t = puts_by (λ n. t)
 
 puts_nothing : Puts (λ o. o) (λ n. n) (λ n rest. rest)
@@ -167,44 +167,44 @@ puts_arguments : (x r k : ℕ) (ts : List TypeTerm) → Puts (print_arguments x 
 puts_arguments x r k [] = puts_nothing
 puts_arguments x r k (t ∷ ts) =
     let comma = puts_text (comma_at k) in
-    let one = puts_then (put (comma_at k)) (print_argument x r k t) (λ n. n) (argument_names x r k t) (λ n rest. comma_at k ++ rest) (λ n rest. argument_text n.arguments t ++ rest) comma (puts_argument x r k t) in
-    puts_then (λ o. print_argument x r k t (put (comma_at k) o)) (print_arguments x r (k + 1) ts) (argument_names x r k t) (arguments_names x r (k + 1) ts) (λ n rest. comma_at k ++ (argument_text n.arguments t ++ rest)) (λ n rest. arguments_then (k + 1) ts n.arguments rest) one (puts_arguments x r (k + 1) ts)
+    let one = puts_then (append_text (comma_at k)) (print_argument x r k t) (λ n. n) (argument_names x r k t) (λ n rest. comma_at k ++ rest) (λ n rest. argument_text n.arguments t ++ rest) comma (puts_argument x r k t) in
+    puts_then (λ o. print_argument x r k t (append_text (comma_at k) o)) (print_arguments x r (k + 1) ts) (argument_names x r k t) (arguments_names x r (k + 1) ts) (λ n rest. comma_at k ++ (argument_text n.arguments t ++ rest)) (λ n rest. arguments_then (k + 1) ts n.arguments rest) one (puts_arguments x r (k + 1) ts)
 
 -- two texts, one after the other
-puts_two : (s t : List ℕ) → Puts (λ o. put t (put s o)) (λ n. n) (λ n rest. s ++ (t ++ rest))
-puts_two s t = puts_then (put s) (put t) (λ n. n) (λ n. n) (λ n rest. s ++ rest) (λ n rest. t ++ rest) (puts_text s) (puts_text t)
+puts_two : (s t : List ℕ) → Puts (λ o. append_text t (append_text s o)) (λ n. n) (λ n rest. s ++ (t ++ rest))
+puts_two s t = puts_then (append_text s) (append_text t) (λ n. n) (λ n. n) (λ n rest. s ++ rest) (λ n rest. t ++ rest) (puts_text s) (puts_text t)
 
 puts_label : (margin : List ℕ) (x r : ℕ) (args : List TypeTerm) (os : Ops) → Puts (print_label margin x r args os) (arguments_names x r 0 args) (label_then margin args os)
 puts_label margin x r [] no_ops = puts_two margin (codes "^bb0:\n")
 puts_label margin x r [] (next t ts) = puts_nothing
 puts_label margin x r (t ∷ ts) os =
-    let args = puts_then (λ o. put (codes "^bb0(") (put margin o)) (print_arguments x r 0 (t ∷ ts)) (λ n. n) (arguments_names x r 0 (t ∷ ts)) (λ n rest. margin ++ (codes "^bb0(" ++ rest)) (λ n rest. arguments_then 0 (t ∷ ts) n.arguments rest) (puts_two margin (codes "^bb0(")) (puts_arguments x r 0 (t ∷ ts)) in
-    puts_then (λ o. print_arguments x r 0 (t ∷ ts) (put (codes "^bb0(") (put margin o))) (put (codes "):\n")) (arguments_names x r 0 (t ∷ ts)) (λ n. n) (λ n rest. margin ++ (codes "^bb0(" ++ arguments_then 0 (t ∷ ts) n.arguments rest)) (λ n rest. codes "):\n" ++ rest) args (puts_text (codes "):\n"))
+    let args = puts_then (λ o. append_text (codes "^bb0(") (append_text margin o)) (print_arguments x r 0 (t ∷ ts)) (λ n. n) (arguments_names x r 0 (t ∷ ts)) (λ n rest. margin ++ (codes "^bb0(" ++ rest)) (λ n rest. arguments_then 0 (t ∷ ts) n.arguments rest) (puts_two margin (codes "^bb0(")) (puts_arguments x r 0 (t ∷ ts)) in
+    puts_then (λ o. print_arguments x r 0 (t ∷ ts) (append_text (codes "^bb0(") (append_text margin o))) (append_text (codes "):\n")) (arguments_names x r 0 (t ∷ ts)) (λ n. n) (λ n rest. margin ++ (codes "^bb0(" ++ arguments_then 0 (t ∷ ts) n.arguments rest)) (λ n rest. codes "):\n" ++ rest) args (puts_text (codes "):\n"))
 
 mutual
   pub puts_op : (margin : List ℕ) (t : Operation) → Puts (printed_op margin t) (op_names t) (λ n rest. margin ++ op_then margin t n rest)
   puts_op margin (op h rs) =
       let named = results_names h.id h.results in
       let inner = regions_names h.id 0 rs in
-      let begun = puts_then (put margin) (λ o. print_name h (print_results h.id h.results o)) (λ n. n) named (λ n rest. margin ++ rest) (head_then h) (puts_text margin) (puts_head h) in
-      let opened = puts_then (print_head margin h) (put (opening rs)) named (λ n. n) (λ n rest. margin ++ head_then h n rest) (λ n rest. opening rs ++ rest) begun (puts_text (opening rs)) in
-      let regions = puts_then (λ o. put (opening rs) (print_head margin h o)) (print_regions margin h.id 0 rs) named inner (λ n rest. margin ++ head_then h n (opening rs ++ rest)) (regions_then margin h.id 0 rs) opened (puts_regions margin h.id 0 rs) in
-      let closed = puts_then (λ o. print_regions margin h.id 0 rs (put (opening rs) (print_head margin h o))) (put (closing_text rs)) (λ n. inner (named n)) (λ n. n) (λ n rest. margin ++ head_then h n (opening rs ++ regions_then margin h.id 0 rs (named n) rest)) (λ n rest. closing_text rs ++ rest) regions (puts_text (closing_text rs)) in
-      puts_then (λ o. put (closing_text rs) (print_regions margin h.id 0 rs (put (opening rs) (print_head margin h o)))) (print_tail h) (λ n. inner (named n)) (λ n. n) (λ n rest. margin ++ head_then h n (opening rs ++ regions_then margin h.id 0 rs (named n) (closing_text rs ++ rest))) (λ n rest. tail_then h n.named rest) closed (puts_tail h)
+      let begun = puts_then (append_text margin) (λ o. print_name h (print_results h.id h.results o)) (λ n. n) named (λ n rest. margin ++ rest) (head_then h) (puts_text margin) (puts_head h) in
+      let opened = puts_then (print_head margin h) (append_text (opening rs)) named (λ n. n) (λ n rest. margin ++ head_then h n rest) (λ n rest. opening rs ++ rest) begun (puts_text (opening rs)) in
+      let regions = puts_then (λ o. append_text (opening rs) (print_head margin h o)) (print_regions margin h.id 0 rs) named inner (λ n rest. margin ++ head_then h n (opening rs ++ rest)) (regions_then margin h.id 0 rs) opened (puts_regions margin h.id 0 rs) in
+      let closed = puts_then (λ o. print_regions margin h.id 0 rs (append_text (opening rs) (print_head margin h o))) (append_text (closing_text rs)) (λ n. inner (named n)) (λ n. n) (λ n rest. margin ++ head_then h n (opening rs ++ regions_then margin h.id 0 rs (named n) rest)) (λ n rest. closing_text rs ++ rest) regions (puts_text (closing_text rs)) in
+      puts_then (λ o. append_text (closing_text rs) (print_regions margin h.id 0 rs (append_text (opening rs) (print_head margin h o)))) (print_tail h) (λ n. inner (named n)) (λ n. n) (λ n rest. margin ++ head_then h n (opening rs ++ regions_then margin h.id 0 rs (named n) (closing_text rs ++ rest))) (λ n rest. tail_then h n.named rest) closed (puts_tail h)
 
   puts_regions : (margin : List ℕ) (x r : ℕ) (rs : Regions) → Puts (print_regions margin x r rs) (regions_names x r rs) (regions_then margin x r rs)
   puts_regions margin x r no_regions = puts_nothing
   puts_regions margin x r (region g rs) =
-      let one = puts_then (put (comma_at r)) (print_region margin x r g) (λ n. n) (region_names x r g) (λ n rest. comma_at r ++ rest) (region_then margin x r g) (puts_text (comma_at r)) (puts_region margin x r g) in
-      puts_then (λ o. print_region margin x r g (put (comma_at r) o)) (print_regions margin x (r + 1) rs) (region_names x r g) (regions_names x (r + 1) rs) (λ n rest. comma_at r ++ region_then margin x r g n rest) (regions_then margin x (r + 1) rs) one (puts_regions margin x (r + 1) rs)
+      let one = puts_then (append_text (comma_at r)) (print_region margin x r g) (λ n. n) (region_names x r g) (λ n rest. comma_at r ++ rest) (region_then margin x r g) (puts_text (comma_at r)) (puts_region margin x r g) in
+      puts_then (λ o. print_region margin x r g (append_text (comma_at r) o)) (print_regions margin x (r + 1) rs) (region_names x r g) (regions_names x (r + 1) rs) (λ n rest. comma_at r ++ region_then margin x r g n rest) (regions_then margin x (r + 1) rs) one (puts_regions margin x (r + 1) rs)
 
   puts_region : (margin : List ℕ) (x r : ℕ) (g : Region) → Puts (print_region margin x r g) (region_names x r g) (region_then margin x r g)
   puts_region margin x r empty = puts_text (codes "{}")
   puts_region margin x r (block args os) =
       let named = arguments_names x r 0 args in
-      let label = puts_then (put (codes "{\n")) (print_label margin x r args os) (λ n. n) named (λ n rest. codes "{\n" ++ rest) (label_then margin args os) (puts_text (codes "{\n")) (puts_label margin x r args os) in
-      let inner = puts_then (λ o. print_label margin x r args os (put (codes "{\n") o)) (print_ops (deeper margin) os) named (ops_names os) (λ n rest. codes "{\n" ++ label_then margin args os n rest) (ops_then (deeper margin) os) label (puts_ops (deeper margin) os) in
-      puts_then (λ o. print_ops (deeper margin) os (print_label margin x r args os (put (codes "{\n") o))) (λ o. put (codes "}") (put margin o)) (λ n. ops_names os (named n)) (λ n. n) (λ n rest. codes "{\n" ++ label_then margin args os n (ops_then (deeper margin) os (named n) rest)) (λ n rest. margin ++ (codes "}" ++ rest)) inner (puts_two margin (codes "}"))
+      let label = puts_then (append_text (codes "{\n")) (print_label margin x r args os) (λ n. n) named (λ n rest. codes "{\n" ++ rest) (label_then margin args os) (puts_text (codes "{\n")) (puts_label margin x r args os) in
+      let inner = puts_then (λ o. print_label margin x r args os (append_text (codes "{\n") o)) (print_ops (deeper margin) os) named (ops_names os) (λ n rest. codes "{\n" ++ label_then margin args os n rest) (ops_then (deeper margin) os) label (puts_ops (deeper margin) os) in
+      puts_then (λ o. print_ops (deeper margin) os (print_label margin x r args os (append_text (codes "{\n") o))) (λ o. append_text (codes "}") (append_text margin o)) (λ n. ops_names os (named n)) (λ n. n) (λ n rest. codes "{\n" ++ label_then margin args os n (ops_then (deeper margin) os (named n) rest)) (λ n rest. margin ++ (codes "}" ++ rest)) inner (puts_two margin (codes "}"))
 
   puts_ops : (margin : List ℕ) (os : Ops) → Puts (print_ops margin os) (ops_names os) (ops_then margin os)
   puts_ops margin no_ops = puts_nothing

@@ -63,5 +63,5 @@ extra_left len None x = x
 extra_left len (Some fault) x = if nat_lt x.1 (len - fault.left) then x else (fault.refusal, len - fault.left)
 
 -- the refusal to report for a fault in the expanded text, and its offset in the original text
-abbrev pub told : List ℕ → Expanded → Fault → TextRefusal × ℕ
-told bytes e f = extra_left (length bytes) e.fault (f.refusal, place_in (length bytes) e (length e.text - f.left))
+abbrev pub located_refusal : List ℕ → Expanded → Fault → TextRefusal × ℕ
+located_refusal bytes e f = extra_left (length bytes) e.fault (f.refusal, place_in (length bytes) e (length e.text - f.left))

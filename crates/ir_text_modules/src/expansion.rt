@@ -1,6 +1,6 @@
 //! Removes the aliases and locations of a text.
 ghost use Rattle.std.specs.Prelude.{◌≡◌, ◌≤◌, ◌-◌, [], ◌∷◌, ◌++◌, None, Some, not, length, OnOk, IfOk};
-ghost use Rattle.ir_text_modules.specs.Expanded.{expanded, operations_expanded, place_in, told};
+ghost use Rattle.ir_text_modules.specs.Expanded.{expanded, operations_expanded, place_in, located_refusal};
 ghost use Rattle.ir_text_modules.specs.Expansions.{expansion_of};
 ghost use Rattle.ir_text_modules.specs.Marks.{carried};
 
@@ -159,8 +159,8 @@ impl Expansion {
 
     /// Returns the refusal to report for a fault in the expanded text, and its offset in the original text. The
     /// expansion's own fault is reported instead if it isn't after that offset.
-    pub fn told(&self, text: &[u8], fault: Fault) -> (TextRefusal, usize)
-        ensures { result ≡ told text.now (expansion_of self.now) fault }
+    pub fn located_refusal(&self, text: &[u8], fault: Fault) -> (TextRefusal, usize)
+        ensures { result ≡ located_refusal text.now (expansion_of self.now) fault }
     {
         let place = self.place(text, self.text.len().saturating_sub(fault.left));
         match self.fault {

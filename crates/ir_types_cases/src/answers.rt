@@ -8,7 +8,7 @@ use ir_types::refusal::Refusal;
 use std::alloc::{AllocError, Global};
 
 /// Returns a number or a refusal as text.
-fn told(alloc: Global, answer: Result<u32, Refusal>) -> Result<String, AllocError> {
+fn answer_text(alloc: Global, answer: Result<u32, Refusal>) -> Result<String, AllocError> {
     match answer {
         Ok(number) => written::number(alloc, u128::from(number)),
         Err(refusal) => written::refusal(alloc, refusal),
@@ -38,17 +38,17 @@ fn renew(alloc: Global, context: &mut Context) -> Result<u32, Refusal> {
 
 fn name(alloc: Global, context: &mut Context, text: &str) -> Result<String, AllocError> {
     let bytes = bytes(alloc, text)?;
-    told(alloc, add_name(context, &bytes))
+    answer_text(alloc, add_name(context, &bytes))
 }
 
 fn ty(alloc: Global, context: &mut Context, text: &str) -> Result<String, AllocError> {
     let node = type_node(alloc, text)?;
-    told(alloc, add_type(context, node))
+    answer_text(alloc, add_type(context, node))
 }
 
 fn attr(alloc: Global, context: &mut Context, text: &str) -> Result<String, AllocError> {
     let node = attr_node(alloc, text)?;
-    told(alloc, add_attr(context, node))
+    answer_text(alloc, add_attr(context, node))
 }
 
 /// Answers whether a literal is in the range of a type of the context, with its bits.
@@ -130,7 +130,7 @@ pub fn answer(alloc: Global, context: &mut Context, line: &str) -> Result<String
         "name" => name(alloc, context, rest),
         "type" => ty(alloc, context, rest),
         "attr" => attr(alloc, context, rest),
-        "new" => told(alloc, renew(alloc, context)),
+        "new" => answer_text(alloc, renew(alloc, context)),
         _ => known(alloc, context, call, rest),
     }
 }

@@ -19,7 +19,7 @@ use Rattle.ir_verify_base.specs.Facts.{sorted_in, sorted_facts}
 use Rattle.ir_verify_base.proofs.SortedFacts.{tied, left, right, unfound, found, is_in_order}
 use Rattle.op_registry.specs.Registry.{row_of}
 use Rattle.ir_verify.specs.Breaks.{broken_rules_in, numbers_from, broken}
-use Rattle.ir_verify.specs.Beyond.{is_beyond, is_on_types, told}
+use Rattle.ir_verify.specs.Beyond.{is_beyond, is_on_types, reported}
 use Rattle.ir_verify.specs.Diagnostics.{rule_rows, rows_of, diagnostics_of}
 use Rattle.ir_verify.specs.Pairs.{ArePairs, pair_cmp, pair_row}
 
@@ -107,7 +107,7 @@ kept_rise p (r ∷ rs) h = one (p r) (filter p rs) (above_kept r p rs h.0) (kept
     one true l a k = (a, k)
     one false l a k = k
 
-told_rise : (s : Surroundings) → IsStrictlySortedBy nat_cmp (told s)
+told_rise : (s : Surroundings) → IsStrictlySortedBy nat_cmp (reported s)
 told_rise s = kept_rise _ (numbers_from 1 (broken_rules_in (row_of s.node.head.name) s)) (numbers_rise 1 (broken_rules_in (row_of s.node.head.name) s))
 
 -- the rules of each operation ascend
@@ -123,9 +123,9 @@ put_rises x rs (e ∷ es) r h = elim (nat_cmp x e.0) as (λ o. EachRises (by_ord
   | Greater ↦ (h.0, put_rises x rs es r h.1)
 ]
 
-facts_rise : (t : Operation) (ss : List (OpWithPathOf (List ℕ) _ _)) → EachRises (sorted_in told t ss)
+facts_rise : (t : Operation) (ss : List (OpWithPathOf (List ℕ) _ _)) → EachRises (sorted_in reported t ss)
 facts_rise t [] = tt
-facts_rise t (s ∷ ss) = put_rises (op_with_path_id s) (told (surround t s)) (sorted_in told t ss) (told_rise (surround t s)) (facts_rise t ss)
+facts_rise t (s ∷ ss) = put_rises (op_with_path_id s) (reported (surround t s)) (sorted_in reported t ss) (told_rise (surround t s)) (facts_rise t ss)
 
 -- the pairs of each operation ascend
 abbrev Above : ℕ × ℕ → List (ℕ × ℕ) → Type 0
@@ -160,9 +160,9 @@ pairs_rise (e ∷ es) o h = more_rise e.0 e.1 (pairs_of es) h.0 (λ r. all_above
 -- ---- the law
 pub pairs_told : (t : Operation) → (ps : List (ℕ × ℕ)) × (diagnostics_of t ≡ map pair_row ps) × ArePairs t ps
 pairs_told t =
-    let es = sorted_facts told t in
-    let sorted = is_in_order told t (stands [] t) in
-    let at = λ (x : ℕ). found told t x (stands [] t) in (
+    let es = sorted_facts reported t in
+    let sorted = is_in_order reported t (stands [] t) in
+    let at = λ (x : ℕ). found reported t x (stands [] t) in (
       pairs_of es,
       rows_say es,
       record {

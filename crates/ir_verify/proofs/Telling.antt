@@ -23,7 +23,7 @@ use Rattle.ir_verify_base.specs.Fits.{Surroundings, is_named}
 use Rattle.ir_verify.specs.declared.rules.RuleSet.{RuleSet}
 use Rattle.ir_verify.specs.declared.finding.Finding.{Finding}
 use Rattle.ir_verify.specs.Breaks.{broken_rules_in, broken, numbers_from}
-use Rattle.ir_verify.specs.Beyond.{is_beyond, is_on_types, told}
+use Rattle.ir_verify.specs.Beyond.{is_beyond, is_on_types, reported}
 use Rattle.ir_verify.specs.Sets.{bits_of, rules_in, has_any, set_of, finding_of, breaks_any, is_reported, reported_rules}
 use Rattle.ir_verify.specs.Diagnostics.{broken_at, rule_rows, rows_of, diagnostics_of}
 use Rattle.ir_verify.specs.Reports.{rule_cells, rules_cells, all_cells}
@@ -57,7 +57,7 @@ no_rules set e = ap (λ n. numbers_from 1 (bits_of 24 n)) (no_bits set.bits e) �
 abbrev pub is_told_of : Surroundings → ℕ → Bool
 is_told_of s r = not (is_beyond s && is_on_types (is_named s.node (codes "arith.constant")) r)
 
-pub finding_read : (s : Surroundings) → reported_rules (finding_of s) ≡ told s
+pub finding_read : (s : Surroundings) → reported_rules (finding_of s) ≡ reported s
 unfolding reported_rules
 finding_read s = elim (bool_cases (has_any (set_of s))) [
   | inl k ↦ ap (λ b. filter (λ r. not ((b && is_beyond s) && is_on_types (is_named s.node (codes "arith.constant")) r)) (rules_in (set_of s))) k ∙ ap (filter (is_told_of s)) (rules_broken s)
@@ -80,7 +80,7 @@ put_read x r (e ∷ es) = elim (nat_cmp x e.0) as (λ o. map read (by_order o ((
   | Greater ↦ ap (λ l. read e ∷ l) (put_read x r es)
 ]
 
-facts_read : (t : Operation) (ss : List (OpWithPathOf (List ℕ) _ _)) → map read (sorted_in finding_of t ss) ≡ sorted_in told t ss
+facts_read : (t : Operation) (ss : List (OpWithPathOf (List ℕ) _ _)) → map read (sorted_in finding_of t ss) ≡ sorted_in reported t ss
 facts_read t [] = refl
 facts_read t (s ∷ ss) = put_read (op_with_path_id s) (finding_of (surround t s)) (sorted_in finding_of t ss) ∙ λ i. put nat_cmp (op_with_path_id s) (finding_read (surround t s) i) (facts_read t ss i)
 

@@ -11,7 +11,7 @@ use Rattle.ir_verify.specs.declared.finding.Finding.{Finding}
 use Rattle.ir_verify.specs.declared.verdict.Verdict.{Verdict}
 use Rattle.ir_verify.specs.declared.verdict.Verdict.TheVariants.{Valid, Unlisted, Invalid}
 use Rattle.ir_verify.specs.Breaks.{broken, numbers_from, broken_rules_in}
-use Rattle.ir_verify.specs.Beyond.{told}
+use Rattle.ir_verify.specs.Beyond.{reported}
 use Rattle.ir_verify.specs.Diagnostics.{broken_at, reported_at}
 use Rattle.ir_verify.specs.Sets.{breaks_any, finding_of, has_any, packed, reported_rules, set_of}
 use Rattle.ir_verify.specs.Verdicts.{verdict_at, verdict_by, verdict_in}
@@ -31,9 +31,9 @@ some_broken s e none = true≢false (sym e ∙ ap (λ n. not (n == 0)) (none_hel
 
 module _ (f : Finding) (s : Surroundings) (of : f ≡ finding_of s) where
   pub obeys : breaks_any f ≡ false → Valid ≡ verdict_in s
-  obeys e = sym (ap (λ bs. verdict_by bs (told s)) (none_broken s (ap breaks_any (sym of) ∙ e)))
+  obeys e = sym (ap (λ bs. verdict_by bs (reported s)) (none_broken s (ap breaks_any (sym of) ∙ e)))
 
-  read : reported_rules f ≡ told s
+  read : reported_rules f ≡ reported s
   read = ap reported_rules of ∙ finding_read s
 
   breaks : breaks_any f ≡ true → broken s ≡ [] → ⊥
@@ -58,6 +58,6 @@ verdict_read x t f v e is = go (surroundings x t) e
 pub none_told : (x : ℕ) (t : Operation) → broken_at x t ≡ Some [] → reported_at x t ≡ Some []
 none_told x t e = go (surroundings x t) e
   where
-    go : (s : Option Surroundings) → option_map broken s ≡ Some [] → option_map told s ≡ Some []
+    go : (s : Option Surroundings) → option_map broken s ≡ Some [] → option_map reported s ≡ Some []
     go None e = absurd cc
     go (Some s) e = let none : broken s ≡ [] = cc in ap (λ rs. Some (filter (is_told_of s) rs)) none

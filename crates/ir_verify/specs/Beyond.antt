@@ -65,5 +65,5 @@ is_on_types constant r =
     || (r == 4 || (r == 14 || (r == 18 || (r == 19 || (r == 20 || (r == 24 || (constant && r == 13)))))))
 
 -- the reported rules of an operation: the broken ones, except those on types if the operation is beyond the table
-abbrev pub told : Surroundings → List ℕ
-told s = filter (λ r. not (is_beyond s && is_on_types (is_named s.node (codes "arith.constant")) r)) (broken s)
+abbrev pub reported : Surroundings → List ℕ
+reported s = filter (λ r. not (is_beyond s && is_on_types (is_named s.node (codes "arith.constant")) r)) (broken s)

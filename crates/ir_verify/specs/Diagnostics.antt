@@ -8,7 +8,7 @@ use Rattle.ir_verify_base.specs.events.Rows.{RowTerm, Op, Rule}
 use Rattle.ir_verify_base.specs.Surroundings.{surroundings}
 use Rattle.ir_verify_base.specs.Facts.{sorted_facts}
 use Rattle.ir_verify.specs.Breaks.{broken}
-use Rattle.ir_verify.specs.Beyond.{told}
+use Rattle.ir_verify.specs.Beyond.{reported}
 
 -- the rules that operation x of a tree breaks, if it is there
 abbrev pub broken_at : ℕ → Operation → Option (List ℕ)
@@ -16,7 +16,7 @@ broken_at x t = option_map broken (surroundings x t)
 
 -- the reported rules of operation x, if it is in the tree
 abbrev pub reported_at : ℕ → Operation → Option (List ℕ)
-reported_at x t = option_map told (surroundings x t)
+reported_at x t = option_map reported (surroundings x t)
 
 -- the reason why operation x isn't checked: it isn't in the tree, or memory ran out
 abbrev pub Unchecked : ℕ → Operation → Refusal → Type 0
@@ -36,4 +36,4 @@ rows_of (e ∷ es) = rule_rows e.0 e.1 ++ rows_of es
 
 -- the rows of a tree, ordered by operation and rule
 abbrev pub diagnostics_of : Operation → List RowTerm
-diagnostics_of t = rows_of (sorted_facts told t)
+diagnostics_of t = rows_of (sorted_facts reported t)

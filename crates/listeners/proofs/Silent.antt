@@ -19,7 +19,7 @@ use Rattle.listeners_symbols.specs.Symbols.{DefinitionOf, RoleAt}
 use Rattle.listeners_symbols.specs.Table.{reference_of, role_numbers}
 use Rattle.listeners_symbols.specs.Lines.{numbered, numbers_at}
 use Rattle.listeners_symbols.specs.Listeners.{kept_at}
-use Rattle.listeners_symbols.specs.Telling.{has_some, hides, said_at, concerns_symbols, told}
+use Rattle.listeners_symbols.specs.Telling.{has_some, hides, said_at, concerns_symbols, contributions}
 use Rattle.listeners_symbols.proofs.Telling.{all_told, listed, told_of_set}
 use Rattle.listeners.specs.Unreached.{line_of, lines_with, private_name, reached_from, says_definition, targets}
 use Rattle.listeners.specs.Lines.{is_out, line_by}
@@ -141,7 +141,7 @@ each_line : (left : Left) (es : List (ℕ × Numbers)) → all_told (line_by lef
 each_line left [] = refl
 each_line left (e ∷ es) = ap (λ l. line_by left e.0 e.1 ++ l) (each_line left es)
 
-pub lines_told : (m : Roles) (left : Left) → idmap.IsOrdered m.all → set.IsOrdered nat_cmp m.hidden → told (line_by left) (kept_at m) m.hidden.keys ≡ lines_with (is_out left) (numbered m.all.entries)
+pub lines_told : (m : Roles) (left : Left) → idmap.IsOrdered m.all → set.IsOrdered nat_cmp m.hidden → contributions (line_by left) (kept_at m) m.hidden.keys ≡ lines_with (is_out left) (numbered m.all.entries)
 lines_told m left ordered rises = told_of_set (line_by left) hides (unsaid left) m.hidden.keys m.all m.hidden refl ordered rises m.hide ∙ each_line left m.all.entries
 
 -- without private definitions, none is unmarked
@@ -156,4 +156,4 @@ none_marked m ds none = record {
 }
 
 pub no_lines : (m : Roles) → idmap.IsOrdered m.all → set.IsOrdered nat_cmp m.hidden → m.hidden.keys ≡ [] → [] ≡ lines_with (is_out (λ x. None)) (numbered m.all.entries)
-no_lines m ordered rises none = sym (ap (told (line_by (λ x. None)) (kept_at m)) none) ∙ lines_told m (λ x. None) ordered rises
+no_lines m ordered rises none = sym (ap (contributions (line_by (λ x. None)) (kept_at m)) none) ∙ lines_told m (λ x. None) ordered rises

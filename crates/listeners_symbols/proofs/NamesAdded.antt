@@ -8,7 +8,7 @@ use Rattle.ir_event.proofs.of_types.Sorting.{flips_eq}
 use Rattle.listeners_symbols.specs.declared.role.Role.{Role as Numbers}
 use Rattle.listeners_symbols.specs.Symbols.{is_among}
 use Rattle.listeners_symbols.specs.Lines.{undefined_by}
-use Rattle.listeners_symbols.specs.Telling.{told, contribution_at}
+use Rattle.listeners_symbols.specs.Telling.{contributions, contribution_at}
 
 or_false : (b : Bool) → (b || false) ≡ b
 or_false true = refl
@@ -39,16 +39,16 @@ among_append (x ∷ xs) ys n = ap (λ b. eqb n x || b) (among_append xs ys n) �
 -- the names of the remaining operations, with one less remaining
 pub one_named : (kept : ℕ → Option Numbers) (x : ℕ) (xs all : List ℕ) (before after : BTreeSet ℕ) (whole : ℕ → Bool) → x ∷ xs ≡ all
     → ((n : ℕ) → contains nat_cmp after n ≡ (contains nat_cmp before n || is_among eqb (contribution_at undefined_by x (kept x)) n))
-    → ((n : ℕ) → (contains nat_cmp before n || is_among eqb (told undefined_by kept all) n) ≡ whole n)
-    → (n : ℕ) → (contains nat_cmp after n || is_among eqb (told undefined_by kept xs) n) ≡ whole n
+    → ((n : ℕ) → (contains nat_cmp before n || is_among eqb (contributions undefined_by kept all) n) ≡ whole n)
+    → (n : ℕ) → (contains nat_cmp after n || is_among eqb (contributions undefined_by kept xs) n) ≡ whole n
 one_named kept x xs all before after whole next one so_far n =
-    ap (λ b. b || is_among eqb (told undefined_by kept xs) n) (one n)
-    ∙ or_assoc (contains nat_cmp before n) (is_among eqb (contribution_at undefined_by x (kept x)) n) (is_among eqb (told undefined_by kept xs) n)
-    ∙ ap (λ b. contains nat_cmp before n || b) (sym (among_append (contribution_at undefined_by x (kept x)) (told undefined_by kept xs) n))
-    ∙ ap (λ l. contains nat_cmp before n || is_among eqb (told undefined_by kept l) n) next
+    ap (λ b. b || is_among eqb (contributions undefined_by kept xs) n) (one n)
+    ∙ or_assoc (contains nat_cmp before n) (is_among eqb (contribution_at undefined_by x (kept x)) n) (is_among eqb (contributions undefined_by kept xs) n)
+    ∙ ap (λ b. contains nat_cmp before n || b) (sym (among_append (contribution_at undefined_by x (kept x)) (contributions undefined_by kept xs) n))
+    ∙ ap (λ l. contains nat_cmp before n || is_among eqb (contributions undefined_by kept l) n) next
     ∙ so_far n
 
 pub none_named : (kept : ℕ → Option Numbers) (left : List ℕ) (s : BTreeSet ℕ) (whole : ℕ → Bool) → left ≡ []
-    → ((n : ℕ) → (contains nat_cmp s n || is_among eqb (told undefined_by kept left) n) ≡ whole n) → (n : ℕ) → contains nat_cmp s n ≡ whole n
+    → ((n : ℕ) → (contains nat_cmp s n || is_among eqb (contributions undefined_by kept left) n) ≡ whole n) → (n : ℕ) → contains nat_cmp s n ≡ whole n
 none_named kept left s whole none so_far n =
-    sym (or_false (contains nat_cmp s n)) ∙ ap (λ l. contains nat_cmp s n || is_among eqb (told undefined_by kept l) n) (sym none) ∙ so_far n
+    sym (or_false (contains nat_cmp s n)) ∙ ap (λ l. contains nat_cmp s n || is_among eqb (contributions undefined_by kept l) n) (sym none) ∙ so_far n

@@ -25,7 +25,7 @@ use Rattle.listeners_symbols.specs.Symbols.{DefinitionOf, RoleAt, all_reference_
 use Rattle.listeners_symbols.specs.Table.{call_numbers, reference_of}
 use Rattle.listeners_symbols.specs.Listeners.{kept_at}
 use Rattle.listeners_symbols.specs.Lines.{call_by, defined_by, numbered, references_by, undefined_by}
-use Rattle.listeners_symbols.specs.Telling.{HasThose, has_some, names, said_at, concerns_symbols, told, contribution_at}
+use Rattle.listeners_symbols.specs.Telling.{HasThose, has_some, names, said_at, concerns_symbols, contributions, contribution_at}
 use Rattle.std.proofs.lemmas.List.{map-append}
 use Rattle.listeners_symbols.proofs.Reported.{Each, look_above}
 
@@ -64,12 +64,12 @@ module _ {X : Type 0} (f : ℕ → Numbers → List X) where
   abbrev pub Told : List ℕ → ℕ × Numbers → Type 0
   Told xs e = (f e.0 e.1 ≡ []) ⊎ In e.0 xs
 
-  none_kept : (xs : List ℕ) → told f (look []) xs ≡ []
+  none_kept : (xs : List ℕ) → contributions f (look []) xs ≡ []
   none_kept [] = refl
   none_kept (x ∷ xs) = none_kept xs
 
   -- the first entry is skipped if all ids of the list are above it
-  skipped : (e : ℕ × Numbers) (es : List (ℕ × Numbers)) (xs : List ℕ) → Above e.0 xs → told f (look (e ∷ es)) xs ≡ told f (look es) xs
+  skipped : (e : ℕ × Numbers) (es : List (ℕ × Numbers)) (xs : List ℕ) → Above e.0 xs → contributions f (look (e ∷ es)) xs ≡ contributions f (look es) xs
   skipped e es [] a = refl
   skipped e es (x ∷ xs) a = λ i. contribution_at f x (cond (apart e.0 x a.0 i) (Some e.1) (look es x)) ++ skipped e es xs a.1 i
 
@@ -89,19 +89,19 @@ module _ {X : Type 0} (f : ℕ → Numbers → List X) where
   )
 
   -- the entries, given the claim for those after the first, by comparing the first entry with the first id
-  by : (e : ℕ × Numbers) (es : List (ℕ × Numbers)) → ((ys : List ℕ) → IsStrictlySortedBy nat_cmp ys → Each (Told ys) es → told f (look es) ys ≡ all_told es)
+  by : (e : ℕ × Numbers) (es : List (ℕ × Numbers)) → ((ys : List ℕ) → IsStrictlySortedBy nat_cmp ys → Each (Told ys) es → contributions f (look es) ys ≡ all_told es)
       → IsStrictlySortedBy nat_cmp (keys_of (e ∷ es)) → (x : ℕ) (xs : List ℕ) → IsStrictlySortedBy nat_cmp (x ∷ xs) → Each (Told (x ∷ xs)) (e ∷ es)
-      → (IsStrictlySortedBy nat_cmp xs → Each (Told xs) (e ∷ es) → told f (look (e ∷ es)) xs ≡ all_told (e ∷ es)) → (r : Ordering) → nat_cmp x e.0 ≡ r → told f (look (e ∷ es)) (x ∷ xs) ≡ all_told (e ∷ es)
+      → (IsStrictlySortedBy nat_cmp xs → Each (Told xs) (e ∷ es) → contributions f (look (e ∷ es)) xs ≡ all_told (e ∷ es)) → (r : Ordering) → nat_cmp x e.0 ≡ r → contributions f (look (e ∷ es)) (x ∷ xs) ≡ all_told (e ∷ es)
   unfolding IsStrictlySortedBy
   by e es rest s x xs t h more Less l =
       let below : Above x (keys_of (e ∷ es)) = (l, extra x e.0 (keys_of es) l s.0) in
-      ap (λ o. contribution_at f x o ++ told f (look (e ∷ es)) xs) (look_above x (e ∷ es) below) ∙ more t.1 (without x xs (e ∷ es) below h)
+      ap (λ o. contribution_at f x o ++ contributions f (look (e ∷ es)) xs) (look_above x (e ∷ es) below) ∙ more t.1 (without x xs (e ∷ es) below h)
   by e es rest s x xs t h more Equal l =
       let is = same x e.0 l in
       let above : Above e.0 xs = subst (λ y. Above y xs) is t.0 in
       let left : Each (Told xs) es = without e.0 xs es s.0 (subst (λ y. Each (Told (y ∷ xs)) es) is h.1) in
-      ap (λ o. contribution_at f x o ++ told f (look (e ∷ es)) xs) (ap (λ r. cond (is_eq r) (Some e.1) (look es x)) l)
-      ∙ ap (λ y. f y e.1 ++ told f (look (e ∷ es)) xs) is
+      ap (λ o. contribution_at f x o ++ contributions f (look (e ∷ es)) xs) (ap (λ r. cond (is_eq r) (Some e.1) (look es x)) l)
+      ∙ ap (λ y. f y e.1 ++ contributions f (look (e ∷ es)) xs) is
       ∙ ap (λ z. f e.0 e.1 ++ z) (skipped e es xs above ∙ rest xs t.1 left)
   by e es rest s x xs t h more Greater l =
       let first = turned x e.0 l in
@@ -112,12 +112,12 @@ module _ {X : Type 0} (f : ℕ → Numbers → List X) where
       nothing (inl none) above = sym (ap (λ z. z ++ all_told es) none)
       nothing (inr i) above = absurd (not_above e.0 (x ∷ xs) above i)
 
-  step : (e : ℕ × Numbers) (es : List (ℕ × Numbers)) → ((ys : List ℕ) → IsStrictlySortedBy nat_cmp ys → Each (Told ys) es → told f (look es) ys ≡ all_told es)
-      → IsStrictlySortedBy nat_cmp (keys_of (e ∷ es)) → (xs : List ℕ) → IsStrictlySortedBy nat_cmp xs → Each (Told xs) (e ∷ es) → told f (look (e ∷ es)) xs ≡ all_told (e ∷ es)
+  step : (e : ℕ × Numbers) (es : List (ℕ × Numbers)) → ((ys : List ℕ) → IsStrictlySortedBy nat_cmp ys → Each (Told ys) es → contributions f (look es) ys ≡ all_told es)
+      → IsStrictlySortedBy nat_cmp (keys_of (e ∷ es)) → (xs : List ℕ) → IsStrictlySortedBy nat_cmp xs → Each (Told xs) (e ∷ es) → contributions f (look (e ∷ es)) xs ≡ all_told (e ∷ es)
   step e es rest s [] t h = sym (silent (e ∷ es) h)
   step e es rest s (x ∷ xs) t h = by e es rest s x xs t h (step e es rest s xs) (nat_cmp x e.0) refl
 
-  pub told_all : (es : List (ℕ × Numbers)) (xs : List ℕ) → IsStrictlySortedBy nat_cmp (keys_of es) → IsStrictlySortedBy nat_cmp xs → Each (Told xs) es → told f (look es) xs ≡ all_told es
+  pub told_all : (es : List (ℕ × Numbers)) (xs : List ℕ) → IsStrictlySortedBy nat_cmp (keys_of es) → IsStrictlySortedBy nat_cmp xs → Each (Told xs) es → contributions f (look es) xs ≡ all_told es
   unfolding IsStrictlySortedBy
   told_all [] xs s t h = none_kept xs
   told_all (e ∷ es) xs s t h = step e es (λ ys u k. told_all es ys s.1 u k) s xs t h
@@ -156,7 +156,7 @@ module _ {X : Type 0} (f : ℕ → Numbers → List X) (test : Numbers → Bool)
               let at = eqb-true x e.0 (sym (same_test x e.0) ∙ so) in
               absurd (true≢false (sym is ∙ ap (said_at test) (ap (look es) at ∙ look_above e.0 es s.0)))
 
-  pub told_of_set : (m : IdMap Numbers) (s : BTreeSet ℕ) → s.keys ≡ ks → idmap.IsOrdered m → set.IsOrdered nat_cmp s → HasThose test m s → told f (idmap.get m) ks ≡ all_told f m.entries
+  pub told_of_set : (m : IdMap Numbers) (s : BTreeSet ℕ) → s.keys ≡ ks → idmap.IsOrdered m → set.IsOrdered nat_cmp s → HasThose test m s → contributions f (idmap.get m) ks ≡ all_told f m.entries
   told_of_set m s same ordered rises has =
       told_all f m.entries ks ordered (subst (IsStrictlySortedBy nat_cmp) same rises)
       (each_told m.entries ordered (λ x is. subst (λ l. list_any (is_at (nat_cmp x)) l ≡ true) same (has x is)))
@@ -220,36 +220,36 @@ each_defined [] = refl
 each_defined (e ∷ es) = ap (λ l. defined_by e.0 e.1 ++ l) (each_defined es)
 
 module _ (m : Roles) (ordered : idmap.IsOrdered m.all) (rises : set.IsOrdered nat_cmp m.symbol_ops) where
-  pub definitions_told : told defined_by (kept_at m) m.symbol_ops.keys ≡ definitions (numbered m.all.entries)
+  pub definitions_told : contributions defined_by (kept_at m) m.symbol_ops.keys ≡ definitions (numbered m.all.entries)
   definitions_told = told_of_set defined_by concerns_symbols none_defined m.symbol_ops.keys m.all m.symbol_ops refl ordered rises m.tell ∙ each_defined m.all.entries
 
   pub references_told : (roles : RoleAt ℕ ℕ ℕ) (ds : List (DefinitionOf ℕ)) (possible : ℕ → Bool) (resolved : Bool)
-      → told (references_by roles ds possible resolved) (kept_at m) m.symbol_ops.keys ≡ all_reference_lines eqb roles ds possible resolved (numbered m.all.entries)
+      → contributions (references_by roles ds possible resolved) (kept_at m) m.symbol_ops.keys ≡ all_reference_lines eqb roles ds possible resolved (numbered m.all.entries)
   references_told roles ds possible resolved =
       told_of_set (references_by roles ds possible resolved) concerns_symbols (unreferring roles ds possible resolved) m.symbol_ops.keys m.all m.symbol_ops refl ordered rises m.tell ∙ each_referring roles ds possible resolved m.all.entries
 
-  pub calls_told : (roles : RoleAt ℕ ℕ ℕ) (ds : List (DefinitionOf ℕ)) → told (call_by roles ds) (kept_at m) m.symbol_ops.keys ≡ mismatch_lines eqb eqb roles ds (numbered m.all.entries)
+  pub calls_told : (roles : RoleAt ℕ ℕ ℕ) (ds : List (DefinitionOf ℕ)) → contributions (call_by roles ds) (kept_at m) m.symbol_ops.keys ≡ mismatch_lines eqb eqb roles ds (numbered m.all.entries)
   calls_told roles ds = told_of_set (call_by roles ds) concerns_symbols (uncalling roles ds) m.symbol_ops.keys m.all m.symbol_ops refl ordered rises m.tell ∙ each_calling roles ds m.all.entries
 
-pub names_told : (m : Roles) → idmap.IsOrdered m.all → set.IsOrdered nat_cmp m.naming → told undefined_by (kept_at m) m.naming.keys ≡ undefined_names (numbered m.all.entries)
+pub names_told : (m : Roles) → idmap.IsOrdered m.all → set.IsOrdered nat_cmp m.naming → contributions undefined_by (kept_at m) m.naming.keys ≡ undefined_names (numbered m.all.entries)
 names_told m ordered rises = told_of_set undefined_by names none_undefined m.naming.keys m.all m.naming refl ordered rises m.name ∙ each_undefined m.all.entries
 
 -- the contribution of one more operation
 module _ {X : Type 0} (f : ℕ → Numbers → List X) (kept : ℕ → Option Numbers) where
-  pub one_told : {Y : Type 0} (cells : X → Y) (x : ℕ) (xs all : List ℕ) (before after whole : List Y) → x ∷ xs ≡ all → after ≡ before ++ map cells (contribution_at f x (kept x)) → before ++ map cells (told f kept all) ≡ whole → after ++ map cells (told f kept xs) ≡ whole
+  pub one_told : {Y : Type 0} (cells : X → Y) (x : ℕ) (xs all : List ℕ) (before after whole : List Y) → x ∷ xs ≡ all → after ≡ before ++ map cells (contribution_at f x (kept x)) → before ++ map cells (contributions f kept all) ≡ whole → after ++ map cells (contributions f kept xs) ≡ whole
   one_told cells x xs all before after whole next one so_far =
-      ap (λ l. l ++ map cells (told f kept xs)) one
-      ∙ append_assoc before (map cells (contribution_at f x (kept x))) (map cells (told f kept xs))
-      ∙ ap (λ l. before ++ l) (sym (map-append cells (contribution_at f x (kept x)) (told f kept xs)))
-      ∙ ap (λ l. before ++ map cells (told f kept l)) next
+      ap (λ l. l ++ map cells (contributions f kept xs)) one
+      ∙ append_assoc before (map cells (contribution_at f x (kept x))) (map cells (contributions f kept xs))
+      ∙ ap (λ l. before ++ l) (sym (map-append cells (contribution_at f x (kept x)) (contributions f kept xs)))
+      ∙ ap (λ l. before ++ map cells (contributions f kept l)) next
       ∙ so_far
 
-  pub one_listed : (x : ℕ) (xs all : List ℕ) (before after whole : List X) → x ∷ xs ≡ all → after ≡ before ++ contribution_at f x (kept x) → before ++ told f kept all ≡ whole → after ++ told f kept xs ≡ whole
+  pub one_listed : (x : ℕ) (xs all : List ℕ) (before after whole : List X) → x ∷ xs ≡ all → after ≡ before ++ contribution_at f x (kept x) → before ++ contributions f kept all ≡ whole → after ++ contributions f kept xs ≡ whole
   one_listed x xs all before after whole next one so_far =
-      ap (λ l. l ++ told f kept xs) one ∙ append_assoc before (contribution_at f x (kept x)) (told f kept xs) ∙ ap (λ l. before ++ told f kept l) next ∙ so_far
+      ap (λ l. l ++ contributions f kept xs) one ∙ append_assoc before (contribution_at f x (kept x)) (contributions f kept xs) ∙ ap (λ l. before ++ contributions f kept l) next ∙ so_far
 
-  pub none_told : {Y : Type 0} (cells : X → Y) (left : List ℕ) (before whole : List Y) → left ≡ [] → before ++ map cells (told f kept left) ≡ whole → before ≡ whole
-  none_told cells left before whole none so_far = sym (append-nil before) ∙ ap (λ l. before ++ map cells (told f kept l)) (sym none) ∙ so_far
+  pub none_told : {Y : Type 0} (cells : X → Y) (left : List ℕ) (before whole : List Y) → left ≡ [] → before ++ map cells (contributions f kept left) ≡ whole → before ≡ whole
+  none_told cells left before whole none so_far = sym (append-nil before) ∙ ap (λ l. before ++ map cells (contributions f kept l)) (sym none) ∙ so_far
 
-  pub none_listed : (left : List ℕ) (before whole : List X) → left ≡ [] → before ++ told f kept left ≡ whole → before ≡ whole
-  none_listed left before whole none so_far = sym (append-nil before) ∙ ap (λ l. before ++ told f kept l) (sym none) ∙ so_far
+  pub none_listed : (left : List ℕ) (before whole : List X) → left ≡ [] → before ++ contributions f kept left ≡ whole → before ≡ whole
+  none_listed left before whole none so_far = sym (append-nil before) ∙ ap (λ l. before ++ contributions f kept l) (sym none) ∙ so_far

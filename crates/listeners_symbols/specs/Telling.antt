@@ -40,6 +40,6 @@ contribution_at f x None = []
 contribution_at f x (Some r) = f x r
 
 -- the contributions of a list of operations, in order
-abbrev pub told : {X : Type 0} → (ℕ → Numbers → List X) → (ℕ → Option Numbers) → List ℕ → List X
-told f kept [] = []
-told f kept (x ∷ xs) = contribution_at f x (kept x) ++ told f kept xs
+abbrev pub contributions : {X : Type 0} → (ℕ → Numbers → List X) → (ℕ → Option Numbers) → List ℕ → List X
+contributions f kept [] = []
+contributions f kept (x ∷ xs) = contribution_at f x (kept x) ++ contributions f kept xs

@@ -25,7 +25,7 @@ use Rattle.mlir_work_c.specs.declared.session.Session.{Session}
 use Rattle.mlir_work_c.specs.Answers.{answer_of}
 use Rattle.mlir_work_c.specs.Opened.{Opened}
 use Rattle.mlir_work_c.specs.Stepped.{Answered, IsLeft, Said, SteppedBefore, is_opaque, most_counted, sitting, state, setting}
-use Rattle.mlir_work_c.specs.Talks.{AreWritten, IsOutputOf, Talks, Told, briefly, told_of}
+use Rattle.mlir_work_c.specs.Talks.{AreWritten, IsOutputOf, Talks, AnsweredLine, briefly, told_of}
 
 -- ---- the lines of a text
 
@@ -58,15 +58,15 @@ module _ (opaque : Bool) (limit : ℕ) where
   live_setting = setting_of seven_supply (briefly opaque limit)
 
   -- a live run may answer the lines so, and writes the text of these answers
-  abbrev IsLived : ℕ → ℕ → Session → List (List ℕ) → List Told → Type 0
+  abbrev IsLived : ℕ → ℕ → Session → List (List ℕ) → List AnsweredLine → Type 0
   IsLived read n s lines told = (status : ℕ) × (out : List ℕ) × Lives live_setting read n (sitting s) lines status out × AreWritten n told status out
 
   -- the lines after this one, with any numbers and states
   abbrev Following : ℕ → List (List ℕ) → ℕ → Sitting → ℕ → List ℕ → Type 0
   Following read lines m u st o = Lives live_setting read m u lines st o
 
-  module _ (read n : ℕ) (s : Session) (line : List ℕ) (lines : List (List ℕ)) (a : Answer) (t : Session) (rest : List Told) (within : s.bytes + length line ≤ read) (same : s.limit ≡ limit) (mode : is_opaque s ≡ opaque) where
-    abbrev all_told : List Told
+  module _ (read n : ℕ) (s : Session) (line : List ℕ) (lines : List (List ℕ)) (a : Answer) (t : Session) (rest : List AnsweredLine) (within : s.bytes + length line ≤ read) (same : s.limit ≡ limit) (mode : is_opaque s ≡ opaque) where
+    abbrev all_told : List AnsweredLine
     all_told = told_of line a t ∷ rest
 
     abbrev expected : Option Refusal
@@ -140,8 +140,8 @@ module _ (opaque : Bool) (limit : ℕ) where
     counted_on (Ordered session_command) h = (let e = h.counted in omega (arith, e, least), h.limit ∙ same, h.mode ∙ mode)
     counted_on (Registered session_command) h = (let e = h.counted in omega (arith, e, least), h.limit ∙ same, h.mode ∙ mode)
 
-  pub lived : (lines : List (List ℕ)) (read n : ℕ) (s : Session) (told : List Told) → s.bytes ≤ read → s.limit ≡ limit → is_opaque s ≡ opaque → AreAlone lines → length (joined lines) ≤ most_script_bytes → Talks s lines told → IsLived read n s lines told
-  lived [] read n s told within same mode alone few none = (0, [], (refl, refl), subst (λ (all : List Told). AreWritten n all 0 []) (sym none) (refl, refl))
+  pub lived : (lines : List (List ℕ)) (read n : ℕ) (s : Session) (told : List AnsweredLine) → s.bytes ≤ read → s.limit ≡ limit → is_opaque s ≡ opaque → AreAlone lines → length (joined lines) ≤ most_script_bytes → Talks s lines told → IsLived read n s lines told
+  lived [] read n s told within same mode alone few none = (0, [], (refl, refl), subst (λ (all : List AnsweredLine). AreWritten n all 0 []) (sym none) (refl, refl))
   lived (line ∷ lines) read n s told within same mode alone few (a, t, rest, step, talks, is) =
       let all = length-append line (joined lines) in
       let more = read + length line in
@@ -151,7 +151,7 @@ module _ (opaque : Bool) (limit : ℕ) where
       let said = one_line (after_line line) s line a t alone.0 step in
       let on = counted_on more n s line lines a t rest here same mode (line_says (line_of line)) said in
       let got = lived_line more n s line lines a t rest here same mode (line_says (line_of line)) said (λ m. lived lines more m t rest on.0 on.1 on.2 alone.1 less talks) in
-      (got.0, got.1, (fits, got.2), subst (λ (every : List Told). AreWritten n every got.0 got.1) (sym is) got.3)
+      (got.0, got.1, (fits, got.2), subst (λ (every : List AnsweredLine). AreWritten n every got.0 got.1) (sym is) got.3)
 
 -- ---- the whole input
 
@@ -170,7 +170,7 @@ silent_boxes (b ∷ bs) old new out (mid, None, true, rest, tried, others, accep
 silent_boxes (b ∷ bs) old new out (mid, None, false, rest, tried, others, accepted, is) = absurd (true≢false accepted)
 silent_boxes (b ∷ bs) old new out (mid, Some refusal, there, rest, tried, others, accepted, is) = absurd (true≢false accepted)
 
-pub talked_whole : (opaque : Bool) (limit : ℕ) (input : List ℕ) (s : Session) (told : List Told) → length input ≤ most_input_bytes → length (script_text input) ≤ most_script_bytes → Opened opaque (module_text input) limit s → Talks s (whole_lines (script_text input)) told → IsOutputOf opaque limit input told
+pub talked_whole : (opaque : Bool) (limit : ℕ) (input : List ℕ) (s : Session) (told : List AnsweredLine) → length input ≤ most_input_bytes → length (script_text input) ≤ most_script_bytes → Opened opaque (module_text input) limit s → Talks s (whole_lines (script_text input)) told → IsOutputOf opaque limit input told
 talked_whole opaque limit input s told short few opened talks =
     let text = module_text input in
     let lines = whole_lines (script_text input) in

@@ -48,9 +48,9 @@ requested look None = None
 requested look (Some s) = look s
 
 -- whether there is a value, and its struct; without a value the struct doesn't change
-abbrev pub Told : Option Value → ValueNumbers → ValueNumbers → Bool → Type 0
-Told None old new found = (found ≡ false) × (new ≡ old)
-Told (Some value) old new found = (found ≡ true) × (new ≡ numbers_of value)
+abbrev pub IsOptionalValue : Option Value → ValueNumbers → ValueNumbers → Bool → Type 0
+IsOptionalValue None old new found = (found ≡ false) × (new ≡ old)
+IsOptionalValue (Some value) old new found = (found ≡ true) × (new ≡ numbers_of value)
 
 -- the uses of a value in the handle's session; a closed handle has none
 abbrev pub uses_in : Value → Option Session → List (ℕ × ℕ)

@@ -16,25 +16,25 @@ use Rattle.mlir_work_c.specs.declared.answer.Answer.{Answer}
 use Rattle.mlir_work_c.specs.declared.session.Session.{Session}
 
 -- the refusal that a line expects, its answer, and the bytes that it shows
-pub record Told : Type 0 where
+pub record AnsweredLine : Type 0 where
   pub expected : Option Refusal
   pub answer : Answer
   pub shows : List ℕ
 
 -- the record of a line that was answered in a session which is then `t`
-abbrev pub told_of : List ℕ → Answer → Session → Told
+abbrev pub told_of : List ℕ → Answer → Session → AnsweredLine
 told_of line a t = record { expected = line_expects (line_of line); answer = a; shows = t.shows.items }
 
 -- these lines run one after another in session `s` and get these answers
-abbrev pub Talks : Session → List (List ℕ) → List Told → Type 0
+abbrev pub Talks : Session → List (List ℕ) → List AnsweredLine → Type 0
 Talks s [] told = told ≡ []
 Talks s (line ∷ lines) told =
-    (a : Answer) × (t : Session) × (rest : List Told)
+    (a : Answer) × (t : Session) × (rest : List AnsweredLine)
     × Stepped s line a t × Talks t lines rest × (told ≡ told_of line a t ∷ rest)
 
 -- an answer with the number `n` is written so, and the rest follows; the answer to an empty line isn't written or
 -- counted, and any other answer is the line of its reply and the bytes that it shows
-pub record IsWritten (Rest : ℕ → ℕ → List ℕ → Type 0) (n : ℕ) (told : Told) (status : ℕ) (out : List ℕ) : Type 0 where
+pub record IsWritten (Rest : ℕ → ℕ → List ℕ → Type 0) (n : ℕ) (told : AnsweredLine) (status : ℕ) (out : List ℕ) : Type 0 where
   pub notice : Notice
   pub later : ℕ
   pub rest : List ℕ
@@ -44,7 +44,7 @@ pub record IsWritten (Rest : ℕ → ℕ → List ℕ → Type 0) (n : ℕ) (tol
   pub out_is : out ≡ (reply_text n told.expected notice ++ told.shows) ++ rest
 
 -- these answers, the first with the number `n`, are written so and give this status
-abbrev pub AreWritten : ℕ → List Told → ℕ → List ℕ → Type 0
+abbrev pub AreWritten : ℕ → List AnsweredLine → ℕ → List ℕ → Type 0
 AreWritten n [] status out = (status ≡ 0) × (out ≡ [])
 AreWritten n (told ∷ more) status out =
     ((told.answer ≡ nothing) × AreWritten n more status out)
@@ -55,7 +55,7 @@ abbrev pub briefly : Bool → ℕ → Options
 briefly opaque limit = record { brief = true; limit = limit; ends = false; opaque = opaque; explain = false; strict = false }
 
 -- the text of these answers is an output of the input, with the seven analyses
-abbrev pub IsOutputOf : Bool → ℕ → List ℕ → List Told → Type 0
+abbrev pub IsOutputOf : Bool → ℕ → List ℕ → List AnsweredLine → Type 0
 IsOutputOf opaque limit input told =
     (boxes : List AnyAnalysis) × (status : ℕ) × (out : List ℕ)
     × AreSeven opaque boxes

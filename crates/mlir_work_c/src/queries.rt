@@ -1,7 +1,7 @@
 //! The C functions for queries by number. They read or write no text and change nothing.
 ghost use Rattle.std.specs.Prelude.{◌≡◌, None, Some};
 ghost use Rattle.mlir_work_c.specs.Calls.{IsHeld};
-ghost use Rattle.mlir_work_c.specs.Requested.{requested, first_in, has_in, is_requested, last_in, next_in, operand_in, parent_in, prev_in, root_in, Told, WritesUse, uses_in};
+ghost use Rattle.mlir_work_c.specs.Requested.{requested, first_in, has_in, is_requested, last_in, next_in, operand_in, parent_in, prev_in, root_in, IsOptionalValue, WritesUse, uses_in};
 ghost use Rattle.mlir_work_c_read.specs.Numbers.{number_of as told, value_of as show_value};
 
 use crate::handle::Handle;
@@ -138,7 +138,7 @@ pub extern "C" fn mlir_work_operand(
 ) -> bool
     requires kept { IsHeld held.old.slot.value }
     ensures same { held.new.slot.value ≡ held.old.slot.value }
-    ensures told { Told (requested (operand_in operation operand) held.old.slot.value) value.old value.new result }
+    ensures told { IsOptionalValue (requested (operand_in operation operand) held.old.slot.value) value.old value.new result }
 {
     let Some(found) = held.take(alloc) else {
         return false;

@@ -373,7 +373,7 @@ fn show_some_value(alloc: Global, value: Option<Value>) -> Result<String, AllocE
 }
 
 /// Returns the answer to bytes.
-fn told(alloc: Global, call: &str, bytes: &[u8]) -> Result<String, AllocError> {
+fn show_answer(alloc: Global, call: &str, bytes: &[u8]) -> Result<String, AllocError> {
     match call {
         "line" => show_line(alloc, bytes),
         "split" => both_shown(alloc, split(bytes)),
@@ -393,5 +393,5 @@ fn told(alloc: Global, call: &str, bytes: &[u8]) -> Result<String, AllocError> {
 /// Returns the answer to the bytes that a text denotes.
 pub fn answer(alloc: Global, call: &str, text: &str) -> Result<String, AllocError> {
     let bytes = bytes(alloc, text)?;
-    told(alloc, call, &bytes)
+    show_answer(alloc, call, &bytes)
 }

@@ -32,7 +32,7 @@ fn pair(high: u8, low: u8) -> u8 {
 }
 
 /// Appends a byte and more bytes to a text.
-fn put(out: &mut Vec<u8>, byte: u8, rest: &[u8]) -> Result<(), AllocError> {
+fn append_bytes(out: &mut Vec<u8>, byte: u8, rest: &[u8]) -> Result<(), AllocError> {
     out.push(byte)?;
     out.extend_from_slice(rest)
 }
@@ -40,11 +40,11 @@ fn put(out: &mut Vec<u8>, byte: u8, rest: &[u8]) -> Result<(), AllocError> {
 /// Appends the bytes of the text after a `\`.
 fn write_chunk(out: &mut Vec<u8>, chunk: &[u8]) -> Result<(), AllocError> {
     match chunk {
-        [b'n', rest @ ..] => put(out, b'\n', rest),
-        [b't', rest @ ..] => put(out, b'\t', rest),
-        [b'r', rest @ ..] => put(out, b'\r', rest),
-        [b'x', high, low, rest @ ..] => put(out, pair(*high, *low), rest),
-        _ => put(out, b'\\', chunk),
+        [b'n', rest @ ..] => append_bytes(out, b'\n', rest),
+        [b't', rest @ ..] => append_bytes(out, b'\t', rest),
+        [b'r', rest @ ..] => append_bytes(out, b'\r', rest),
+        [b'x', high, low, rest @ ..] => append_bytes(out, pair(*high, *low), rest),
+        _ => append_bytes(out, b'\\', chunk),
     }
 }
 

@@ -17,7 +17,7 @@ use std::alloc::{AllocError, Global};
 use std::fmt::Write;
 
 /// A text for the status of a script and what it wrote.
-fn told(alloc: Global, status: u8, written: &[u8]) -> Result<String, AllocError> {
+fn run_text(alloc: Global, status: u8, written: &[u8]) -> Result<String, AllocError> {
     let mut out = String::new(alloc);
     write!(out, "{status} ")?;
     write_all_shown(&mut out, written)?;
@@ -111,7 +111,7 @@ fn traced(
     let mut written: Vec<u8> = Vec::new(alloc);
     let witness = Witness::new(alloc, 102);
     let status = run_notified(alloc, bytes, bench, witness, script, &mut written)?;
-    let mut out = told(alloc, status, &written)?;
+    let mut out = run_text(alloc, status, &written)?;
     write_trace(&mut out, bench)?;
     Ok(out)
 }

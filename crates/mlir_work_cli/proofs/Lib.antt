@@ -1,4 +1,4 @@
-pub mod Told
+pub mod JsonEnds
 mod Joined
 mod Ending
 mod Precedings

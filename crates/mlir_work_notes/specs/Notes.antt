@@ -94,9 +94,9 @@ note_text (Held v) = value_text v
 note_text (Typed ty) = string_text (type_text ty)
 
 -- the entries, each after a blank
-abbrev pub told : List Note → List ℕ
-told [] = []
-told (c ∷ cs) = (codes " " ++ note_text c) ++ told cs
+abbrev pub spaced_notes : List Note → List ℕ
+spaced_notes [] = []
+spaced_notes (c ∷ cs) = (codes " " ++ note_text c) ++ spaced_notes cs
 
 -- the entries after the word `about`, if there are any
 abbrev pub about_if : List ℕ → List ℕ
@@ -104,7 +104,7 @@ about_if [] = []
 about_if (b ∷ bs) = codes " about" ++ (b ∷ bs)
 
 abbrev pub about_text : List Note → List ℕ
-about_text cs = about_if (told cs)
+about_text cs = about_if (spaced_notes cs)
 
 -- the note if memory ran out
 abbrev pub no_memory_text : List ℕ
@@ -112,4 +112,4 @@ no_memory_text = codes " about memory"
 
 -- unless memory ran out, these entries were appended
 abbrev pub AppendsNotes : {E : Type 0} → Result (Unit {0}) E → List ℕ → List ℕ → List Note → Type 0
-AppendsNotes result old new cs = OnOk result (new ≡ old ++ told cs)
+AppendsNotes result old new cs = OnOk result (new ≡ old ++ spaced_notes cs)

@@ -6,7 +6,7 @@ use Rattle.ir_event.specs.types.declared.refusal.Refusal.{Refusal}
 use Rattle.rewriter_machine.specs.Commands.{Response, Replied, TextRefusedAt}
 use Rattle.rewriter_machine.specs.Machine.{Done, DoneAs, DoneWith, Refused, RefusedOn}
 use Rattle.mlir_work_registry.specs.Notices.{Notice, Plain, Checked}
-use Rattle.mlir_work_registry.specs.Told.{checked_line, reply_line, reply_text, surprise_line}
+use Rattle.mlir_work_registry.specs.ReplyLines.{checked_line, reply_line, reply_text, surprise_line}
 
 -- `1 refused 22 HasUses`
 abbrev pub refused_preceding : ℕ → Refusal → List ℕ

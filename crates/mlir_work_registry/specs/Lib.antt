@@ -1,6 +1,6 @@
 pub mod Replies
 pub mod Notices
-pub mod Told
+pub mod ReplyLines
 pub mod Explained
 pub mod CheckedRows
 pub mod Redefined

@@ -4,7 +4,7 @@ ghost use Rattle.std.specs.Fmt.{decimal};
 ghost use Rattle.mlir_work_script_base.specs.Writes.{Writes};
 ghost use Rattle.mlir_work_registry.specs.Notices.{notice_of};
 ghost use Rattle.mlir_work_registry.specs.Replies.{response_of};
-ghost use Rattle.mlir_work_registry.specs.Told.{checked_line, notice_line, reply_line, reply_text, surprise_line};
+ghost use Rattle.mlir_work_registry.specs.ReplyLines.{checked_line, notice_line, reply_line, reply_text, surprise_line};
 
 use crate::reply::Reply;
 use crate::response::Response;

@@ -22,7 +22,7 @@ use Rattle.mlir_work_session.specs.Machine.{RunsCommand, response_of}
 use Rattle.mlir_work_transforms.specs.registry.Notices.{IsWithin, Plain, is_right_under}
 use Rattle.mlir_work_transforms.specs.registry.Replies.{is_accepted}
 use Rattle.mlir_work_transforms.specs.registry.Registry.{RegistryModel}
-use Rattle.mlir_work_transforms.specs.registry.Told.{reply_line}
+use Rattle.mlir_work_transforms.specs.registry.ReplyLines.{reply_line}
 use Rattle.mlir_work_session.specs.Explained.{IsAbout}
 use Rattle.mlir_work_session.specs.Output.{Attaches, IsEnded, IsReplied, IsSession, SessionOptions, Replies, Runs, Sitting, SessionSetting, asks, end_of, opening, says_nothing, shows_alone, worse}
 use Rattle.mlir_work_session.specs.PrintsAlone.{IsPrinted, all_print, is_print, kinds_apart, line_prints, prints_alone}

@@ -26,7 +26,7 @@ use Rattle.mlir_work_session.specs.WhyPatterns.{RunsNamedCommand, asked_pattern}
 use Rattle.mlir_work_session.specs.Sittings.{ByRewriter, RunsPatternCommand, registered_pattern_of}
 pub use Rattle.mlir_work_transforms.specs.registry.Notices.{is_right}
 pub use Rattle.mlir_work_transforms.specs.registry.Explained.{response_lines}
-pub use Rattle.mlir_work_transforms.specs.registry.Told.{reply_text}
+pub use Rattle.mlir_work_transforms.specs.registry.ReplyLines.{reply_text}
 pub use Rattle.mlir_work_session.specs.Machine.{SessionSetting, session_setting}
 pub use Rattle.mlir_work_session.specs.Sittings.{Sitting, opening}
 pub use Rattle.mlir_work_session.specs.declared.options.SessionOptions.{SessionOptions}

@@ -10,7 +10,7 @@ ghost use Rattle.mlir_work_script_base.specs.Limits.{most_script_bytes};
 ghost use Rattle.mlir_work_transforms.specs.rewriter.Panels.{Shown, all_shown};
 ghost use Rattle.mlir_work_session.specs.Machine.{response_of};
 ghost use Rattle.mlir_work_transforms.specs.registry.Registry.{RegistryModel};
-ghost use Rattle.mlir_work_transforms.specs.registry.Told.{reply_line};
+ghost use Rattle.mlir_work_transforms.specs.registry.ReplyLines.{reply_line};
 ghost use Rattle.mlir_work_session.specs.Output.{IsSession, Runs, SessionSetting, opening};
 ghost use Rattle.mlir_work_session.specs.PrintsAlone.{IsPrinted, all_print, is_print, kinds_apart, prints_alone};
 ghost use Rattle.mlir_work_session.specs.Ran.{RanOut};

@@ -7,7 +7,7 @@ use Rattle.ir_event.specs.types.declared.refusal.Refusal.TheVariants.{BadTarget,
 use Rattle.ir_event.specs.Listener.{Listener}
 use Rattle.ir_event.specs.Modules.{Module}
 use Rattle.conversion.proofs.of_rewriter.Together.{Ages}
-use Rattle.conversion.proofs.of_rewriter.Told.{notified_more}
+use Rattle.conversion.proofs.of_rewriter.Notified.{notified_more}
 use Rattle.conversion.specs.rewriter.RewriterCalls.{Benched, Does, Led, state_of}
 use Rattle.conversion.specs.rewriter.Held.{module_held}
 use Rattle.conversion.specs.rewriter.Moves.{Recorded}

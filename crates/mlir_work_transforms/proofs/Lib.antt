@@ -1,9 +1,9 @@
 pub mod Sweeping
-pub mod Order
+pub mod EraseOrder
 pub mod Applied
 pub mod AtRuns
 pub mod Converted
-pub mod Told
+pub mod TracedConversion
 pub mod Listed
 pub mod Named
 pub mod Ruled

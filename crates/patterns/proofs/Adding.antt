@@ -5,7 +5,7 @@ use Rattle.ir_event.specs.types.Sound.{Holds}
 use Rattle.ir_event.proofs.of_types.Growth.{grows_refl, grows_trans}
 use Rattle.ir_event.specs.Listener.{Listener}
 use Rattle.patterns_lowering.specs.rewriter.Moves.{Grown}
-use Rattle.patterns_lowering.proofs.of_rewriter.Told.{notified_none, notified_more, notified_grown}
+use Rattle.patterns_lowering.proofs.of_rewriter.Notified.{notified_none, notified_more, notified_grown}
 use Rattle.patterns_lowering.specs.RewriterCalls.{Benched, Notified}
 use Rattle.patterns_lowering.specs.Held.{TransactionModel}
 use Rattle.patterns_lowering.specs.Interning.{Added}

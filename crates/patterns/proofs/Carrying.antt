@@ -14,7 +14,7 @@ use Rattle.ir_event.specs.Listener.{Listener}
 use Rattle.ir_event.specs.Modules.{Module, module_in, module_meaning}
 use Rattle.ir_event.specs.declared.world.World.{World}
 use Rattle.patterns_lowering.specs.rewriter.Moves.{Grown, Recorded, all_noted}
-use Rattle.patterns_lowering.proofs.of_rewriter.Told.{notified_none, notified_more}
+use Rattle.patterns_lowering.proofs.of_rewriter.Notified.{notified_none, notified_more}
 use Rattle.patterns_lowering.specs.RewriterCalls.{Benched, Journaled}
 use Rattle.patterns_lowering.specs.Contents.{Edit, all_edited}
 use Rattle.patterns_lowering.specs.Held.{TransactionModel, module_held}

@@ -27,7 +27,7 @@ use Rattle.ir_event.specs.Listener.{Listener}
 use Rattle.patterns_lowering.specs.rewriter.RewriterCalls.{Benched, Notified}
 use Rattle.patterns_lowering.specs.rewriter.Held.{TransactionModel}
 use Rattle.patterns_lowering.specs.rewriter.Moves.{Grown}
-use Rattle.patterns_lowering.proofs.of_rewriter.Told.{notified_grown}
+use Rattle.patterns_lowering.proofs.of_rewriter.Notified.{notified_grown}
 use Rattle.patterns_soundness.specs.base.Made.{i64}
 use Rattle.patterns_soundness.specs.base.Lowering.{lowered_attr}
 use Rattle.patterns_lowering.specs.Interning.{Added, IsCapacityRefusal}

@@ -8,7 +8,7 @@ use Rattle.patterns_base.specs.verify.declared.verdict.Verdict.{Verdict}
 use Rattle.patterns_base.specs.verify.declared.verdict.Verdict.TheVariants.{Valid, Unlisted, Invalid}
 use Rattle.patterns_base.specs.verify.Verdicts.{verdict_at, verdict_by, verdict_in}
 use Rattle.patterns_base.specs.verify.Breaks.{broken}
-use Rattle.patterns_base.specs.verify.Beyond.{told}
+use Rattle.patterns_base.specs.verify.Beyond.{reported}
 use Rattle.ir_verify_base.specs.Fits.{Surroundings}
 use Rattle.ir_verify_base.specs.Surroundings.{surroundings}
 use Rattle.patterns_base.specs.Looks.{Header, breaks_none, has_own_properties, is_verified, is_in_order}
@@ -35,9 +35,9 @@ by_rules (b ∷ bs) (r ∷ rs) = refl
 pub told_so : (x : ℕ) (t : Operation) (v : Verdict) → verdict_at x t ≡ Some v → IsVerdictOf x t v
 told_so x t v e = go (surroundings x t) e
   where
-    go : (s : Option Surroundings) → option_map verdict_in s ≡ Some v → IsVerdict (option_map broken s) (option_map told s) v
+    go : (s : Option Surroundings) → option_map verdict_in s ≡ Some v → IsVerdict (option_map broken s) (option_map reported s) v
     go None e = absurd cc
-    go (Some s) e = let one : verdict_in s ≡ v = cc in subst (IsVerdict (Some (broken s)) (Some (told s))) one (by_rules (broken s) (told s))
+    go (Some s) e = let one : verdict_in s ≡ v = cc in subst (IsVerdict (Some (broken s)) (Some (reported s))) one (by_rules (broken s) (reported s))
 
 module _ (t : Operation) (h : Header) (own : has_own_properties h ≡ true) where
   pub all_right : breaks_none (broken_at h.id t) ≡ true → is_verified t h ≡ true

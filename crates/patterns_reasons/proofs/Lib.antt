@@ -2,4 +2,4 @@ pub mod Making
 pub mod Parts
 pub mod Passing
 pub mod Reasoned
-pub mod Told
+pub mod ReportedReasons

@@ -90,7 +90,7 @@ pub mod OutcomesSampled
 pub mod TrueNotes
 pub mod PlainLists
 pub mod AnswersKept
-pub mod Told
+pub mod TracedRuns
 pub mod RefiningSampled
 pub mod RunsRefined
 pub mod Sampled

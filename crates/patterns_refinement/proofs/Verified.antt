@@ -42,7 +42,7 @@ use Rattle.ir_verify_base.specs.Fits.{Known, Surroundings, first_called, fits, i
 use Rattle.ir_verify_base.specs.Shapes.{breaks_1, breaks_3, breaks_5, breaks_12, breaks_13, is_well_shaped}
 use Rattle.ir_verify_base.specs.TypeRules.{breaks_2, breaks_4, breaks_18, is_extension, is_no_number, isnt_greater, isnt_smaller}
 use Rattle.patterns_base.specs.verify.Breaks.{broken, numbers_from, broken_rules_in, counted_rules}
-use Rattle.patterns_base.specs.verify.Beyond.{is_beyond, is_on_types, told}
+use Rattle.patterns_base.specs.verify.Beyond.{is_beyond, is_on_types, reported}
 use Rattle.patterns_base.specs.Diagnostics.{broken_at, diagnostics_of, rows_of, rule_rows}
 use Rattle.patterns_base.specs.Looks.{breaks_none, has_own_properties, is_verified}
 use Rattle.listeners_support.specs.events.Rows.{RowTerm}
@@ -79,16 +79,16 @@ silent_found q (e ∷ es) s rs f =
     go true f none later = sym (same_Some _ _ f) ∙ none
     go false f none later = later f
 
-none_told : (t : Operation) → diagnostics_of t ≡ [] → (x : ℕ) (s : OpWithPath) → op_with_path x t ≡ Some s → told (surround t s) ≡ []
+none_told : (t : Operation) → diagnostics_of t ≡ [] → (x : ℕ) (s : OpWithPath) → op_with_path x t ≡ Some s → reported (surround t s) ≡ []
 none_told t silent x s e =
-    silent_found x (sorted_facts told t) silent (told (surround t s)) (found told t x (stands [] t) ∙ ap (λ o. option_map told (option_map (surround t) o)) e)
+    silent_found x (sorted_facts reported t) silent (reported (surround t s)) (found reported t x (stands [] t) ∙ ap (λ o. option_map reported (option_map (surround t) o)) e)
 
 -- an operation that the operation table knows breaks only the constraints that the diagnostics report
 all_kept : (rs : List ℕ) → filter (λ r. true) rs ≡ rs
 all_kept [] = refl
 all_kept (r ∷ rs) = ap (λ l. r ∷ l) (all_kept rs)
 
-none_broken : (s : Surroundings) → is_beyond s ≡ false → told s ≡ [] → broken s ≡ []
+none_broken : (s : Surroundings) → is_beyond s ≡ false → reported s ≡ [] → broken s ≡ []
 none_broken s e f =
     sym (all_kept (broken s))
     ∙ sym (ap (λ b. filter (λ r. not (b && is_on_types (is_named s.node (codes "arith.constant")) r)) (broken s)) e) ∙ f

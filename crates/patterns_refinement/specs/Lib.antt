@@ -27,7 +27,7 @@ pub mod Noted
 pub mod CanonLists
 pub mod Answered
 pub mod PassingSamples
-pub mod Told
+pub mod TracedRuns
 pub mod Remainders
 pub mod IndexCasts
 pub mod Samples

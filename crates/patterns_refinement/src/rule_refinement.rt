@@ -16,7 +16,7 @@ ghost use Rattle.patterns_refinement.specs.Observing.{ShownWereThere};
 ghost use Rattle.patterns_refinement.specs.ObservingSamples.{AreRefused};
 ghost use Rattle.patterns_refinement.specs.Remainders.{ExpandsRemainders};
 ghost use Rattle.patterns_refinement.specs.Runs.{KeptAreKept, RewritingKeeps, RunsKeep};
-ghost use Rattle.patterns_refinement.specs.Told.{TracedCanonicalizationKeeps, TracedRewritingKeeps};
+ghost use Rattle.patterns_refinement.specs.TracedRuns.{TracedCanonicalizationKeeps, TracedRewritingKeeps};
 
 use greedy::laws::rewriting_by_its_rules_is_canonicalization;
 use patterns_base::laws::only_listed_rules_apply;

@@ -29,8 +29,8 @@ use Rattle.patterns_soundness.specs.base.Casting.{cast_back, through_index, unre
 use Rattle.patterns_soundness.specs.base.Folding.{is_all_ones, drop_zero, drop_one, drop_all_ones, keep_itself, choose_same, choose_known, choose_truth}
 use Rattle.patterns_soundness.proofs.Typed.{ChoiceTypes, a_choice, among_each, choice_is, choices_are, conjunction_is, ignoring_one_are, ignoring_zero_are, keeping_are, named_is, number_is, two_numbers, typed, types_at}
 use Rattle.patterns_soundness.proofs.Points.{DefiningOp, Point, here_is, dominated_by_after, dominated_by_operand, stands_there}
-use Rattle.patterns_soundness.proofs.Fit as fit
-use Rattle.patterns_soundness.proofs.Fit.{Fit}
+use Rattle.patterns_soundness.proofs.Limits as fit
+use Rattle.patterns_soundness.proofs.Limits.{Fit}
 use Rattle.patterns_soundness.proofs.Shapes.{one_is, source_is, three_is, two_is}
 use Rattle.patterns_laws.proofs.KnownFolds.{given_some}
 use Rattle.std.proofs.lemmas.Option.{same_Some}

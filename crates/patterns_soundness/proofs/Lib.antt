@@ -1,6 +1,6 @@
 pub mod Typed
 pub mod Points
-pub mod Fit
+pub mod Limits
 pub mod Shapes
 pub mod Shifts
 pub mod Results

@@ -32,8 +32,8 @@ use Rattle.patterns_soundness.specs.base.Makes.{give, give_constant, give_new}
 use Rattle.patterns_soundness.specs.base.Casting.{resizing, extend_extension, cut_cast}
 use Rattle.patterns_soundness.specs.base.Folding.{folded_to, may_read, fold_to_constant, cancel_itself, zero_remainder, regroup_constants, add_negative, compare_itself, compare_zero, expand_min_max, expand_difference, expand_remainder}
 use Rattle.patterns_soundness.proofs.Points.{DefiningOp, Point, dominated_by_after, dominated_by_operand}
-use Rattle.patterns_soundness.proofs.Fit as fit
-use Rattle.patterns_soundness.proofs.Fit.{Fit}
+use Rattle.patterns_soundness.proofs.Limits as fit
+use Rattle.patterns_soundness.proofs.Limits.{Fit}
 use Rattle.patterns_soundness.proofs.Shapes.{one_is, source_among_is, source_is, two_is}
 use Rattle.patterns_soundness.proofs.Given.{HasHeadroom, fits, gives_after}
 use Rattle.patterns_laws.proofs.KnownFolds.{given_some}

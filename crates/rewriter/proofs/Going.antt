@@ -18,7 +18,7 @@ use Rattle.rewriter.specs.RewriterCalls.{Benched, Does, Made, reply_of, state_of
 use Rattle.rewriter.proofs.OpenMarks.{grows_marked}
 use Rattle.rewriter.proofs.Panels.{all_stay}
 use Rattle.rewriter.proofs.Noted.{made_opens}
-use Rattle.rewriter.proofs.Told.{made_led, led_ages}
+use Rattle.rewriter.proofs.Notified.{made_led, led_ages}
 
 answer_same : (r q : Reply) (m n : Module) (ks ls : List OpenMark) → r ≡ q → m ≡ n → ks ≡ ls → (let a : Answer = record { reply = r; shows = Nothing; held = m; marks = ks } in a) ≡ record { reply = q; shows = Nothing; held = n; marks = ls }
 answer_same r q m n ks ls e f g = rw (e, f, g) refl

@@ -5,7 +5,7 @@ pub mod Typed
 pub mod IsMadeOrRefused
 pub mod Whole
 pub mod Panels
-pub mod Told
+pub mod Notified
 pub mod Noted
 pub mod OpenMarks
 pub mod Going

@@ -22,7 +22,7 @@ use Rattle.rewriter.specs.Moves.{Grown, HoldsModuleAlone, HoldsNone, IsAnswered,
 use Rattle.rewriter.specs.RewriterCalls.{Benched, Does, Notified, Led, NotifiedBack, reply_of, state_of}
 use Rattle.rewriter.specs.Rolling.{Dropped, GivenUp, IsSettled, Settled, UndoneTo}
 use Rattle.rewriter.proofs.OpenMarks.{open_none, counted_open, preceding_same, last_same, drop_taken}
-use Rattle.rewriter.proofs.Told.{notified_onward, notified_still, led_ages, led_left, led_still}
+use Rattle.rewriter.proofs.Notified.{notified_onward, notified_still, led_ages, led_left, led_still}
 
 -- the released operations
 pub given_tidied : (from : ℕ) (g h : TransactionModel) → Tidied from g h → (g.marks ≡ [] → HoldsNone h.store) → (g.marks ≡ [] → HoldsModuleAlone h.store) → GivenUp g h

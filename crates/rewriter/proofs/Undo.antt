@@ -13,7 +13,7 @@ use Rattle.rewriter.specs.Moves.{Undone}
 use Rattle.rewriter.proofs.MarkLaws.{within-more}
 use Rattle.rewriter.specs.RewriterCalls.{Notified}
 use Rattle.rewriter.specs.Rolling.{UndoneTo}
-use Rattle.rewriter.proofs.Told.{notified_none, notified_next, notified_step}
+use Rattle.rewriter.proofs.Notified.{notified_none, notified_next, notified_step}
 
 -- during the rollback: the events `es` were undone
 pub record Undoing {B : Type 0} (meaning : B → Listener) (mark : ℕ) (from now : TransactionModel) (xs ys : List B) : Type 0 where

@@ -33,8 +33,8 @@ use Rattle.patterns_base.specs.Looks as looks
 use Rattle.patterns_base.specs.Made.{Entries, made, value_entry}
 use Rattle.patterns_base.specs.Makes.{give, made_by}
 use Rattle.patterns_base.specs.Rewrites.{becomes, carried_out, refused}
-use Rattle.patterns_soundness.proofs.Fit as fit
-use Rattle.patterns_soundness.proofs.Fit.{Fit}
+use Rattle.patterns_soundness.proofs.Limits as fit
+use Rattle.patterns_soundness.proofs.Limits.{Fit}
 use Rattle.patterns_soundness.proofs.Given.{HasHeadroom}
 use Rattle.user_patterns_check.specs.Contents.{Content}
 use Rattle.user_patterns_check.specs.Outcomes.{Outcome, given, run}

@@ -14,7 +14,7 @@ use Rattle.width_claims.specs.PatternOpValues.{at}
 use Rattle.user_patterns_instructions.specs.declared.operand.Operand.{Operand}
 use Rattle.user_patterns_instructions.specs.declared.operand.Poison.{Poison}
 use Rattle.user_patterns_instructions.specs.declared.operand.Poison.TheVariants as poison
-use Rattle.user_patterns_instructions.specs.Expressions.{Made, put}
+use Rattle.user_patterns_instructions.specs.Expressions.{Made, push_expr}
 use Rattle.user_patterns_claims.specs.Translation.{Sides, both_true, is_one, known_and, poison_or, refined, sides, sides_by}
 use Rattle.user_patterns_instructions.proofs.PatternOps.{Base, Grown, Is, Makes, base_on, makes_next, makes_same, same, values}
 use Rattle.user_patterns_instructions.proofs.Forms.{not_truth, put_and, put_or, put_same, put_xor}
@@ -66,21 +66,21 @@ module _ (W : ℕ) (vs : List ℕ) (js : List BitsKind) (first : kind_at js 0 �
     y_is = subst (λ (u : ℕ). Is W vs ws ps y.value u t.number) (sym (eqb-true x.ty y.ty alike)) t.number_is
 
     equal : Made
-    equal = put ps 0 (form.Same x.value y.value)
+    equal = push_expr ps 0 (form.Same x.value y.value)
 
-    equal_makes : Makes W vs ws ps (put ps 0 (form.Same x.value y.value)) 0 (truth e)
+    equal_makes : Makes W vs ws ps (push_expr ps 0 (form.Same x.value y.value)) 0 (truth e)
     equal_makes = put_same W vs ws ps base x.value y.value x.ty s.number t.number s.number_is y_is
 
-    known_makes : (g : Poison) → PoisonIs W vs ws ps g c → Makes W vs ws ps (known_and g (put ps 0 (form.Same x.value y.value))) 0 (truth (not c && e))
-    known_makes poison.Never i = makes_same W vs ws ps (put ps 0 (form.Same x.value y.value)) 0 (truth e) (truth (not c && e)) (ap (λ d. truth (not d && e)) (sym i)) equal_makes
+    known_makes : (g : Poison) → PoisonIs W vs ws ps g c → Makes W vs ws ps (known_and g (push_expr ps 0 (form.Same x.value y.value))) 0 (truth (not c && e))
+    known_makes poison.Never i = makes_same W vs ws ps (push_expr ps 0 (form.Same x.value y.value)) 0 (truth e) (truth (not c && e)) (ap (λ d. truth (not d && e)) (sym i)) equal_makes
     known_makes poison.Always i =
         let a = equal_makes in
-        makes_same W vs ws ps ((put ps 0 (form.Same x.value y.value)).0, 0) 0 0 (truth (not c && e)) (ap (λ d. truth (not d && e)) (sym i)) (record { grown = a.grown; is = a.grown.kept 0 0 0 base.zero_is })
+        makes_same W vs ws ps ((push_expr ps 0 (form.Same x.value y.value)).0, 0) 0 0 (truth (not c && e)) (ap (λ d. truth (not d && e)) (sym i)) (record { grown = a.grown; is = a.grown.kept 0 0 0 base.zero_is })
     known_makes (poison.When g) i =
-        let m = put ps 0 (form.Same x.value y.value) in
+        let m = push_expr ps 0 (form.Same x.value y.value) in
         let a = equal_makes in
         let d = base_on W vs ws ps m.0 base a.grown in
-        let n = put m.0 0 (form.ExclusiveOr g 1) in
+        let n = push_expr m.0 0 (form.ExclusiveOr g 1) in
         let flip = makes_same W vs ws m.0 n 0 (bit_xor (truth c) 1) (truth (not c)) (not_truth c) (put_xor W vs ws m.0 d g 1 0 (truth c) 1 (a.grown.kept g 0 (truth c) i) d.one_is) in
         let f = base_on W vs ws m.0 n.0 d flip.grown in
         let both = put_and W vs ws n.0 f m.1 n.1 0 (truth e) (truth (not c)) (flip.grown.kept m.1 0 (truth e) a.is) flip.is in

@@ -36,7 +36,7 @@ use Rattle.user_patterns_instructions.specs.declared.operand.Operand.{Operand}
 use Rattle.user_patterns_instructions.specs.declared.operand.Poison.{Poison}
 use Rattle.user_patterns_instructions.specs.declared.operand.Poison.TheVariants as poison
 use Rattle.user_patterns_claims.specs.Outcomes.{AreKindsOf, are_kinds}
-use Rattle.user_patterns_instructions.specs.Expressions.{Result, compare_result, divide_result, literal_form, operand_at, pair_result, put, resize_result, select_result, type_at, unknown}
+use Rattle.user_patterns_instructions.specs.Expressions.{Result, compare_result, divide_result, literal_form, operand_at, pair_result, push_expr, resize_result, select_result, type_at, unknown}
 use Rattle.user_patterns_claims.specs.Translation.{State, all_translated, literal_result, log_state, number_state, power_made, power_there, required, result_of, top_power, translated, unchanged, with_condition, with_fitting, with_number, with_result, with_some}
 use Rattle.user_patterns_instructions.proofs.PatternOps.{Base, Grown, Is, base_on, grown_next, made, makes_next, makes_same, pattern_op_types, same, values}
 use Rattle.user_patterns_instructions.proofs.Forms.{put_less, put_number, put_subtract, put_xor}
@@ -253,7 +253,7 @@ module _ (W : ℕ) (most : most_width ≤ W) (vs : List ℕ) (value_types : List
     abbrev made_literal : Result
     made_literal = literal_result l s.exprs u
 
-    power_there_is : nat_lt l.magnitude 2 ≡ false → Reached s (with_fitting s made_literal (power_there (put made_literal.0 u (form.Literal (top_power l.magnitude l.magnitude))))) (env ++ (literal_gives s env h l u t fit).outcome ∷ [])
+    power_there_is : nat_lt l.magnitude 2 ≡ false → Reached s (with_fitting s made_literal (power_there (push_expr made_literal.0 u (form.Literal (top_power l.magnitude l.magnitude))))) (env ++ (literal_gives s env h l u t fit).outcome ∷ [])
     power_there_is e =
         let r = made_literal in
         let g = literal_gives s env h l u t fit in
@@ -266,7 +266,7 @@ module _ (W : ℕ) (most : most_width ≤ W) (vs : List ℕ) (value_types : List
         let least = top_low l.magnitude l.magnitude (omega (arith, some)) in
         let low : p < 2 ^ w = subst (λ (n : ℕ). p < 2 ^ n) (sym w_is) (omega (arith, below, least)) in
         let b = base_on W vs ws s.exprs r.0 h.base g.grown in
-        let m = put r.0 u (form.Literal p) in
+        let m = push_expr r.0 u (form.Literal p) in
         let one = makes_same W vs ws r.0 m u (wrapped w (literal_number false p)) p (sym (literal_low w p low)) (put_number W vs ws r.0 b u p t.low) in
         let c = base_on W vs ws r.0 m.0 b one.grown in
         let n = power_there m in
@@ -294,7 +294,7 @@ module _ (W : ℕ) (most : most_width ≤ W) (vs : List ℕ) (value_types : List
         go : (b : Bool) → nat_lt l.magnitude 2 ≡ b → Goes false s env (step_of (written_step ks l) env) (Some (with_number b s l u made_literal))
         go true e = gives_goes false s env (step_of (written_step ks l) env) made_literal h (literal_gives s env h l u t fit)
         go false e =
-            subst (λ (o : Option Outcome). Goes false s env o (Some (with_fitting s made_literal (power_there (put made_literal.0 u (form.Literal (top_power l.magnitude l.magnitude))))))) (sym (literal_gives s env h l u t fit).is) (power_there_is e)
+            subst (λ (o : Option Outcome). Goes false s env o (Some (with_fitting s made_literal (power_there (push_expr made_literal.0 u (form.Literal (top_power l.magnitude l.magnitude))))))) (sym (literal_gives s env h l u t fit).is) (power_there_is e)
 
   -- ---- conditions
   some_number : (n : ℕ) → (n == 0) ≡ false → nat_lt 0 n ≡ true
@@ -303,9 +303,9 @@ module _ (W : ℕ) (most : most_width ≤ W) (vs : List ℕ) (value_types : List
   module _ (s : State) (env : List Outcome) (h : Holds s env) where
     -- a condition that isn't 0
     visited : (o : Operand) (n : ℕ) → Is W vs ws s.exprs o.value o.ty n → (n == 0) ≡ false → EditsDenote s.exprs o (Some (kind_at js o.ty, n))
-        → Reached s (with_condition s o (put s.exprs 0 (form.Less 0 o.value))) (env ++ Some (kind_at js o.ty, n) ∷ [])
+        → Reached s (with_condition s o (push_expr s.exprs 0 (form.Less 0 o.value))) (env ++ Some (kind_at js o.ty, n) ∷ [])
     visited o n is e a =
-        let m = put s.exprs 0 (form.Less 0 o.value) in
+        let m = push_expr s.exprs 0 (form.Less 0 o.value) in
         let less = put_less W vs ws s.exprs h.base 0 o.value 0 o.ty 0 n h.base.zero_is is in
         let one = makes_same W vs ws s.exprs m 0 (truth (nat_lt 0 n)) 1 (ap truth (some_number n e)) less in
         let g = one.grown in
@@ -322,14 +322,14 @@ module _ (W : ℕ) (most : most_width ≤ W) (vs : List ℕ) (value_types : List
     require_goes o x a = go o.poison a.poison_is
       where
         known : (b : Bool) → (a.number == 0) ≡ b → x ≡ Some (kind_at js o.ty, a.number)
-            → Goes true s env (if b then None else Some (Some (kind_at js o.ty, a.number))) (Some (with_condition s o (put s.exprs 0 (form.Less 0 o.value))))
+            → Goes true s env (if b then None else Some (Some (kind_at js o.ty, a.number))) (Some (with_condition s o (push_expr s.exprs 0 (form.Less 0 o.value))))
         known true e i = refl
         known false e i = visited o a.number a.number_is e (subst (λ (y : Outcome). EditsDenote s.exprs o y) i a)
 
         go : (f : Poison) → PoisonIs W vs ws s.exprs f a.poisoned → Goes true s env (outcomes.required x) (required s o f)
         go poison.Never e =
             let i : x ≡ Some (kind_at js o.ty, a.number) = a.is ∙ ap (outcome_by (kind_at js o.ty) a.number) e in
-            subst (λ (y : Outcome). Goes true s env (outcomes.required y) (Some (with_condition s o (put s.exprs 0 (form.Less 0 o.value))))) (sym i) (known (a.number == 0) refl i)
+            subst (λ (y : Outcome). Goes true s env (outcomes.required y) (Some (with_condition s o (push_expr s.exprs 0 (form.Less 0 o.value))))) (sym i) (known (a.number == 0) refl i)
         go poison.Always e = tt
         go (poison.When k) e = tt
 
@@ -341,16 +341,16 @@ module _ (W : ℕ) (most : most_width ≤ W) (vs : List ℕ) (value_types : List
         let t = o.ty in
         let w = at ws t in
         let p = pow_pos k in
-        let one = put s.exprs t (form.Literal 1) in
+        let one = push_expr s.exprs t (form.Literal 1) in
         let small : 1 < 2 ^ w = (let l = is.low.0 in let g = pow-lt {i = 0} {j = w} l in omega (arith, g)) in
         let one_made = makes_same W vs ws s.exprs one t (wrapped w (literal_number false 1)) 1 (sym (literal_low w 1 small)) (put_number W vs ws s.exprs h.base t 1 is.low) in
         let b1 = base_on W vs ws s.exprs one.0 h.base one_made.grown in
         let n1 = one_made.grown.kept i t n is in
-        let less = put one.0 t (form.Subtract i one.1) in
+        let less = push_expr one.0 t (form.Subtract i one.1) in
         let d = difference_of w n 1 in
         let less_made = put_subtract W vs ws one.0 b1 i one.1 t n 1 n1 one_made.is in
         let b2 = base_on W vs ws one.0 less.0 b1 less_made.grown in
-        let bits = put less.0 t (form.ExclusiveOr i less.1) in
+        let bits = push_expr less.0 t (form.ExclusiveOr i less.1) in
         let bits_made = put_xor W vs ws less.0 b2 i less.1 t n d (less_made.grown.kept i t n n1) less_made.is in
         let b3 = base_on W vs ws less.0 bits.0 b2 bits_made.grown in
         let m = power_made i t s.exprs in

@@ -30,7 +30,7 @@ use Rattle.width_claims.specs.Right.{AreNarrower, ConditionsHold, FitWidths, IsB
 use Rattle.user_patterns_instructions.specs.declared.operand.Poison.{Poison}
 use Rattle.user_patterns_instructions.specs.declared.operand.Poison.TheVariants as poison
 use Rattle.user_patterns_claims.specs.Outcomes.{AreKindsOf, AreOutcomes, IsNumberIf, IsOutcome, are_kinds}
-use Rattle.user_patterns_instructions.specs.Expressions.{claim_types, narrower_types, put, is_repeated, type_at, types_from, width_if, with_narrower}
+use Rattle.user_patterns_instructions.specs.Expressions.{claim_types, narrower_types, push_expr, is_repeated, type_at, types_from, width_if, with_narrower}
 use Rattle.user_patterns_claims.specs.Translation.{State, bit_flag, first_state, is_constant, set_count, variable_result, variables, with_variable}
 use Rattle.user_patterns_instructions.proofs.PatternOps.{made, many, values}
 use Rattle.user_patterns_instructions.proofs.Flags.{PoisonIs}
@@ -177,7 +177,7 @@ module _ (W : ℕ) (most : most_width ≤ W) (vs : List ℕ) (p : PatternModel) 
       → ((ps : List Expr) → PoisonIs W vs us ps f (is_none o)) → HoldsHere (with_variable s i f t) (env ++ o ∷ [])
   variable_stands s env i u t o f h is fits e flag =
       let n = at vs i % 2 ^ at us t in
-      let m = put s.exprs t (form.Value i) in
+      let m = push_expr s.exprs t (form.Value i) in
       let a = made W vs us s.exprs t (form.Value i) n h.base.right is.low tt refl in
       (reached W most vs p.value_types ks aligned wide s env (variable_result m f t) o h a.grown
       (record { number = n; poisoned = is_none o; number_is = a.is; poison_is = flag m.0; is = outcome_is o fits e; written_is = tt })).holds

@@ -27,7 +27,7 @@ use Rattle.user_patterns_instructions.specs.declared.instruction.Instruction.{In
 use Rattle.user_patterns_instructions.specs.declared.instruction.Instruction.TheVariants as instruction
 use Rattle.user_patterns_claims.specs.declared.aim.Aim.{Aim}
 use Rattle.user_patterns_claims.specs.declared.aim.Aim.TheVariants as aim
-use Rattle.user_patterns_instructions.specs.Expressions.{type_at, claim_types, narrower_types, Made, put, literal_form, operand, unknown, operand_at, Result, pair_result, divide_result, compare_result, select_result, resize_result}
+use Rattle.user_patterns_instructions.specs.Expressions.{type_at, claim_types, narrower_types, Made, push_expr, literal_form, operand, unknown, operand_at, Result, pair_result, divide_result, compare_result, select_result, resize_result}
 
 -- ---- instructions
 
@@ -48,21 +48,21 @@ abbrev pub with_condition : State → Operand → Made → State
 with_condition s x m = record { exprs = m.0; operands = s.operands ++ (x ∷ []); conditions = s.conditions ++ (m.1 ∷ []) }
 
 abbrev pub required : State → Operand → Poison → Option State
-required s x poison.Never = Some (with_condition s x (put s.exprs 0 (form.Less 0 x.value)))
+required s x poison.Never = Some (with_condition s x (push_expr s.exprs 0 (form.Less 0 x.value)))
 required s x _ = None
 
 -- a number n is a power of two if and only if n - 1 is less than the exclusive disjunction of n and n - 1
 abbrev pub power_test : ℕ → Made → Made
-power_test i m = put m.0 0 (form.Less i m.1)
+power_test i m = push_expr m.0 0 (form.Less i m.1)
 
 abbrev pub power_bits : ℕ → ℕ → Made → Made
-power_bits i t m = power_test m.1 (put m.0 t (form.ExclusiveOr i m.1))
+power_bits i t m = power_test m.1 (push_expr m.0 t (form.ExclusiveOr i m.1))
 
 abbrev pub power_less : ℕ → ℕ → Made → Made
-power_less i t m = power_bits i t (put m.0 t (form.Subtract i m.1))
+power_less i t m = power_bits i t (push_expr m.0 t (form.Subtract i m.1))
 
 abbrev pub power_made : ℕ → ℕ → List Expr → Made
-power_made i t ps = power_less i t (put ps t (form.Literal 1))
+power_made i t ps = power_less i t (push_expr ps t (form.Literal 1))
 
 -- the operand of a logarithm must be a power of two, and the logarithm isn't known
 abbrev pub log_state : State → Operand → Poison → Option State
@@ -73,7 +73,7 @@ abbrev pub literal_made : Made → Literal → ℕ → Result
 literal_made m l t = (m.0, record { value = m.1; poison = poison.Never; ty = t; written = Some l; known = true })
 
 abbrev pub literal_result : Literal → List Expr → ℕ → Result
-literal_result l ps t = literal_made (put ps t (literal_form l)) l t
+literal_result l ps t = literal_made (push_expr ps t (literal_form l)) l t
 
 -- the greatest power of two that is at most n; the first number bounds the steps
 abbrev pub top_power : ℕ → ℕ → ℕ
@@ -85,10 +85,10 @@ abbrev pub with_fitting : State → Result → Made → State
 with_fitting s r m = record { exprs = m.0; operands = s.operands ++ (r.1 ∷ []); conditions = s.conditions ++ (m.1 ∷ []) }
 
 abbrev pub power_there : Made → Made
-power_there m = put m.0 0 (form.Less 0 m.1)
+power_there m = push_expr m.0 0 (form.Less 0 m.1)
 
 abbrev pub with_number : Bool → State → Literal → ℕ → Result → State
-with_number small s l t r = if small then with_result s r else with_fitting s r (power_there (put r.0 t (form.Literal (top_power l.magnitude l.magnitude))))
+with_number small s l t r = if small then with_result s r else with_fitting s r (power_there (push_expr r.0 t (form.Literal (top_power l.magnitude l.magnitude))))
 
 abbrev pub number_state : State → Literal → ℕ → State
 number_state s l t = with_number (nat_lt l.magnitude 2) s l t (literal_result l s.exprs t)
@@ -171,7 +171,7 @@ abbrev pub variable_result : Made → Poison → ℕ → Result
 variable_result m f t = (m.0, operand m.1 f t)
 
 abbrev pub with_variable : State → ℕ → Poison → ℕ → State
-with_variable s i f t = with_result s (variable_result (put s.exprs t (form.Value i)) f t)
+with_variable s i f t = with_result s (variable_result (push_expr s.exprs t (form.Value i)) f t)
 
 module _ (p : PatternModel) where
   abbrev pub is_constant : ℕ → Bool
@@ -206,21 +206,21 @@ Sides = List Expr × ℕ × ℕ
 
 -- the new value is known and the old one
 abbrev pub both_true : Made → Made → Made
-both_true m n = put n.0 0 (form.And m.1 n.1)
+both_true m n = push_expr n.0 0 (form.And m.1 n.1)
 
 abbrev pub known_and : Poison → Made → Made
 known_and poison.Never m = m
 known_and poison.Always m = (m.0, 0)
-known_and (poison.When g) m = both_true m (put m.0 0 (form.ExclusiveOr g 1))
+known_and (poison.When g) m = both_true m (push_expr m.0 0 (form.ExclusiveOr g 1))
 
 abbrev pub refined : Operand → Operand → List Expr → Made
-refined x y ps = known_and y.poison (put ps 0 (form.Same x.value y.value))
+refined x y ps = known_and y.poison (push_expr ps 0 (form.Same x.value y.value))
 
 abbrev pub is_one : Made → Sides
 is_one m = (m.0, m.1, 1)
 
 abbrev pub poison_or : ℕ → Made → Made
-poison_or f m = put m.0 0 (form.Or f m.1)
+poison_or f m = push_expr m.0 0 (form.Or f m.1)
 
 -- the old value is poison, or the new value refines it; there is nothing to claim if the old value is always poison
 abbrev pub sides_by : Poison → Poison → Operand → Operand → List Expr → Option Sides

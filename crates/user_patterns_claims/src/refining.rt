@@ -2,7 +2,7 @@
 ghost use Rattle.std.specs.Prelude.{◌≡◌, IfOk};
 ghost use Rattle.user_patterns_instructions.specs.Code.{IsMade};
 ghost use Rattle.user_patterns_claims.specs.Code.{AreSidesIf};
-ghost use Rattle.user_patterns_instructions.specs.Expressions.{put};
+ghost use Rattle.user_patterns_instructions.specs.Expressions.{push_expr};
 ghost use Rattle.user_patterns_claims.specs.Translation.{both_true, known_and, refined, sides, sides_by};
 ghost use Rattle.user_patterns_instructions.specs.declared.operand.Poison.TheVariants.{Never};
 ghost use Rattle.width_claims.specs.declared.form.Form.TheVariants as form;
@@ -21,7 +21,7 @@ pub struct Equation {
 
 /// Appends the conjunction of a truth and an unset flag.
 fn known_and_when(g: usize, equal: usize, exprs: &mut Vec<Expr>) -> Result<usize, AllocError>
-    ensures { IfOk result (IsMade (both_true (exprs.old.items, equal) (put exprs.old.items 0 (form.ExclusiveOr g 1))) exprs.new.items) }
+    ensures { IfOk result (IsMade (both_true (exprs.old.items, equal) (push_expr exprs.old.items 0 (form.ExclusiveOr g 1))) exprs.new.items) }
 {
     let known = push_expr(exprs, 0, Form::ExclusiveOr(g, 1))?;
     push_expr(exprs, 0, Form::And(equal, known))

@@ -4,7 +4,7 @@ ghost use Rattle.user_patterns_check.specs.Outcomes.{given};
 ghost use Rattle.user_patterns_instructions.specs.Code.{IsResult, IsResultIf};
 ghost use Rattle.user_patterns_claims.specs.Code.{IsCondition, IsPlain, IsStateIf, state};
 ghost use Rattle.width_claims.specs.declared.form.Form.TheVariants as form;
-ghost use Rattle.user_patterns_instructions.specs.Expressions.{compare_result, divide_result, if_known, operand_at, pair_result, put, resize_result, select_result, type_at};
+ghost use Rattle.user_patterns_instructions.specs.Expressions.{compare_result, divide_result, if_known, operand_at, pair_result, push_expr, resize_result, select_result, type_at};
 ghost use Rattle.user_patterns_claims.specs.Translation.{literal_result, log_state, number_state, power_made, power_there, required, result_of, top_power, translated};
 
 use dialects_int::operations::{Arithmetic, Cast, Predicate};
@@ -78,7 +78,7 @@ fn power_there(
     conditions: &mut Vec<usize>,
 ) -> Result<(), AllocError>
     requires { 1 ≤ n }
-    ensures { IfOk result (IsCondition (power_there (put exprs.old.items ty (form.Literal (top_power n n)))) conditions.old.items exprs.new.items conditions.new.items) }
+    ensures { IfOk result (IsCondition (power_there (push_expr exprs.old.items ty (form.Literal (top_power n n)))) conditions.old.items exprs.new.items conditions.new.items) }
 {
     let power = push_expr(exprs, ty, Form::Literal(top_power(n, n)))?;
     let place = push_expr(exprs, 0, Form::Less(0, power))?;

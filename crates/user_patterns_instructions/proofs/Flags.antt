@@ -5,7 +5,7 @@ use Rattle.width_claims.specs.declared.form.Form.TheVariants as form
 use Rattle.width_claims.specs.declared.form.Expr.{Expr}
 use Rattle.user_patterns_instructions.specs.declared.operand.Poison.{Poison}
 use Rattle.user_patterns_instructions.specs.declared.operand.Poison.TheVariants as poison
-use Rattle.user_patterns_instructions.specs.Expressions.{Flagged, Made, also_poison, chosen_poison, either, flag_by, flag_place, put}
+use Rattle.user_patterns_instructions.specs.Expressions.{Flagged, Made, also_poison, chosen_poison, either, flag_by, flag_place, push_expr}
 use Rattle.user_patterns_instructions.proofs.PatternOps.{Base, Grown, Is, Makes, base_on, makes_same, same, grown_next}
 use Rattle.user_patterns_instructions.proofs.Forms.{put_or, put_select}
 
@@ -67,8 +67,8 @@ module _ (W : ℕ) (vs ws : List ℕ) where
   either_is (poison.When i) poison.Never ps b c base p q = flags_same ps (ps, poison.When i) b (b || c) (sym (ap (λ d. b || d) q ∙ or_false b)) (flags_stay ps (poison.When i) b base p)
   either_is (poison.When i) poison.Always ps b c base p q = flags_stay ps poison.Always (b || c) base (ap (λ d. b || d) q ∙ or_true b)
   either_is (poison.When i) (poison.When j) ps b c base p q =
-      flags_by ps (put ps 0 (form.Or i j)) (b || c)
-      (makes_same W vs ws ps (put ps 0 (form.Or i j)) 0 (bit_or (truth b) (truth c)) (truth (b || c)) (or_truth b c) (put_or W vs ws ps base i j 0 (truth b) (truth c) p q))
+      flags_by ps (push_expr ps 0 (form.Or i j)) (b || c)
+      (makes_same W vs ws ps (push_expr ps 0 (form.Or i j)) 0 (bit_or (truth b) (truth c)) (truth (b || c)) (or_truth b c) (put_or W vs ws ps base i j 0 (truth b) (truth c) p q))
 
   pub place_is : (ps : List Expr) (f : Poison) (b : Bool) → Base W vs ws ps → PoisonIs ps f b → Is W vs ws ps (flag_place f) 0 (truth b)
   place_is ps poison.Never b base e = subst (λ (n : ℕ). Is W vs ws ps 0 0 n) (ap truth (sym e)) base.zero_is
@@ -76,10 +76,10 @@ module _ (W : ℕ) (vs ws : List ℕ) where
   place_is ps (poison.When i) b base is = is
 
   module _ (ps : List Expr) (base : Base W vs ws ps) (i u n : ℕ) (o : Is W vs ws ps i u n) where
-    selected : (f g : Poison) (b c : Bool) → PoisonIs ps f b → PoisonIs ps g c → Flags ps (flag_by (put ps 0 (form.Select i (flag_place f) (flag_place g)))) (choice_of n b c)
+    selected : (f g : Poison) (b c : Bool) → PoisonIs ps f b → PoisonIs ps g c → Flags ps (flag_by (push_expr ps 0 (form.Select i (flag_place f) (flag_place g)))) (choice_of n b c)
     selected f g b c p q =
-        flags_by ps (put ps 0 (form.Select i (flag_place f) (flag_place g))) (choice_of n b c)
-        (makes_same W vs ws ps (put ps 0 (form.Select i (flag_place f) (flag_place g))) 0 (choice_of n (truth b) (truth c)) (truth (choice_of n b c)) (choice_of_truths n b c)
+        flags_by ps (push_expr ps 0 (form.Select i (flag_place f) (flag_place g))) (choice_of n b c)
+        (makes_same W vs ws ps (push_expr ps 0 (form.Select i (flag_place f) (flag_place g))) 0 (choice_of n (truth b) (truth c)) (truth (choice_of n b c)) (choice_of_truths n b c)
         (put_select W vs ws ps base (flag_place f) (flag_place g) 0 (truth b) (truth c) (place_is ps f b base p) (place_is ps g c base q) i u n o))
 
     pub chosen_is : (f g : Poison) (b c : Bool) → PoisonIs ps f b → PoisonIs ps g c → Flags ps (chosen_poison i f g ps) (choice_of n b c)

@@ -20,7 +20,7 @@ use Rattle.width_claims.specs.declared.form.Form.TheVariants as form
 use Rattle.width_claims.specs.declared.form.Expr.{Expr}
 use Rattle.width_claims.specs.PatternOpValues.{at}
 use Rattle.width_claims.specs.Right.{IsBelow}
-use Rattle.user_patterns_instructions.specs.Expressions.{Made, is_number, literal_times, multiple, one_more, opposite, put, quotient, quotient_by, remainder, times, twice, with_literal}
+use Rattle.user_patterns_instructions.specs.Expressions.{Made, is_number, literal_times, multiple, one_more, opposite, push_expr, quotient, quotient_by, remainder, times, twice, with_literal}
 use Rattle.user_patterns_instructions.proofs.PatternOps.{Base, Is, Makes, base_on, makes_next, makes_same, same}
 use Rattle.user_patterns_instructions.proofs.Ranges.{value_below}
 use Rattle.user_patterns_instructions.proofs.Forms.{put_add, put_cut, put_number, put_quotient, put_resize, put_subtract}
@@ -97,11 +97,11 @@ module _ (W : ℕ) (vs ws : List ℕ) where
     M = 2 ^ at ws t
 
     -- the product by 0
-    zero_makes : (ps : List Expr) (n : ℕ) → n ≡ 0 → Base W vs ws ps → IsBelow W (at ws t) → Makes W vs ws ps (put ps t (form.Literal 0)) t ((a * n) % M)
+    zero_makes : (ps : List Expr) (n : ℕ) → n ≡ 0 → Base W vs ws ps → IsBelow W (at ws t) → Makes W vs ws ps (push_expr ps t (form.Literal 0)) t ((a * n) % M)
     zero_makes ps n e b low =
         let p = pow_pos (at ws t) in
         let none : a * n ≡ 0 = ap (λ k. a * k) e ∙ grind arith in
-        makes_same W vs ws ps (put ps t (form.Literal 0)) t (wrapped (at ws t) (literal_number false 0)) ((a * n) % M) (sym (literal_low (at ws t) 0 p) ∙ sym (ap (λ k. k % M) none ∙ mod-eq_of_lt p))
+        makes_same W vs ws ps (push_expr ps t (form.Literal 0)) t (wrapped (at ws t) (literal_number false 0)) ((a * n) % M) (sym (literal_low (at ws t) 0 p) ∙ sym (ap (λ k. k % M) none ∙ mod-eq_of_lt p))
         (put_number W vs ws ps b t 0 low)
 
     -- the double of a product
@@ -142,12 +142,12 @@ module _ (W : ℕ) (vs ws : List ℕ) where
             positive c f = grind (arith, nat_tests)
 
         go : (n / 2 ≤ k → Makes W vs ws ps (times k (n / 2) t i ps) t ((a * (n / 2)) % M)) → (c : Bool) → (n == 0) ≡ c → (d : Bool) → (n == 1) ≡ d
-            → Makes W vs ws ps (if c then put ps t (form.Literal 0) else if d then put ps t (form.Cut i) else one_more (n % 2 == 1) t i (twice t (times k (n / 2) t i ps))) t ((a * n) % M)
+            → Makes W vs ws ps (if c then push_expr ps t (form.Literal 0) else if d then push_expr ps t (form.Cut i) else one_more (n % 2 == 1) t i (twice t (times k (n / 2) t i ps))) t ((a * n) % M)
         go ih true e d f = zero_makes ps n (eqb-true n 0 e) b is.low
         go ih false e true f =
             let one : a * 1 ≡ a * n = ap (λ c. a * c) (sym (eqb-true n 1 f)) in
             let itself : a ≡ a * 1 = grind arith in
-            makes_same W vs ws ps (put ps t (form.Cut i)) t (a % M) ((a * n) % M) (ap (λ c. c % M) (itself ∙ one)) (put_cut W vs ws ps b i t t a is.low is)
+            makes_same W vs ws ps (push_expr ps t (form.Cut i)) t (a % M) ((a * n) % M) (ap (λ c. c % M) (itself ∙ one)) (put_cut W vs ws ps b i t t a is.low is)
         go ih false e false f =
             let h = half_less n k l e in
             let double = twice_makes ps (times k (n / 2) t i ps) (n / 2) b (ih h) in
@@ -171,7 +171,7 @@ module _ (W : ℕ) (vs ws : List ℕ) where
         let x = (a * n) % N in
         let c = base_on W vs ws ps m.0 b h.grown in
         let z = put_number W vs ws m.0 c t 0 low in
-        let k = put m.0 t (form.Literal 0) in
+        let k = push_expr m.0 t (form.Literal 0) in
         let d = base_on W vs ws m.0 k.0 c z.grown in
         let none : Makes W vs ws m.0 k t 0 = makes_same W vs ws m.0 k t (wrapped w (literal_number false 0)) 0 (sym (literal_low w 0 p)) z in
         let last = put_subtract W vs ws k.0 d k.1 m.1 t 0 x none.is (z.grown.kept m.1 t x h.is) in
@@ -220,7 +220,7 @@ module _ (W : ℕ) (vs ws : List ℕ) where
           positive : (n : ℕ) → 1 ≤ n → nat_lt 0 n ≡ true
           positive n h = grind (arith, nat_tests)
 
-      shifted_left : (c : Bool) → is_number 0 l ≡ c → LiteralMakes op.ShiftLeft (if c then Some (put ps t (form.Cut i)) else None)
+      shifted_left : (c : Bool) → is_number 0 l ≡ c → LiteralMakes op.ShiftLeft (if c then Some (push_expr ps t (form.Cut i)) else None)
       unfolding left_shift_of
       shifted_left false e = tt
       shifted_left true e =
@@ -251,7 +251,7 @@ module _ (W : ℕ) (vs ws : List ℕ) where
             makes = itself_makes;
           }
 
-      shifted_signed : (c : Bool) → is_number 0 l ≡ c → LiteralMakes op.ShiftRightSigned (if c then Some (put ps t (form.Resize t i)) else None)
+      shifted_signed : (c : Bool) → is_number 0 l ≡ c → LiteralMakes op.ShiftRightSigned (if c then Some (push_expr ps t (form.Resize t i)) else None)
       unfolding signed_right_shift_of sign_extended
       shifted_signed false e = tt
       shifted_signed true e =
@@ -289,7 +289,7 @@ module _ (W : ℕ) (vs ws : List ℕ) where
           some_one n f = grind (arith, nat_tests)
 
           go : (c : Bool) → (l.magnitude == 1) ≡ c → (d : Bool) → (l.magnitude == 0) ≡ d → (e : Bool)
-              → QuotientMakes (if c then Some (ps, i) else if d then None else if e then Some (put ps t (form.Quotient i (l.magnitude - 1))) else None)
+              → QuotientMakes (if c then Some (ps, i) else if d then None else if e then Some (push_expr ps t (form.Quotient i (l.magnitude - 1))) else None)
           go true f d g h =
               record {
                 some = some_one l.magnitude f;
@@ -301,7 +301,7 @@ module _ (W : ℕ) (vs ws : List ℕ) where
               record {
                 some = g;
                 number = number;
-                makes = makes_same W vs ws ps (put ps t (form.Quotient i (l.magnitude - 1))) t (a / suc (l.magnitude - 1)) (a / l.magnitude) (ap (λ k. a / k) (positive l.magnitude g))
+                makes = makes_same W vs ws ps (push_expr ps t (form.Quotient i (l.magnitude - 1))) t (a / suc (l.magnitude - 1)) (a / l.magnitude) (ap (λ k. a / k) (positive l.magnitude g))
                     (put_quotient W vs ws ps b i t (l.magnitude - 1) a is);
               }
           go false f false g false = tt
@@ -348,10 +348,10 @@ module _ (W : ℕ) (vs ws : List ℕ) where
       nothing : (n : ℕ) → n * 0 ≡ 0
       nothing n = omega arith
 
-      zero_made : Makes W vs ws ps (put ps t (form.Literal 0)) t 0
-      zero_made = makes_same W vs ws ps (put ps t (form.Literal 0)) t ((a * 0) % N) 0 (ap (λ n. n % N) (nothing a) ∙ mod-eq_of_lt (pow_pos (at ws t))) (zero_makes t i a ps 0 refl b is.low)
+      zero_made : Makes W vs ws ps (push_expr ps t (form.Literal 0)) t 0
+      zero_made = makes_same W vs ws ps (push_expr ps t (form.Literal 0)) t ((a * 0) % N) 0 (ap (λ n. n % N) (nothing a) ∙ mod-eq_of_lt (pow_pos (at ws t))) (zero_makes t i a ps 0 refl b is.low)
 
-      remaining : (c : Bool) → is_number 1 l ≡ c → (q : Option Made) → QuotientMakes q → LiteralMakes op.RemainderUnsigned (if c then Some (put ps t (form.Literal 0)) else given q (λ m. Some (remainder l.magnitude t i m)))
+      remaining : (c : Bool) → is_number 1 l ≡ c → (q : Option Made) → QuotientMakes q → LiteralMakes op.RemainderUnsigned (if c then Some (push_expr ps t (form.Literal 0)) else given q (λ m. Some (remainder l.magnitude t i m)))
       unfolding remainder_of
       remaining true e q h =
           let z = number_is 1 e one_below in
@@ -372,7 +372,7 @@ module _ (W : ℕ) (vs ws : List ℕ) where
           }
 
       -- no signed remainder is left by 1; where the division overflows, it is 0 too
-      none_left : (c : Bool) → is_number 1 l ≡ c → LiteralMakes op.RemainderSigned (if c then Some (put ps t (form.Literal 0)) else None)
+      none_left : (c : Bool) → is_number 1 l ≡ c → LiteralMakes op.RemainderSigned (if c then Some (push_expr ps t (form.Literal 0)) else None)
       none_left false e = tt
       none_left true e =
           let z = number_is 1 e one_below in

@@ -28,7 +28,7 @@ use Rattle.width_claims.specs.Right.{AreNarrower, IsBelow}
 use Rattle.user_patterns_instructions.specs.declared.operand.Poison.{Poison}
 use Rattle.user_patterns_instructions.specs.declared.operand.Poison.TheVariants as poison
 use Rattle.user_patterns_instructions.specs.declared.operand.Operand.{Operand}
-use Rattle.user_patterns_instructions.specs.Expressions.{Flagged, Made, Result, cast_value, chosen_poison, compare_result, compare_value, divide_by, divide_result, either, first_result, first_there, is_narrower, is_number, is_shift, left_literal, literal_times, operand, operands_value, other_result, pair_result, pair_value, put, resize_result, result, right_literal, select_made, select_poison, select_result, shift, shift_by, shift_result, shifted, strict, too_far, with_literal}
+use Rattle.user_patterns_instructions.specs.Expressions.{Flagged, Made, Result, cast_value, chosen_poison, compare_result, compare_value, divide_by, divide_result, either, first_result, first_there, is_narrower, is_number, is_shift, left_literal, literal_times, operand, operands_value, other_result, pair_result, pair_value, push_expr, resize_result, result, right_literal, select_made, select_poison, select_result, shift, shift_by, shift_result, shifted, strict, too_far, with_literal}
 use Rattle.user_patterns_instructions.proofs.PatternOps.{Base, Grown, Is, Makes, base_on, grown_next, makes_next, makes_same, same}
 use Rattle.user_patterns_instructions.proofs.Ranges.{value_below}
 use Rattle.user_patterns_instructions.proofs.Shifting.{Shifts, ShiftsSome, far_is, shifts}
@@ -267,7 +267,7 @@ module _ (W : ℕ) (vs : List ℕ) (js : List BitsKind) (first : kind_at js 0 �
       far_makes : (qs : List Expr) (n : ℕ) → Base W vs widths qs → Makes W vs widths qs (too_far n x.ty qs) 0 (truth (not (nat_lt n (at widths x.ty))))
       far_makes qs n b =
           let w = at widths x.ty in
-          let m = put qs x.ty (form.Literal (2 ^ n)) in
+          let m = push_expr qs x.ty (form.Literal (2 ^ n)) in
           let a = put_number W vs widths qs b x.ty (2 ^ n) s.number_is.low in
           let c = base_on W vs widths qs m.0 b a.grown in
           let power = wrapped w (literal_number false (2 ^ n)) in
@@ -388,9 +388,9 @@ module _ (W : ℕ) (vs : List ℕ) (js : List BitsKind) (first : kind_at js 0 �
       pub select_gives : (c : Operand) (d : Outcome) → Stands ps c d → GivesSome ps (select_outcome d p q) (select_result c x y ps)
       select_gives c d k = go ((c.ty == 0) && (x.ty == y.ty)) refl
         where
-          made_is : (c.ty == 0) ≡ true → (x.ty == y.ty) ≡ true → Gives ps (select_outcome d p q) (select_made c x y (put ps x.ty (form.Select c.value x.value y.value)))
+          made_is : (c.ty == 0) ≡ true → (x.ty == y.ty) ≡ true → Gives ps (select_outcome d p q) (select_made c x y (push_expr ps x.ty (form.Select c.value x.value y.value)))
           made_is z e =
-              let m = put ps x.ty (form.Select c.value x.value y.value) in
+              let m = push_expr ps x.ty (form.Select c.value x.value y.value) in
               let a = put_select W vs widths ps base x.value y.value x.ty s.number u.number s.number_is (of_type e) c.value c.ty k.number k.number_is in
               let b = base_on W vs widths ps m.0 base a.grown in
               let chosen = chosen_is W vs widths m.0 b c.value c.ty k.number (a.grown.kept c.value c.ty k.number k.number_is) x.poison y.poison s.poisoned u.poisoned
@@ -401,7 +401,7 @@ module _ (W : ℕ) (vs : List ℕ) (js : List BitsKind) (first : kind_at js 0 �
               gives_flagged ps (select_outcome d p q) m (select_poison c x y m.0) x.ty (choice_of k.number s.number u.number) (k.poisoned || choice_of k.number s.poisoned u.poisoned) a flags
               ((λ r. select_outcome (condition r) (s.is r) (same_kind_of e r)) ∙ select_of (kind_at js x.ty) k.number s.number u.number k.poisoned s.poisoned u.poisoned)
 
-          go : (b : Bool) → ((c.ty == 0) && (x.ty == y.ty)) ≡ b → GivesSome ps (select_outcome d p q) (if b then Some (select_made c x y (put ps x.ty (form.Select c.value x.value y.value))) else None)
+          go : (b : Bool) → ((c.ty == 0) && (x.ty == y.ty)) ≡ b → GivesSome ps (select_outcome d p q) (if b then Some (select_made c x y (push_expr ps x.ty (form.Select c.value x.value y.value))) else None)
           go false e = tt
           go true e = let h = and_parts (c.ty == 0) (x.ty == y.ty) e in made_is h.0 h.1
 
@@ -416,7 +416,7 @@ module _ (W : ℕ) (vs : List ℕ) (js : List BitsKind) (first : kind_at js 0 �
     CastMakes c t u n (Some m) = IsCast c t u n m
 
     module _ (ns : List Narrower) (narrow : AreNarrower widths ns) (t : ℕ) (low : IsBelow W (at widths t)) where
-      cut_makes : (u i n : ℕ) → Is W vs widths ps i u n → (b : Bool) → is_narrower ns t u ≡ b → CastMakes cast.Truncate t u n (if b then Some (put ps t (form.Cut i)) else None)
+      cut_makes : (u i n : ℕ) → Is W vs widths ps i u n → (b : Bool) → is_narrower ns t u ≡ b → CastMakes cast.Truncate t u n (if b then Some (push_expr ps t (form.Cut i)) else None)
       unfolding truncated
       cut_makes u i n is false e = tt
       cut_makes u i n is true e =

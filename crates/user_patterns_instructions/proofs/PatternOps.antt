@@ -6,7 +6,7 @@ use Rattle.width_claims.specs.declared.form.Form.{Form}
 use Rattle.width_claims.specs.declared.form.Expr.{Expr}
 use Rattle.width_claims.specs.PatternOpValues.{at, pattern_op_value, pattern_op_values}
 use Rattle.width_claims.specs.Right.{AreRight, Has, IsBelow, IsRight}
-use Rattle.user_patterns_instructions.specs.Expressions.{Made, put}
+use Rattle.user_patterns_instructions.specs.Expressions.{Made, push_expr}
 
 abbrev pub pattern_op_types : List Expr → List ℕ
 pattern_op_types ps = map Expr.ty ps
@@ -69,7 +69,7 @@ module _ (W : ℕ) (vs ws : List ℕ) where
     pub is : Is m.0 m.1 t v
 
   pub made : (ps : List Expr) (t : ℕ) (f : Form) (v : ℕ) → AreRight W ws ps [] → IsBelow W (at ws t) → IsRight W ws (pattern_op_types ps) (at ws t) f → pattern_op_value ws vs (at ws t) f (values ps) ≡ v
-      → Makes ps (put ps t f) t v
+      → Makes ps (push_expr ps t f) t v
   made ps t f v r b i e =
       let q : Expr = record { form = f; ty = t } in
       let x = pattern_op_value ws vs (at ws t) f (values ps) in

@@ -21,7 +21,7 @@ use Rattle.user_patterns_check.specs.Outcomes.{divides, is_signed_remainder}
 use Rattle.width_claims.specs.declared.form.Form.TheVariants as form
 use Rattle.width_claims.specs.declared.form.Expr.{Expr}
 use Rattle.width_claims.specs.PatternOpValues.{at}
-use Rattle.user_patterns_instructions.specs.Expressions.{Made, exchanged, put, right_of, right_signed, shifted}
+use Rattle.user_patterns_instructions.specs.Expressions.{Made, exchanged, push_expr, right_of, right_signed, shifted}
 use Rattle.user_patterns_instructions.proofs.PatternOps.{Base, Is, Makes, base_on, makes_next, makes_same, same}
 use Rattle.user_patterns_instructions.proofs.Ranges.{value_below}
 use Rattle.user_patterns_instructions.proofs.Forms.{put_less_signed, put_negative, put_number, put_quotient, put_select, put_xor}
@@ -147,7 +147,7 @@ module _ (W : ℕ) (vs ws : List ℕ) where
       exchanged_makes ps m x b sign all h =
           let d = base_on W vs ws ps m.0 b h.grown in
           let e = put_xor W vs ws m.0 d m.1 z t x ones h.is (h.grown.kept z t ones all) in
-          let y = put m.0 t (form.ExclusiveOr m.1 z) in
+          let y = push_expr m.0 t (form.ExclusiveOr m.1 z) in
           let f = base_on W vs ws m.0 y.0 d e.grown in
           let last = put_select W vs ws y.0 f y.1 m.1 t (bit_xor x ones) x e.is (e.grown.kept m.1 t x h.is) c 0 s (e.grown.kept c 0 s (h.grown.kept c 0 s sign)) in
           makes_next W vs ws ps m (exchanged c z t m) t t x (choice_of s (bit_xor x ones) x) h (makes_next W vs ws m.0 y (exchanged c z t m) t t (bit_xor x ones) (choice_of s (bit_xor x ones) x) e last)
@@ -168,14 +168,14 @@ module _ (W : ℕ) (vs ws : List ℕ) where
       signed_makes : Makes W vs ws ps (right_signed n t i ps) t (wrapped w (int_shr (signed_of w a) n))
       signed_makes =
           let p = pow_pos w in
-          let zero = put ps t (form.Literal 0) in
+          let zero = push_expr ps t (form.Literal 0) in
           let zero_made = makes_same W vs ws ps zero t (wrapped w (literal_number false 0)) 0 (sym (literal_low w 0 p)) (put_number W vs ws ps b t 0 is.low) in
           let b1 = base_on W vs ws ps zero.0 b zero_made.grown in
-          let ones = put zero.0 t (form.Negative 1) in
+          let ones = push_expr zero.0 t (form.Negative 1) in
           let ones_made = put_negative W vs ws zero.0 b1 t 1 is.low one_below in
           let b2 = base_on W vs ws zero.0 ones.0 b1 ones_made.grown in
           let here = ones_made.grown.kept i t a (zero_made.grown.kept i t a is) in
-          let less = put ones.0 0 (form.LessSigned t i zero.1) in
+          let less = push_expr ones.0 0 (form.LessSigned t i zero.1) in
           let less_made = put_less_signed W vs ws ones.0 b2 i zero.1 t a 0 here (ones_made.grown.kept zero.1 t 0 zero_made.is) in
           let b3 = base_on W vs ws ones.0 less.0 b2 less_made.grown in
           let all = less_made.grown.kept ones.1 t all_ones ones_made.is in

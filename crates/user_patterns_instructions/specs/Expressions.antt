@@ -92,68 +92,68 @@ is_narrower ns s t = list_any (λ (n : Narrower). (n.narrow == s) && (n.wide == 
 abbrev pub Made : Type 0
 Made = List Expr × ℕ
 
-abbrev pub put : List Expr → ℕ → Form → Made
-put ps t f = (ps ++ (record { form = f; ty = t } ∷ []), length ps)
+abbrev pub push_expr : List Expr → ℕ → Form → Made
+push_expr ps t f = (ps ++ (record { form = f; ty = t } ∷ []), length ps)
 
 -- the negation of a truth; expressions 0 and 1 are the numbers 0 and 1
 abbrev pub negated : Made → Made
-negated m = put m.0 0 (form.ExclusiveOr m.1 1)
+negated m = push_expr m.0 0 (form.ExclusiveOr m.1 1)
 
 -- the one of two values that a truth selects
 abbrev pub chosen : Made → ℕ → ℕ → ℕ → Made
-chosen m t i j = put m.0 t (form.Select m.1 i j)
+chosen m t i j = push_expr m.0 t (form.Select m.1 i j)
 
 abbrev pub compare_value : Predicate → ℕ → ℕ → ℕ → List Expr → Made
-compare_value asks.Equal t i j ps = put ps 0 (form.Same i j)
-compare_value asks.NotEqual t i j ps = negated (put ps 0 (form.Same i j))
-compare_value asks.SignedLess t i j ps = put ps 0 (form.LessSigned t i j)
-compare_value asks.SignedLessOrEqual t i j ps = negated (put ps 0 (form.LessSigned t j i))
-compare_value asks.SignedGreater t i j ps = put ps 0 (form.LessSigned t j i)
-compare_value asks.SignedGreaterOrEqual t i j ps = negated (put ps 0 (form.LessSigned t i j))
-compare_value asks.UnsignedLess t i j ps = put ps 0 (form.Less i j)
-compare_value asks.UnsignedLessOrEqual t i j ps = negated (put ps 0 (form.Less j i))
-compare_value asks.UnsignedGreater t i j ps = put ps 0 (form.Less j i)
-compare_value asks.UnsignedGreaterOrEqual t i j ps = negated (put ps 0 (form.Less i j))
+compare_value asks.Equal t i j ps = push_expr ps 0 (form.Same i j)
+compare_value asks.NotEqual t i j ps = negated (push_expr ps 0 (form.Same i j))
+compare_value asks.SignedLess t i j ps = push_expr ps 0 (form.LessSigned t i j)
+compare_value asks.SignedLessOrEqual t i j ps = negated (push_expr ps 0 (form.LessSigned t j i))
+compare_value asks.SignedGreater t i j ps = push_expr ps 0 (form.LessSigned t j i)
+compare_value asks.SignedGreaterOrEqual t i j ps = negated (push_expr ps 0 (form.LessSigned t i j))
+compare_value asks.UnsignedLess t i j ps = push_expr ps 0 (form.Less i j)
+compare_value asks.UnsignedLessOrEqual t i j ps = negated (push_expr ps 0 (form.Less j i))
+compare_value asks.UnsignedGreater t i j ps = push_expr ps 0 (form.Less j i)
+compare_value asks.UnsignedGreaterOrEqual t i j ps = negated (push_expr ps 0 (form.Less i j))
 
 -- an operation on two values of a type
 abbrev pub pair_value : Arithmetic → ℕ → ℕ → ℕ → List Expr → Option Made
-pair_value op.Add t i j ps = Some (put ps t (form.Add i j))
-pair_value op.Subtract t i j ps = Some (put ps t (form.Subtract i j))
-pair_value op.And t i j ps = Some (put ps t (form.And i j))
-pair_value op.Or t i j ps = Some (put ps t (form.Or i j))
-pair_value op.ExclusiveOr t i j ps = Some (put ps t (form.ExclusiveOr i j))
-pair_value op.MaximumSigned t i j ps = Some (chosen (put ps 0 (form.LessSigned t i j)) t j i)
-pair_value op.MaximumUnsigned t i j ps = Some (chosen (put ps 0 (form.Less i j)) t j i)
-pair_value op.MinimumSigned t i j ps = Some (chosen (put ps 0 (form.LessSigned t j i)) t j i)
-pair_value op.MinimumUnsigned t i j ps = Some (chosen (put ps 0 (form.Less j i)) t j i)
+pair_value op.Add t i j ps = Some (push_expr ps t (form.Add i j))
+pair_value op.Subtract t i j ps = Some (push_expr ps t (form.Subtract i j))
+pair_value op.And t i j ps = Some (push_expr ps t (form.And i j))
+pair_value op.Or t i j ps = Some (push_expr ps t (form.Or i j))
+pair_value op.ExclusiveOr t i j ps = Some (push_expr ps t (form.ExclusiveOr i j))
+pair_value op.MaximumSigned t i j ps = Some (chosen (push_expr ps 0 (form.LessSigned t i j)) t j i)
+pair_value op.MaximumUnsigned t i j ps = Some (chosen (push_expr ps 0 (form.Less i j)) t j i)
+pair_value op.MinimumSigned t i j ps = Some (chosen (push_expr ps 0 (form.LessSigned t j i)) t j i)
+pair_value op.MinimumUnsigned t i j ps = Some (chosen (push_expr ps 0 (form.Less j i)) t j i)
 pair_value _ t i j ps = None
 
 -- a cast of a value of type u to type t; a truncation must be to a narrower type
 abbrev pub cast_value : List Narrower → Cast → ℕ → ℕ → ℕ → List Expr → Option Made
-cast_value ns cast.ExtendSigned t u i ps = Some (put ps t (form.Resize u i))
-cast_value ns cast.ExtendUnsigned t u i ps = Some (put ps t (form.Cut i))
-cast_value ns cast.Truncate t u i ps = if is_narrower ns t u then Some (put ps t (form.Cut i)) else None
+cast_value ns cast.ExtendSigned t u i ps = Some (push_expr ps t (form.Resize u i))
+cast_value ns cast.ExtendUnsigned t u i ps = Some (push_expr ps t (form.Cut i))
+cast_value ns cast.Truncate t u i ps = if is_narrower ns t u then Some (push_expr ps t (form.Cut i)) else None
 
 abbrev pub literal_form : Literal → Form
 literal_form l = if l.negative then form.Negative l.magnitude else form.Literal l.magnitude
 
 -- the product of the value at a place and n by doubling and adding; n is at most the first number
 abbrev pub twice : ℕ → Made → Made
-twice t m = put m.0 t (form.Add m.1 m.1)
+twice t m = push_expr m.0 t (form.Add m.1 m.1)
 
 abbrev pub one_more : Bool → ℕ → ℕ → Made → Made
-one_more more t i m = if more then put m.0 t (form.Add m.1 i) else m
+one_more more t i m = if more then push_expr m.0 t (form.Add m.1 i) else m
 
 abbrev pub times : ℕ → ℕ → ℕ → ℕ → List Expr → Made
-times zero n t i ps = put ps t (form.Literal 0)
-times (suc k) n t i ps = if n == 0 then put ps t (form.Literal 0) else if n == 1 then put ps t (form.Cut i) else one_more (n % 2 == 1) t i (twice t (times k (n / 2) t i ps))
+times zero n t i ps = push_expr ps t (form.Literal 0)
+times (suc k) n t i ps = if n == 0 then push_expr ps t (form.Literal 0) else if n == 1 then push_expr ps t (form.Cut i) else one_more (n % 2 == 1) t i (twice t (times k (n / 2) t i ps))
 
 -- the negation of a value
 abbrev pub negative_of : ℕ → ℕ → Made → Made
-negative_of t i m = put m.0 t (form.Subtract m.1 i)
+negative_of t i m = push_expr m.0 t (form.Subtract m.1 i)
 
 abbrev pub opposite : ℕ → Made → Made
-opposite t m = negative_of t m.1 (put m.0 t (form.Literal 0))
+opposite t m = negative_of t m.1 (push_expr m.0 t (form.Literal 0))
 
 abbrev pub multiple : Literal → ℕ → ℕ → List Expr → Made
 multiple l t i ps = if l.negative then opposite t (times l.magnitude l.magnitude t i ps) else times l.magnitude l.magnitude t i ps
@@ -164,14 +164,14 @@ is_number n l = not l.negative && (l.magnitude == n)
 -- the quotient of the value at a place by n, if n is from 1 to 2^32
 abbrev pub quotient : ℕ → ℕ → ℕ → List Expr → Option Made
 quotient n t i ps =
-    if n == 1 then Some (ps, i) else if n == 0 then None else if nat_le n 4294967296 then Some (put ps t (form.Quotient i (n - 1))) else None
+    if n == 1 then Some (ps, i) else if n == 0 then None else if nat_le n 4294967296 then Some (push_expr ps t (form.Quotient i (n - 1))) else None
 
 abbrev pub quotient_by : Literal → ℕ → ℕ → List Expr → Option Made
 quotient_by l t i ps = if l.negative then None else quotient l.magnitude t i ps
 
 -- the value without a product
 abbrev pub without : ℕ → ℕ → Made → Made
-without t i m = put m.0 t (form.Subtract i m.1)
+without t i m = push_expr m.0 t (form.Subtract i m.1)
 
 -- the remainder: the value without the product of the quotient and the divisor
 abbrev pub remainder : ℕ → ℕ → ℕ → Made → Made
@@ -179,17 +179,17 @@ remainder n t i m = without t i (times n n t m.1 m.0)
 
 abbrev pub remainder_by : Literal → ℕ → ℕ → List Expr → Option Made
 remainder_by l t i ps =
-    if is_number 1 l then Some (put ps t (form.Literal 0)) else given (quotient_by l t i ps) (λ m. Some (remainder l.magnitude t i m))
+    if is_number 1 l then Some (push_expr ps t (form.Literal 0)) else given (quotient_by l t i ps) (λ m. Some (remainder l.magnitude t i m))
 
 -- an operation on a value of a type and a literal
 abbrev pub with_literal : Arithmetic → ℕ → ℕ → Literal → List Expr → Option Made
 with_literal op.Multiply t i l ps = Some (multiple l t i ps)
-with_literal op.ShiftLeft t i l ps = if is_number 0 l then Some (put ps t (form.Cut i)) else None
+with_literal op.ShiftLeft t i l ps = if is_number 0 l then Some (push_expr ps t (form.Cut i)) else None
 with_literal op.ShiftRightUnsigned t i l ps = if is_number 0 l then Some (ps, i) else None
-with_literal op.ShiftRightSigned t i l ps = if is_number 0 l then Some (put ps t (form.Resize t i)) else None
+with_literal op.ShiftRightSigned t i l ps = if is_number 0 l then Some (push_expr ps t (form.Resize t i)) else None
 with_literal op.DivideUnsigned t i l ps = quotient_by l t i ps
 with_literal op.RemainderUnsigned t i l ps = remainder_by l t i ps
-with_literal op.RemainderSigned t i l ps = if is_number 1 l then Some (put ps t (form.Literal 0)) else None
+with_literal op.RemainderSigned t i l ps = if is_number 1 l then Some (push_expr ps t (form.Literal 0)) else None
 with_literal _ t i l ps = None
 
 -- a literal times a value
@@ -212,7 +212,7 @@ either poison.Never g ps = (ps, g)
 either poison.Always g ps = (ps, poison.Always)
 either (poison.When i) poison.Never ps = (ps, poison.When i)
 either (poison.When i) poison.Always ps = (ps, poison.Always)
-either (poison.When i) (poison.When j) ps = flag_by (put ps 0 (form.Or i j))
+either (poison.When i) (poison.When j) ps = flag_by (push_expr ps 0 (form.Or i j))
 
 -- the place of a flag's expression
 abbrev pub flag_place : Poison → ℕ
@@ -224,7 +224,7 @@ flag_place (poison.When i) = i
 abbrev pub chosen_poison : ℕ → Poison → Poison → List Expr → Flagged
 chosen_poison c poison.Never poison.Never ps = (ps, poison.Never)
 chosen_poison c poison.Always poison.Always ps = (ps, poison.Always)
-chosen_poison c f g ps = flag_by (put ps 0 (form.Select c (flag_place f) (flag_place g)))
+chosen_poison c f g ps = flag_by (push_expr ps 0 (form.Select c (flag_place f) (flag_place g)))
 
 -- ---- operands
 
@@ -270,27 +270,27 @@ operands_value o x y ps = first_there (right_literal o x y ps) (first_there (lef
 
 -- a value shifted to the right by n bits: its quotient by 2^n
 abbrev pub right_of : ℕ → ℕ → Made → Made
-right_of n t m = put m.0 t (form.Quotient m.1 (2 ^ n - 1))
+right_of n t m = push_expr m.0 t (form.Quotient m.1 (2 ^ n - 1))
 
 -- a value whose bits are exchanged if the truth at place c is 1; the value at place m is -1
 abbrev pub exchanged_if : ℕ → ℕ → ℕ → Made → Made
-exchanged_if c t i m = put m.0 t (form.Select c m.1 i)
+exchanged_if c t i m = push_expr m.0 t (form.Select c m.1 i)
 
 abbrev pub exchanged : ℕ → ℕ → ℕ → Made → Made
-exchanged c m t r = exchanged_if c t r.1 (put r.0 t (form.ExclusiveOr r.1 m))
+exchanged c m t r = exchanged_if c t r.1 (push_expr r.0 t (form.ExclusiveOr r.1 m))
 
 -- a signed value shifted to the right: if it is negative, its bits are exchanged before and after
 abbrev pub by_sign : ℕ → ℕ → ℕ → ℕ → Made → Made
 by_sign m n t i c = exchanged c.1 m t (right_of n t (exchanged c.1 m t (c.0, i)))
 
 abbrev pub with_ones : ℕ → ℕ → ℕ → ℕ → Made → Made
-with_ones n t i z m = by_sign m.1 n t i (put m.0 0 (form.LessSigned t i z))
+with_ones n t i z m = by_sign m.1 n t i (push_expr m.0 0 (form.LessSigned t i z))
 
 abbrev pub with_zero : ℕ → ℕ → ℕ → Made → Made
-with_zero n t i z = with_ones n t i z.1 (put z.0 t (form.Negative 1))
+with_zero n t i z = with_ones n t i z.1 (push_expr z.0 t (form.Negative 1))
 
 abbrev pub right_signed : ℕ → ℕ → ℕ → List Expr → Made
-right_signed n t i ps = with_zero n t i (put ps t (form.Literal 0))
+right_signed n t i ps = with_zero n t i (push_expr ps t (form.Literal 0))
 
 abbrev pub shifted : Arithmetic → ℕ → ℕ → ℕ → List Expr → Option Made
 shifted op.ShiftLeft n t i ps = Some (times (2 ^ n) (2 ^ n) t i ps)
@@ -300,10 +300,10 @@ shifted _ n t i ps = None
 
 -- the shift is poison if 2^n isn't a number of the type
 abbrev pub is_none : Made → Made
-is_none m = put m.0 0 (form.Same 0 m.1)
+is_none m = push_expr m.0 0 (form.Same 0 m.1)
 
 abbrev pub too_far : ℕ → ℕ → List Expr → Made
-too_far n t ps = is_none (put ps t (form.Literal (2 ^ n)))
+too_far n t ps = is_none (push_expr ps t (form.Literal (2 ^ n)))
 
 abbrev pub shift_result : ℕ → Poison → Made → Made → Result
 shift_result t f m far = strict (far.0, m.1) t f (poison.When far.1)
@@ -353,7 +353,7 @@ select_made c x y m = result m.1 x.ty (select_poison c x y m.0)
 
 abbrev pub select_result : Operand → Operand → Operand → List Expr → Option Result
 select_result c x y ps =
-    if (c.ty == 0) && (x.ty == y.ty) then Some (select_made c x y (put ps x.ty (form.Select c.value x.value y.value))) else None
+    if (c.ty == 0) && (x.ty == y.ty) then Some (select_made c x y (push_expr ps x.ty (form.Select c.value x.value y.value))) else None
 
 abbrev pub resize_result : List Narrower → Cast → ℕ → Operand → List Expr → Option Result
 resize_result ns c t x ps = given (cast_value ns c t x.ty x.value ps) (λ m. Some (result m.1 t (m.0, x.poison)))

@@ -3,7 +3,7 @@ ghost use Rattle.std.specs.Prelude.{◌≡◌, IfOk};
 ghost use Rattle.user_patterns_instructions.specs.Code.{IsFlagged};
 ghost use Rattle.user_patterns_instructions.specs.declared.operand.Poison.TheVariants.{When};
 ghost use Rattle.width_claims.specs.declared.form.Form.TheVariants as form;
-ghost use Rattle.user_patterns_instructions.specs.Expressions.{chosen_poison, either, flag_by, flag_place, put};
+ghost use Rattle.user_patterns_instructions.specs.Expressions.{chosen_poison, either, flag_by, flag_place, push_expr};
 
 use crate::operand::Poison;
 use crate::values::push_expr;
@@ -50,7 +50,7 @@ fn select_flag(
     g: &Poison,
     exprs: &mut Vec<Expr>,
 ) -> Result<Poison, AllocError>
-    ensures { IfOk result (IsFlagged (flag_by (put exprs.old.items 0 (form.Select c (flag_place f.now) (flag_place g.now)))) exprs.new.items) }
+    ensures { IfOk result (IsFlagged (flag_by (push_expr exprs.old.items 0 (form.Select c (flag_place f.now) (flag_place g.now)))) exprs.new.items) }
 {
     let place = push_expr(exprs, 0, Form::Select(c, flag_place(f), flag_place(g)))?;
     Ok(Poison::When(place))

@@ -1,7 +1,7 @@
 //! The expressions of values.
 ghost use Rattle.std.specs.Prelude.{◌≡◌, IfOk};
 ghost use Rattle.user_patterns_instructions.specs.Code.{IsMade, IsMadeIf};
-ghost use Rattle.user_patterns_instructions.specs.Expressions.{cast_value, chosen, compare_value, is_narrower, literal_form, negated, pair_value, put};
+ghost use Rattle.user_patterns_instructions.specs.Expressions.{cast_value, chosen, compare_value, is_narrower, literal_form, negated, pair_value, push_expr};
 
 use dialects_int::operations::{Arithmetic, Cast, Predicate};
 use std::alloc::AllocError;
@@ -11,7 +11,7 @@ use width_claims::width::Narrower;
 
 /// Appends an expression, and returns its place.
 pub fn push_expr(exprs: &mut Vec<Expr>, ty: usize, form: Form) -> Result<usize, AllocError>
-    ensures { IfOk result (IsMade (put exprs.old.items ty form) exprs.new.items) }
+    ensures { IfOk result (IsMade (push_expr exprs.old.items ty form) exprs.new.items) }
 {
     let place = exprs.len();
     exprs.push(Expr { form, ty })?;
@@ -20,7 +20,7 @@ pub fn push_expr(exprs: &mut Vec<Expr>, ty: usize, form: Form) -> Result<usize, 
 
 /// Appends a truth and its negation.
 fn push_negated(exprs: &mut Vec<Expr>, form: Form) -> Result<usize, AllocError>
-    ensures { IfOk result (IsMade (negated (put exprs.old.items 0 form)) exprs.new.items) }
+    ensures { IfOk result (IsMade (negated (push_expr exprs.old.items 0 form)) exprs.new.items) }
 {
     let place = push_expr(exprs, 0, form)?;
     push_expr(exprs, 0, Form::ExclusiveOr(place, 1))
@@ -34,7 +34,7 @@ fn push_chosen(
     i: usize,
     j: usize,
 ) -> Result<usize, AllocError>
-    ensures { IfOk result (IsMade (chosen (put exprs.old.items 0 form) ty i j) exprs.new.items) }
+    ensures { IfOk result (IsMade (chosen (push_expr exprs.old.items 0 form) ty i j) exprs.new.items) }
 {
     let place = push_expr(exprs, 0, form)?;
     push_expr(exprs, ty, Form::Select(place, i, j))

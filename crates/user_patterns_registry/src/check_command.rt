@@ -243,7 +243,7 @@ fn check_result(
 }
 
 /// Checks the pattern up to width `most`.
-fn tried(
+fn check_samples(
     alloc: Global,
     pattern: &Pattern,
     requested: Option<u64>,
@@ -283,5 +283,5 @@ pub fn check_pattern(
     if most < 1 || most > MOST_REQUESTED {
         return Err(Refusal::BadLimit);
     }
-    tried(alloc, pattern, requested, most as u32)
+    check_samples(alloc, pattern, requested, most as u32)
 }

@@ -88,7 +88,7 @@ closed_parts : (preceding items : List Part) (p : Part) (xs : List Placed) (at :
 closed_parts preceding items p xs at e =
     unplaced_and xs at end_part ∙ ap (λ (ps : List Part). ps ++ end_part ∷ []) (e ∙ append_assoc preceding (p ∷ []) items) ∙ append_assoc preceding (p ∷ items) (end_part ∷ [])
 
-name_matches : (at : ℕ) (w : List ℕ) (s : State) → Matches number_parts (unplaced s.0) (Ok (reading.put at (name_part w) s)) (Some (named w, s.1))
+name_matches : (at : ℕ) (w : List ℕ) (s : State) → Matches number_parts (unplaced s.0) (Ok (reading.add_part at (name_part w) s)) (Some (named w, s.1))
 unfolding number_parts
 name_matches at w s = (unplaced_and s.0 at (name_part w), refl)
 
@@ -162,7 +162,7 @@ requested_by_same may must name s = requested_from_same may must name s (after L
 value_matches : (at : ℕ) (n : List ℕ) (s : State) → Matches term_parts (unplaced s.0) (reading.value_from at n s) (plain.value_from n s.1)
 unfolding term_parts
 value_matches at n s =
-    matches_into type_parts term_parts (unplaced (reading.and s.0 at (value_part n))) (unplaced s.0) _ (plain.typed s.1) _ (typed_matches (reading.put at (value_part n) s))
+    matches_into type_parts term_parts (unplaced (reading.and s.0 at (value_part n))) (unplaced s.0) _ (plain.typed s.1) _ (typed_matches (reading.add_part at (value_part n) s))
     (λ x ty e. (e ∙ ap (λ (ps : List Part). ps ++ type_parts ty) (unplaced_and s.0 at (value_part n)) ∙ append_assoc (unplaced s.0) (value_part n ∷ []) (type_parts ty), refl))
 
 terms_flat : (ts : List Term) → terms_parts (terms_of ts) ≡ flats term_parts ts

@@ -21,15 +21,15 @@ Step = State → Outcome State
 abbrev pub and : List Placed → ℕ → Part → List Placed
 and ps left p = ps ++ (left, p) ∷ []
 
-abbrev pub put : ℕ → Part → State → State
-put left p s = (and s.0 left p, s.1)
+abbrev pub add_part : ℕ → Part → State → State
+add_part left p s = (and s.0 left p, s.1)
 
 abbrev pub refuse : TextRefusal → ℕ → Step
 refuse r left s = refused r left
 
 -- adds the end of a list
 abbrev pub ended : State → State
-ended s = put (length s.1) end_part s
+ended s = add_part (length s.1) end_part s
 
 -- ---- lists
 
@@ -80,7 +80,7 @@ typed_at s = typed_from s (after Colon s.1)
 -- ---- numbers
 
 abbrev pub literal_from : ℕ → ℕ → Bool → Option ℕ → Step
-literal_from at digits negative (Some n) s = Ok (put at (literal_part negative n) s)
+literal_from at digits negative (Some n) s = Ok (add_part at (literal_part negative n) s)
 literal_from at digits negative None s = refused BadValue digits
 
 abbrev pub magnitude_from : ℕ → ℕ → Head → Step
@@ -98,7 +98,7 @@ magnitude_at at s = token_at s.1 >>= λ t. magnitude_from at (begins s.1) (head_
 module _ (number : Step) where
   abbrev pub call_from : ℕ → List ℕ → State → Option Text → Outcome State
   call_from at w s (Some rest) = more_at CloseRound number most (and s.0 at (function_part w), rest) >>= λ x. Ok (ended x)
-  call_from at w s None = Ok (put at (name_part w) s)
+  call_from at w s None = Ok (add_part at (name_part w) s)
 
   -- the rest of a number after its word: a name, or a function with its operands
   unfoldable pub call_at : ℕ → List ℕ → Step
@@ -133,7 +133,7 @@ number_at (suc depth) s = token_at s.1 >>= λ t. number_from (number_at depth) (
 abbrev pub old_number_from : ℕ → Head → Step
 old_number_from at (of_digits ds) = literal_from at at false (magnitude_of ds)
 old_number_from at of_minus = magnitude_at at
-old_number_from at (of_word w) = λ s. Ok (put at (name_part w) s)
+old_number_from at (of_word w) = λ s. Ok (add_part at (name_part w) s)
 old_number_from at (of_value n) = refuse Unexpected at
 old_number_from at (of_operation w) = refuse Unexpected at
 old_number_from at of_other = refuse Unexpected at
@@ -155,7 +155,7 @@ requested_by may must name s = requested_from may must name s (after Less s)
 
 -- the rest of a value after its name
 abbrev pub value_from : ℕ → List ℕ → Step
-value_from at n s = typed_at (put at (value_part n) s)
+value_from at n s = typed_at (add_part at (value_part n) s)
 
 -- the constraint and the opening parenthesis after the name of an operation
 unfoldable pub opened_at : Bool → ℕ → List ℕ → Step

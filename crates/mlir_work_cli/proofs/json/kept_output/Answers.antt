@@ -3,7 +3,7 @@ use Rattle.mlir_work_run.specs.session.Writes.{Stream}
 use Rattle.mlir_work_run.specs.session.Panels.{all_shown}
 use Rattle.mlir_work_run.specs.session.Registry.{registry_model}
 use Rattle.mlir_work_run.specs.Whole.{IsOutput, setting_with}
-use Rattle.mlir_work_cli.proofs.Told.{kept_reads, kept_so, kept_whole}
+use Rattle.mlir_work_cli.proofs.JsonEnds.{kept_reads, kept_so, kept_whole}
 use Rattle.mlir_work_cli.proofs.json.kept_output.Goals as goal
 
 pub returns-clause-ran : goal.returns-clause-ran

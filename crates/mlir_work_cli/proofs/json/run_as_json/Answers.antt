@@ -4,7 +4,7 @@ use Rattle.mlir_work_run.specs.session.Panels.{all_shown}
 use Rattle.mlir_work_run.specs.session.Registry.{registry_model}
 use Rattle.mlir_work_run.specs.Whole.{setting_with}
 use Rattle.mlir_work_run.proofs.Statuses.{fault_at}
-use Rattle.mlir_work_cli.proofs.Told.{fault_leaves, if_told, stays_same, told_leaves}
+use Rattle.mlir_work_cli.proofs.JsonEnds.{fault_leaves, if_told, stays_same, told_leaves}
 use Rattle.mlir_work_cli.proofs.json.run_as_json.Goals as goal
 
 pub returns-clause-ran : goal.returns-clause-ran

@@ -1,4 +1,4 @@
-use Rattle.mlir_work_cli.proofs.Told.{flushed}
+use Rattle.mlir_work_cli.proofs.JsonEnds.{flushed}
 use Rattle.mlir_work_cli.proofs.json.written.Goals as goal
 
 pub returns-in-Ok-clause-wrote : goal.returns-in-Ok-clause-wrote

@@ -4,7 +4,7 @@ use Rattle.mlir_work_script_base.specs.Writes.{Writes}
 use Rattle.mlir_work_script_base.proofs.Joins.{preceding_more, puts_join}
 use Rattle.mlir_work_registry.specs.Explained.{explained_line, response_lines}
 use Rattle.mlir_work_registry.specs.Notices.{Notice, notice_of}
-use Rattle.mlir_work_registry.specs.Told.{reply_text, surprise_line}
+use Rattle.mlir_work_registry.specs.ReplyLines.{reply_text, surprise_line}
 use Rattle.mlir_work_registry.proofs.write_notes.write_response.Goals as goal
 
 -- an empty note

@@ -1,6 +1,6 @@
 use Rattle.mlir_work_script_base.proofs.Joins.{puts_join, preceding_more}
 use Rattle.mlir_work_registry.specs.Notices.{notice_of}
-use Rattle.mlir_work_registry.specs.Told.{notice_line, surprise_line}
+use Rattle.mlir_work_registry.specs.ReplyLines.{notice_line, surprise_line}
 use Rattle.mlir_work_registry.proofs.write_replies.write_reply_text.Goals as goal
 
 pub returns-in-Ok : goal.returns-in-Ok

@@ -4,7 +4,7 @@ use Rattle.mlir_work_script_base.specs.Lines.{lines_of}
 use Rattle.mlir_work_script_base.proofs.Joins.{grows_join, preceding_within}
 use Rattle.mlir_work_session.specs.Machine.{response_of}
 use Rattle.mlir_work_transforms.specs.registry.Replies.{is_accepted}
-use Rattle.mlir_work_transforms.specs.registry.Told.{reply_line}
+use Rattle.mlir_work_transforms.specs.registry.ReplyLines.{reply_line}
 use Rattle.mlir_work_session.specs.Output.{Sitting, opening, worse}
 use Rattle.mlir_work_session.proofs.Printing.{more_print, print_step}
 use Rattle.mlir_work_session.proofs.Runs.{run_skipped, some_runs, worse_both, runs_end, filled, emptied}

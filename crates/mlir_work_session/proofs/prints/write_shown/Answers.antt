@@ -1,6 +1,6 @@
 use Rattle.mlir_work_script_base.proofs.Joins.{puts_join, preceding_more}
 use Rattle.mlir_work_session.specs.Machine.{response_of}
-use Rattle.mlir_work_transforms.specs.registry.Told.{reply_line}
+use Rattle.mlir_work_transforms.specs.registry.ReplyLines.{reply_line}
 use Rattle.mlir_work_session.proofs.prints.write_shown.Goals as goal
 
 pub returns-in-Ok : goal.returns-in-Ok

@@ -7,7 +7,7 @@ use Rattle.conversion.specs.rewriter.Held.{module_held}
 use Rattle.conversion.specs.rewriter.Moves.{Recorded}
 use Rattle.conversion.specs.Runs.{Noted}
 use Rattle.std.proofs.Common.{[]}
-use Rattle.mlir_work_transforms.proofs.Told.{Shown, traced_converts, traced_does, traced_journal, traced_lines, traced_on}
+use Rattle.mlir_work_transforms.proofs.TracedConversion.{Shown, traced_converts, traced_does, traced_journal, traced_lines, traced_on}
 use Rattle.mlir_work_transforms.proofs.convert.convert_traced.Goals as goal
 
 pub returns-clause-does : goal.returns-clause-does

@@ -1,4 +1,4 @@
-use Rattle.mlir_work_transforms.proofs.Order.{sweep_for_uses}
+use Rattle.mlir_work_transforms.proofs.EraseOrder.{sweep_for_uses}
 use Rattle.mlir_work_transforms.proofs.laws.sweeps_are_refused_for_uses.Goals as goal
 
 pub returns : goal.returns

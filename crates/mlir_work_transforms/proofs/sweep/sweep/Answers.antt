@@ -1,7 +1,7 @@
 use Rattle.std.proofs.Common.{◌≡◌, refl, [], length, reverse, true, false, Ok, Err, rules}
 use Rattle.conversion.proofs.of_rewriter.Noted.{keeps_left, recorded_none}
 use Rattle.conversion.proofs.of_rewriter.Together.{IsBegun, begun_held}
-use Rattle.mlir_work_transforms.proofs.Order.{refused_for}
+use Rattle.mlir_work_transforms.proofs.EraseOrder.{refused_for}
 use Rattle.mlir_work_transforms.proofs.Sweeping.{sweep_unbegun, sweep_goes, sweep_undone, swept_back, swept_in, swept_journaled, swept_led}
 use Rattle.mlir_work_transforms.proofs.sweep.sweep.Goals as goal
 

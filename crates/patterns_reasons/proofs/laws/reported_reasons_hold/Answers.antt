@@ -1,4 +1,4 @@
-use Rattle.patterns_reasons.proofs.Told as told
+use Rattle.patterns_reasons.proofs.ReportedReasons as told
 use Rattle.patterns_reasons.proofs.laws.reported_reasons_hold.Goals as goal
 
 pub returns : goal.returns

@@ -1,4 +1,4 @@
-use Rattle.patterns_refinement.proofs.Told.{traced_canonicalization_keeps, traced_rewriting_keeps}
+use Rattle.patterns_refinement.proofs.TracedRuns.{traced_canonicalization_keeps, traced_rewriting_keeps}
 use Rattle.patterns_refinement.proofs.rule_refinement.traced_rewrites_refine.Goals as goal
 
 pub returns-clause-rewriting : goal.returns-clause-rewriting

@@ -1,4 +1,4 @@
-use Rattle.rewriter.proofs.Told.{notified_none, notified_more, led_kept, led_ages}
+use Rattle.rewriter.proofs.Notified.{notified_none, notified_more, led_kept, led_ages}
 use Rattle.rewriter.proofs.laws.led_benches_are_kept.Goals as goal
 
 pub returns-clause-kept : goal.returns-clause-kept

@@ -1,6 +1,6 @@
 use Rattle.std.proofs.Common.{◌≡◌, true, true≢false, refl, sym, ◌∙◌, inl, inr, rules}
 use Rattle.ir_event.specs.Modules.{module_in}
-use Rattle.constants.proofs.Told.{followed_facts, followed_looks}
+use Rattle.constants.proofs.Notified.{followed_facts, followed_looks}
 use Rattle.constants.specs.Tables.{known_in}
 use Rattle.constants.proofs.constants.ConstantsAnalysis.told.Goals as goal
 

@@ -1,7 +1,7 @@
 use Rattle.std.proofs.Common.{[], IsTrue, subst}
 use Rattle.rewriter.proofs.OpenMarks.{unmarked}
 use Rattle.rewriter.proofs.Rolled.{commit_goes, commit_led, commit_untold, closed_given, dropped_kept, given_settled}
-use Rattle.rewriter.proofs.Told.{notified_none}
+use Rattle.rewriter.proofs.Notified.{notified_none}
 use Rattle.rewriter.proofs.ContextLaws.{commit_ctx}
 use Rattle.rewriter.proofs.bench.Bench.commit.Goals as goal
 

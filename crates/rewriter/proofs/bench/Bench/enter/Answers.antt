@@ -7,7 +7,7 @@ use Rattle.rewriter.specs.Edits.{part_for}
 use Rattle.rewriter.specs.RewriterCalls.{Made}
 use Rattle.rewriter.specs.Held.{TransactionModel}
 use Rattle.rewriter.proofs.Noted.{made_ctx, made_journaled, recorded_left}
-use Rattle.rewriter.proofs.Told.{made_told, made_led, led_left}
+use Rattle.rewriter.proofs.Notified.{made_told, made_led, led_left}
 use Rattle.rewriter.proofs.bench.Bench.enter.Goals as goal
 
 pub returns-in-Ok-clause-ok : goal.returns-in-Ok-clause-ok

@@ -1,7 +1,7 @@
 use Rattle.std.proofs.Common.{subst, []}
 use Rattle.ir_event.specs.types.Sound.{Holds}
 use Rattle.rewriter.proofs.Rolled.{grown_settled}
-use Rattle.rewriter.proofs.Told.{notified_grown}
+use Rattle.rewriter.proofs.Notified.{notified_grown}
 use Rattle.rewriter.proofs.bench.Bench.parse_attr.Goals as goal
 
 pub returns-clause-led : goal.returns-clause-led

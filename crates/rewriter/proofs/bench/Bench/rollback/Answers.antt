@@ -1,6 +1,6 @@
 use Rattle.std.proofs.Common.{[]}
 use Rattle.rewriter.proofs.Rolled.{dropped_undone, given_settled, rollback_goes, rollback_led, rollback_told, rollback_none}
-use Rattle.rewriter.proofs.Told.{notified_none}
+use Rattle.rewriter.proofs.Notified.{notified_none}
 use Rattle.rewriter.proofs.ContextLaws.{rollback_ctx}
 use Rattle.rewriter.proofs.bench.Bench.rollback.Goals as goal
 

@@ -1,7 +1,7 @@
 use Rattle.std.proofs.Common.{ap}
 use Rattle.rewriter.specs.Held.{TransactionModel}
 use Rattle.rewriter.proofs.Noted.{made_ctx, made_journaled, recorded_left}
-use Rattle.rewriter.proofs.Told.{made_told, made_led, led_left}
+use Rattle.rewriter.proofs.Notified.{made_told, made_led, led_left}
 use Rattle.rewriter.proofs.bench.Bench.take.Goals as goal
 
 pub returns-in-Ok-clause-ok : goal.returns-in-Ok-clause-ok

@@ -14,7 +14,7 @@ use Rattle.greedy.specs.Rewriting.{IsOfItsRules, first_by, next_by, rewriting_of
 use Rattle.greedy.specs.Tracing.{site_by, site_of, site_or, trace_step, trace_of, trace_on}
 use Rattle.greedy.specs.PatternSet.{by_rules}
 use Rattle.patterns_refinement.specs.Runs.{Leads, kept_rules}
-use Rattle.patterns_refinement.specs.Told.{AllBy, TracedCanonicalizationKeeps, TracedRewritingKeeps}
+use Rattle.patterns_refinement.specs.TracedRuns.{AllBy, TracedCanonicalizationKeeps, TracedRewritingKeeps}
 use Rattle.patterns_refinement.proofs.AllKept.{all_kept}
 use Rattle.patterns_refinement.proofs.Listed.{ended_parts, stopped_never}
 use Rattle.patterns_refinement.proofs.Running.{none_never, runs_keep}
