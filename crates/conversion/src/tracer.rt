@@ -1,7 +1,7 @@
 //! Reporting of the applied rules of a conversion, and of the operation that it can't legalize.
 ghost use Rattle.std.specs.Prelude.{◌≡◌, List, Option, None, Some, IfErr, OnErr, OnOk, ⊤};
 ghost use Rattle.ir_event.specs.types.declared.refusal.Refusal.TheVariants.{Memory as NoMemory};
-ghost use Rattle.conversion_base.specs.declared.applied_rule.AppliedRule.{AppliedRule as Told};
+ghost use Rattle.conversion_base.specs.declared.applied_rule.AppliedRule.{AppliedRule};
 ghost use Rattle.conversion.specs.declared.match_failure.MatchFailure.{MatchFailure as Staying};
 
 use crate::match_failure::MatchFailure;
@@ -12,7 +12,7 @@ use ir_event::types::refusal::Refusal;
 /// legalized.
 pub trait Tracer {
     /// Says that the tracer received these applied rules between two of its states.
-    ghost told: { List Told → Self → Self → Type 0 };
+    ghost told: { List AppliedRule → Self → Self → Type 0 };
 
     /// Says that the tracer received the reason why an operation can't be legalized, or received none.
     ghost stayed: { Option Staying → Self → Self → Type 0 };

@@ -1,7 +1,7 @@
 //! Recording of the rewrites of a run.
 ghost use Rattle.std.specs.Prelude.{◌≡◌, ◌++◌, ◌∷◌, [], List, IfErr, OnOk, ⊤};
 ghost use Rattle.ir_event.specs.types.declared.refusal.Refusal.TheVariants.{Memory as NoMemory};
-ghost use Rattle.greedy.specs.declared.applied_rewrite.AppliedRewrite.{AppliedRewrite as Told};
+ghost use Rattle.greedy.specs.declared.applied_rewrite.AppliedRewrite.{AppliedRewrite};
 
 use crate::applied_rewrite::AppliedRewrite;
 use ir_event::types::refusal::Refusal;
@@ -9,11 +9,11 @@ use ir_event::types::refusal::Refusal;
 /// A recorder of rewrites.
 pub trait Tracer {
     /// Says that the recorder recorded the listed rewrites, in order, between two of its states.
-    ghost traced: { List Told → Self → Self → Type 0 };
+    ghost traced: { List AppliedRewrite → Self → Self → Type 0 };
 
     ghost untouched: { (t : Self) → traced [] t t };
 
-    ghost joined: { (fs gs : List Told) (a b d : Self) → traced fs a b → traced gs b d → traced (fs ++ gs) a d };
+    ghost joined: { (fs gs : List AppliedRewrite) (a b d : Self) → traced fs a b → traced gs b d → traced (fs ++ gs) a d };
 
     /// Records one rewrite.
     fn record_rewrite(&mut self, applied: AppliedRewrite) -> Result<(), Refusal>

@@ -403,7 +403,7 @@ fn lengthened(
         Ok(at) => at,
         Err(e) => return Err(e),
     };
-    let plain = match short[key as usize].plain(alloc) {
+    let plain = match short[key as usize].to_lists(alloc) {
         Ok(plain) => plain,
         Err(e) => return Err(e),
     };
