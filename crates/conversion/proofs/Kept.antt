@@ -43,8 +43,8 @@ unfolding edits_of eligible
 edits_are m x = refl
 
 -- its operand has the type of the result; or a cast defines the operand, and the operand of that cast has that type
-abbrev Way : Operation → One → Type 0
-Way t p =
+abbrev CastCases : Operation → One → Type 0
+CastCases t p =
     (is_of_type t p.ty p.first ≡ true) ⊎ ((y : Header) × (q : One) × (defining_op t p.first ≡ Some y) × (named p.name y.name ≡ true) × (is_verified t y ≡ true) × (one y ≡ Some q) × (is_of_type t p.ty q.first ≡ true))
 
 source_some : (t : Operation) (name : List ℕ) (v : Value) (y : Header) → source t name v ≡ Some y → (defining_op t v ≡ Some y) × (named name y.name ≡ true) × (is_verified t y ≡ true)
@@ -56,10 +56,10 @@ source_some t name v y e =
     (g.1 ∙ ap Some same, ap (λ (h : Header). named name h.name) (sym same) ∙ b.0, ap (is_verified t) (sym same) ∙ b.1)
 
 module _ (t : Operation) (n : ℕ) (insertion : Place) (o : Operation) (p : One) where
-  way_from : (es : List Edit) → unrealized t n insertion o p ≡ Some es → Way t p
+  way_from : (es : List Edit) → unrealized t n insertion o p ≡ Some es → CastCases t p
   way_from es e = go (is_of_type t p.ty p.first) refl e
     where
-      go : (b : Bool) → is_of_type t p.ty p.first ≡ b → cond b (Some (give (head o).id p.first)) (given (source t p.name p.first) (λ y. given (one y) (back_from t n insertion o p))) ≡ Some es → Way t p
+      go : (b : Bool) → is_of_type t p.ty p.first ≡ b → cond b (Some (give (head o).id p.first)) (given (source t p.name p.first) (λ y. given (one y) (back_from t n insertion o p))) ≡ Some es → CastCases t p
       go true i k = inl i
       go false i k =
           (let y = given_some (source t p.name p.first) _ es k in
@@ -68,7 +68,7 @@ module _ (t : Operation) (n : ℕ) (insertion : Place) (o : Operation) (p : One)
           let s = source_some t p.name p.first y.0 y.1 in
           inr (y.0, q.0, s.0, s.1, s.2, q.1, w.0))
 
-  way_to : Way t p → unrealized t n insertion o p ≡ None → ⊥
+  way_to : CastCases t p → unrealized t n insertion o p ≡ None → ⊥
   way_to (inl i) e = (let k : Some (give (head o).id p.first) ≡ None = sym (ap (λ b. cond b (Some (give (head o).id p.first)) (given (source t p.name p.first) (λ y. given (one y) (back_from t n insertion o p)))) i) ∙ e in absurd cc)
   way_to (inr w) e = go (is_of_type t p.ty p.first) e
     where
@@ -95,7 +95,7 @@ rule_at t n insertion o p e c = rule_is t n insertion o ∙ ap (λ a. given a of
     of : One → Option (List Edit)
     of q = cond (named cast_name q.name) (unrealized t n insertion o q) (when (among index_casts q.name) (through_index t n insertion o q))
 
-session_setting_at : (t : Operation) (n : ℕ) (insertion : Place) (o : Operation) (p : One) → one (head o) ≡ Some p → named cast_name p.name ≡ true → (es : List Edit) → rule CastBack t n insertion o ≡ Some es → Way t p
+session_setting_at : (t : Operation) (n : ℕ) (insertion : Place) (o : Operation) (p : One) → one (head o) ≡ Some p → named cast_name p.name ≡ true → (es : List Edit) → rule CastBack t n insertion o ≡ Some es → CastCases t p
 session_setting_at t n insertion o p e c es r = way_from t n insertion o p es (sym (rule_at t n insertion o p e c) ∙ r)
 
 one_name : (name : List ℕ) (vs : List Value) (ts : List TypeTerm) (p : One) → one_from name vs ts ≡ Some p → (p.name ≡ name) × (vs ≡ p.first ∷ [])
@@ -114,7 +114,7 @@ record Collapses (m : Module) (x : ℕ) : Type 0 where
   verified : is_verified m.tree (head here) ≡ true
   ends : One
   one_is : one (head here) ≡ Some ends
-  way : Way m.tree ends
+  way : CastCases m.tree ends
 
 named_cast : (x : ℕ) (t o : Operation) → is_cast x t ≡ true → find x t ≡ Some o → named cast_name (head o).name ≡ true
 named_cast x t o c f = sym (ap is_cast_found f) ∙ c
@@ -197,7 +197,7 @@ module _ (f : Header → Header) (results : (h : Header) → (f h).results ≡ h
         let same : head o ≡ y = cc in
         record { now = o; was = w.was; found = i; found_was = w.found; is = same; same = same_node o w.was (w.is ∙ given_fixed p e g k h w.was w.found) w.arguments })
 
-    way_back : (p : Operation) → find z m.tree ≡ Some p → (ends : One) → In ends.first (head p).operands → named cast_name ends.name ≡ true → Way n.tree ends → Way m.tree ends
+    way_back : (p : Operation) → find z m.tree ≡ Some p → (ends : One) → In ends.first (head p).operands → named cast_name ends.name ≡ true → CastCases n.tree ends → CastCases m.tree ends
     way_back p e ends h c (inl i) = inl (of_type_back ends.ty ends.first i)
     way_back p e ends h c (inr w) = inr (given_back ends.first h w.0 w.1 w.2 w.3 w.4 w.5 w.6)
       where

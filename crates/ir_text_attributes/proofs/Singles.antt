@@ -58,14 +58,14 @@ module _ (o : Bool) (bytes : List ℕ) (c : ContextModel) (sound : IsSound c) wh
       (λ (f : (n : ℕ) × (d : ContextModel) × (attr_at o 32 (bytes, c) ≡ Read (n, (h.0, d))) × IsExtendedBy c d × IsSound d × AttrDenotes d n y). let g = f.2 in absurd cc)
       (attr_rendered o 32 c bytes h.0 y sound h.2)
 
-  abbrev told : ℕ → ContextModel → List ℕ → Outcome (ℕ × ContextModel)
-  told n d end = Read (n, d)
+  abbrev read_as : ℕ → ContextModel → List ℕ → Outcome (ℕ × ContextModel)
+  read_as n d end = Read (n, d)
 
   abbrev whole : ℕ × Typed → Outcome (ℕ × ContextModel)
-  whole x = of_option (after End x.1.0) >>= told x.0 x.1.1
+  whole x = of_option (after End x.1.0) >>= read_as x.0 x.1.1
 
   -- equal results of a parse have equal parts
-  parts_are : (n m : ℕ) (d z : ContextModel) → told n d [] ≡ told m z [] → (n ≡ m) × (d ≡ z)
+  parts_are : (n m : ℕ) (d z : ContextModel) → read_as n d [] ≡ read_as m z [] → (n ≡ m) × (d ≡ z)
   parts_are n m d z e =
       let p : (n, d) ≡ (m, z) = cc in
       (ap (λ (q : ℕ × ContextModel). q.0) p, ap (λ (q : ℕ × ContextModel). q.1) p)
@@ -75,7 +75,7 @@ module _ (o : Bool) (bytes : List ℕ) (c : ContextModel) (sound : IsSound c) wh
   unfolding single_attr_at
   single_read n d e =
       let a = bind_read (attr_at o 32 (bytes, c)) whole (n, d) e in
-      let b = option_read (after End a.0.1.0) (told a.0.0 a.0.1.1) (n, d) a.2 in
+      let b = option_read (after End a.0.1.0) (read_as a.0.0 a.0.1.1) (n, d) a.2 in
       let q = parts_are a.0.0 n a.0.1.1 d b.2 in
       subst (λ (u : ℕ × ContextModel). IsOnlyAttr (IsSingleAttr o bytes) u.1 u.0 × IsExtendedBy c u.1) (λ i. (q.0 i, q.1 i)) (alone_read a.0.0 a.0.1 b.0 a.1 b.1)
 
@@ -83,7 +83,7 @@ module _ (o : Bool) (bytes : List ℕ) (c : ContextModel) (sound : IsSound c) wh
   unfolding single_attr_at
   single_wrong e = by_attr (attr_at o 32 (bytes, c)) refl e
     where
-      by_end : (n : ℕ) (s : Typed) → attr_at o 32 (bytes, c) ≡ Read (n, s) → (q : Option (List ℕ)) → after End s.0 ≡ q → (of_option q >>= told n s.1) ≡ Wrong → IsNoAttr (IsSingleAttr o bytes)
+      by_end : (n : ℕ) (s : Typed) → attr_at o 32 (bytes, c) ≡ Read (n, s) → (q : Option (List ℕ)) → after End s.0 ≡ q → (of_option q >>= read_as n s.1) ≡ Wrong → IsNoAttr (IsSingleAttr o bytes)
       by_end n s read None none w = more_wrong n s read none
       by_end n s read (Some end) ends w = absurd cc
 

@@ -61,8 +61,8 @@ arg_rest id r k n s = of_option (after_in Colon s) >>= arg_type id r k n
 named_same : (id r k : ℕ) (n : List ℕ) (s : State) → arg_after_name id r k s n ≡ arg_rest id r k n s
 named_same id r k n s = by_rest (after Colon s.bytes)
   where
-    put : Text → ℕ × Typed → Outcome (ℕ × State)
-    put rest x = Read (x.0, with_typed (to_bytes s rest) x.1)
+    read_into : Text → ℕ × Typed → Outcome (ℕ × State)
+    read_into rest x = Read (x.0, with_typed (to_bytes s rest) x.1)
 
     by_rest : (o : Option Text)
         → (of_option (option_map (to_bytes s) o) >>= λ c. type_here 32 (typed c) >>= λ y. bind n ((record { value = values.Arg id r k; ty = y.0 }) ∷ []) s.scopes >>= λ u. Read (y.0, with_scopes (with_typed s y.1) u))

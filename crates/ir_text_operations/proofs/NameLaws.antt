@@ -83,25 +83,25 @@ in_text p s = p s.bytes >>= λ x. Read (x.0, to_bytes s x.1)
 
 module _ {A B : Type 0} (c : ContextModel) (R : ContextModel → A → B → Type 0) where
   module _ (p : Parse Typed A) (P : Grammar Text B) (k : Exact typed.things typed.Same c R p P) where
-    abbrev put : State → A × Typed → Outcome (A × State)
-    put s x = Read (x.0, with_typed s x.1)
+    abbrev read_into : State → A × Typed → Outcome (A × State)
+    read_into s x = Read (x.0, with_typed s x.1)
 
     typed_step : (s : State) (t : ParseState) (x : A) (y : B) (u : Typed) (rest : Text) → Agree held StateDenotes s t → Step typed.things typed.Same R (states.typed s) x y u rest → Step held StateDenotes R s x y (with_typed s u) (state_with_rest t rest)
     typed_step s t x y u rest h f = record { grows = f.grows; sound = f.sound; stands = f.stands; agree = λ z j w. let now = h z (grows_trans s.things u.1 z f.grows j) w in (f.agree z j w, now.1, now.2) }
 
-    typed_reads : (s : State) (t : ParseState) (o : Outcome (A × Typed)) (y : B) (rest : Text) → Agree held StateDenotes s t → Reads typed.things typed.Same R (states.typed s) o y rest → Reads held StateDenotes R s (o >>= put s) y (state_with_rest t rest)
-    typed_reads s t o y rest h (inl e) = inl (ap (λ q. q >>= put s) e)
-    typed_reads s t o y rest h (inr f) = inr (f.0, with_typed s f.1, ap (λ q. q >>= put s) f.2, typed_step s t f.0 y f.1 rest h f.3)
+    typed_reads : (s : State) (t : ParseState) (o : Outcome (A × Typed)) (y : B) (rest : Text) → Agree held StateDenotes s t → Reads typed.things typed.Same R (states.typed s) o y rest → Reads held StateDenotes R s (o >>= read_into s) y (state_with_rest t rest)
+    typed_reads s t o y rest h (inl e) = inl (ap (λ q. q >>= read_into s) e)
+    typed_reads s t o y rest h (inr f) = inr (f.0, with_typed s f.1, ap (λ q. q >>= read_into s) f.2, typed_step s t f.0 y f.1 rest h f.3)
 
     pub typed_exact : Exact held StateDenotes c R (in_typed p) (InText P)
     typed_exact = record {
       found = λ s t x s' g sound h e.
-          let b = bind_read (p (states.typed s)) (put s) (x, s') e in
+          let b = bind_read (p (states.typed s)) (read_into s) (x, s') e in
           let f = k.found (states.typed s) t.bytes b.0.0 b.0.1 g sound (λ z j w. (h z j w).0) b.1 in
           let same : (b.0.0, with_typed s b.0.1) ≡ (x, s') = cc (b.2) in
           subst (λ (q : A × State). Comes held StateDenotes R (InText P) s t q.0 q.1) same (f.0, state_with_rest t f.1, (f.1, f.2, refl), typed_step s t b.0.0 f.0 b.0.1 f.1 h f.3);
       only = λ s t y t' g sound h j.
-          subst (λ u. Reads held StateDenotes R s (p (states.typed s) >>= put s) y u) (sym j.2) (typed_reads s t (p (states.typed s)) y j.0 h (k.only (states.typed s) t.bytes y j.0 g sound (λ z i w. (h z i w).0) j.1));
+          subst (λ u. Reads held StateDenotes R s (p (states.typed s) >>= read_into s) y u) (sym j.2) (typed_reads s t (p (states.typed s)) y j.0 h (k.only (states.typed s) t.bytes y j.0 g sound (λ z i w. (h z i w).0) j.1));
     }
 
   module _ (p : Parse Text A) (P : Grammar Text B) (k : (d : ContextModel) → IsExtendedBy c d → Plain d R p P) where

@@ -101,18 +101,18 @@ module _ (free : Frees) (outer : FreeTerms) (last first : ℕ) (bytes : List ℕ
       (λ (f : (x' : Op) × (s' : State) × (op_at free last 129 (fresh first bytes c) ≡ Read (x', s')) × Step held StateDenotes OpDenotes (fresh first bytes c) x' y s' h.0). let g = f.2 in absurd cc)
       ((op_exact free outer last c frees 129 c (grows_refl c)).only (fresh first bytes c) (initial_state first bytes) y h.0 (grows_refl c) sound (fresh_agrees first bytes c) h.2)
 
-  abbrev told : Op → ContextModel → List ℕ → Outcome (Op × ContextModel)
-  told x d rest = Read (x, d)
+  abbrev read_to : Op → ContextModel → List ℕ → Outcome (Op × ContextModel)
+  read_to x d rest = Read (x, d)
 
   abbrev whole : Op × State → Outcome (Op × ContextModel)
-  whole x = of_option (after End x.1.bytes) >>= told x.0 x.1.things
+  whole x = of_option (after End x.1.bytes) >>= read_to x.0 x.1.things
 
   -- the same for the parser of one operation
   pub alone_read : (x : Op) (d : ContextModel) → single_op_at free last (fresh first bytes c) ≡ Read (x, d) → IsOnly (IsSingleOp c.opaque outer last first bytes) d x
   unfolding single_op_at
   alone_read x d e =
       let a = bind_read (op_at free last 129 (fresh first bytes c)) whole (x, d) e in
-      let b = option_read (after End a.0.1.bytes) (told a.0.0 a.0.1.things) (x, d) a.2 in
+      let b = option_read (after End a.0.1.bytes) (read_to a.0.0 a.0.1.things) (x, d) a.2 in
       let q = read_parts a.0.0 x a.0.1.things d b.2 in
       subst (λ (u : Op × ContextModel). IsOnly (IsSingleOp c.opaque outer last first bytes) u.1 u.0) (λ i. (q.0 i, q.1 i)) (single_read a.0.0 a.0.1 b.0 a.1 b.1)
 
@@ -120,7 +120,7 @@ module _ (free : Frees) (outer : FreeTerms) (last first : ℕ) (bytes : List ℕ
   unfolding single_op_at
   alone_wrong e = by_op (op_at free last 129 (fresh first bytes c)) refl e
     where
-      by_end : (x : Op) (s : State) → op_at free last 129 (fresh first bytes c) ≡ Read (x, s) → (o : Option (List ℕ)) → after End s.bytes ≡ o → (of_option o >>= told x s.things) ≡ Wrong → IsNone (IsSingleOp c.opaque outer last first bytes)
+      by_end : (x : Op) (s : State) → op_at free last 129 (fresh first bytes c) ≡ Read (x, s) → (o : Option (List ℕ)) → after End s.bytes ≡ o → (of_option o >>= read_to x s.things) ≡ Wrong → IsNone (IsSingleOp c.opaque outer last first bytes)
       by_end x s read None none w = single_more x s read none
       by_end x s read (Some rest) ends w = absurd cc
 

@@ -47,12 +47,12 @@ record Stands (c : ℕ) : Type 0 where
 stands : (c : ℕ) → (c == 92) ≡ false → ((leb 32 c && leb c 126) && not (c == 34)) ≡ true → Stands c
 stands c e f = record { quote = grind (arith, nat_tests); backslash = e; line = grind (arith, nat_tests) }
 
-data Way (c : ℕ) : Type 0 where
-  doubled : c ≡ 92 → byte_text c ≡ 92 ∷ 92 ∷ [] → Way c
-  itself : Stands c → byte_text c ≡ c ∷ [] → Way c
-  escaped : byte_text c ≡ 92 ∷ hex_digit (c / 16) ∷ hex_digit (c % 16) ∷ [] → Way c
+data EscapeForm (c : ℕ) : Type 0 where
+  doubled : c ≡ 92 → byte_text c ≡ 92 ∷ 92 ∷ [] → EscapeForm c
+  itself : Stands c → byte_text c ≡ c ∷ [] → EscapeForm c
+  escaped : byte_text c ≡ 92 ∷ hex_digit (c / 16) ∷ hex_digit (c % 16) ∷ [] → EscapeForm c
 
-way : (c : ℕ) → Way c
+way : (c : ℕ) → EscapeForm c
 way c = elim (cases_Bool (c == 92)) [
   | inl e ↦ doubled (eqb-true c 92 e) (rw e refl)
   | inr e ↦ elim (cases_Bool ((leb 32 c && leb c 126) && not (c == 34))) [
@@ -78,7 +78,7 @@ unfolding closing
 hex_passed h l rest d e = rw (d.short, d.hex, e.hex) (three (closing rest))
 
 -- the search for the closing quote skips the printed form of a byte
-byte_passed : (c : ℕ) (rest : List ℕ) → c < 256 → Way c → closing (byte_text c ++ rest) ≡ option_map (λ n. length (byte_text c) + n) (closing rest)
+byte_passed : (c : ℕ) (rest : List ℕ) → c < 256 → EscapeForm c → closing (byte_text c ++ rest) ≡ option_map (λ n. length (byte_text c) + n) (closing rest)
 unfolding closing
 byte_passed c rest lt (doubled e f) = rw f (two (closing rest))
 byte_passed c rest lt (itself s f) = rw f (rw (s.line, s.quote, s.backslash) (one (closing rest)))
@@ -88,7 +88,7 @@ hex_back : (c h l : ℕ) (rest : List ℕ) → IsDigit h → IsDigit l → 16 * 
 unfolding string_bytes
 hex_back c h l rest d e sum = rw (d.short, d.value, e.value, sum) refl
 
-byte_back : (c : ℕ) (rest : List ℕ) → c < 256 → Way c → string_bytes (byte_text c ++ rest) ≡ c ∷ string_bytes rest
+byte_back : (c : ℕ) (rest : List ℕ) → c < 256 → EscapeForm c → string_bytes (byte_text c ++ rest) ≡ c ∷ string_bytes rest
 unfolding string_bytes
 byte_back c rest lt (doubled e f) = rw f (rw e refl)
 byte_back c rest lt (itself s f) = rw f (rw s.backslash refl)

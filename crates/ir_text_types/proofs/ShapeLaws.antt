@@ -97,9 +97,9 @@ trailing d rest = (d, rest)
 abbrev written : ℕ → List ℕ → Option (Option ℕ × List ℕ)
 written n bytes = crossed (Some (place_value 10 (take n bytes))) (drop n bytes)
 
-abbrev plain : List ℕ → Option (Option ℕ × List ℕ)
-plain [] = None
-plain (c ∷ cs) = if c == 63 then crossed None cs else if is_ascii_digit c then written (digits_len (c ∷ cs)) (c ∷ cs) else None
+abbrev dimension_or_any : List ℕ → Option (Option ℕ × List ℕ)
+dimension_or_any [] = None
+dimension_or_any (c ∷ cs) = if c == 63 then crossed None cs else if is_ascii_digit c then written (digits_len (c ∷ cs)) (c ∷ cs) else None
 
 cross_found : (bytes new : List ℕ) → cross_at bytes ≡ Some new → IsCross bytes new
 unfolding cross_at
@@ -127,14 +127,14 @@ crossed_found d x bytes new e = from (cross_at bytes) refl e
 crossed_only : (d : Option ℕ) (bytes new : List ℕ) → IsCross bytes new → crossed d bytes ≡ Some (d, new)
 crossed_only d bytes new e = ap (option_map (trailing d)) (cross_only bytes new e)
 
-plain_digits : (c : ℕ) (cs : List ℕ) → is_ascii_digit c ≡ true → plain (c ∷ cs) ≡ written (digits_len (c ∷ cs)) (c ∷ cs)
+plain_digits : (c : ℕ) (cs : List ℕ) → is_ascii_digit c ≡ true → dimension_or_any (c ∷ cs) ≡ written (digits_len (c ∷ cs)) (c ∷ cs)
 plain_digits c cs e = rw (digit_no_mark c e, e) refl
 
-plain_only : (d : Option ℕ) (old new : List ℕ) → IsDimension d old new → plain (skip old) ≡ Some (d, new)
-plain_only None old new k = ap plain k.1 ∙ crossed_only None k.0 new k.2
+plain_only : (d : Option ℕ) (old new : List ℕ) → IsDimension d old new → dimension_or_any (skip old) ≡ Some (d, new)
+plain_only None old new k = ap dimension_or_any k.1 ∙ crossed_only None k.0 new k.2
 plain_only (Some size) old new k = from k.0 k.2 k.3 k.4
   where
-    from : (digits : List ℕ) → skip old ≡ digits ++ k.1 → is_decimal digits ≡ true → size ≡ place_value 10 digits → plain (skip old) ≡ Some (Some size, new)
+    from : (digits : List ℕ) → skip old ≡ digits ++ k.1 → is_decimal digits ≡ true → size ≡ place_value 10 digits → dimension_or_any (skip old) ≡ Some (Some size, new)
     from [] e h v = absurd cc
     from (c ∷ cs) e h v =
         let all = c ∷ (cs ++ k.1) in
@@ -144,7 +144,7 @@ plain_only (Some size) old new k = from k.0 k.2 k.3 k.4
         let back : drop (digits_len all) all ≡ k.1 = ap (λ n. drop n all) len ∙ drop-append_seam (c ∷ cs) k.1 in
         let value : place_value 10 (take (digits_len all) all) ≡ size = ap (place_value 10) preceding ∙ sym v in
         let same : written (digits_len all) all ≡ crossed (Some size) k.1 = λ i. crossed (Some (value i)) (back i) in
-        ap plain e ∙ plain_digits c (cs ++ k.1) digit ∙ same ∙ crossed_only (Some size) k.1 new k.5
+        ap dimension_or_any e ∙ plain_digits c (cs ++ k.1) digit ∙ same ∙ crossed_only (Some size) k.1 new k.5
 
 pub begins_only : (d : Option ℕ) (old new : List ℕ) → IsDimension d old new → begins_dimension (skip old) ≡ true
 begins_only None old new k = ap begins_dimension k.1
@@ -156,7 +156,7 @@ begins_only (Some size) old new k = from k.0 k.2 k.3
         let digit = (and_parts (is_ascii_digit c) (list_all is_ascii_digit cs) h).0 in
         ap begins_dimension e ∙ rw (digit_no_mark c digit, digit) refl
 
-plain_found : (d : Option ℕ) (old new : List ℕ) → plain (skip old) ≡ Some (d, new) → IsDimension d old new
+plain_found : (d : Option ℕ) (old new : List ℕ) → dimension_or_any (skip old) ≡ Some (d, new) → IsDimension d old new
 plain_found d old new e = from (skip old) refl e
   where
     as_mark : (c : ℕ) (cs : List ℕ) → skip old ≡ c ∷ cs → (c == 63) ≡ true → crossed None cs ≡ Some (d, new) → IsDimension d old new
@@ -182,7 +182,7 @@ plain_found d old new e = from (skip old) refl e
     by_mark c cs true q h e = as_mark c cs h q e
     by_mark c cs false q h e = by_digit c cs (is_ascii_digit c) refl h e
 
-    from : (all : List ℕ) → skip old ≡ all → plain all ≡ Some (d, new) → IsDimension d old new
+    from : (all : List ℕ) → skip old ≡ all → dimension_or_any all ≡ Some (d, new) → IsDimension d old new
     from [] h e = absurd cc
     from (c ∷ cs) h e = by_mark c cs (c == 63) refl h e
 
@@ -210,7 +210,7 @@ guard_sized n bytes h = rw (decimal_is (take n bytes) h, guard_crossed) (from (i
     from true = refl
     from false = refl
 
-guard_plain : (all : List ℕ) → dimension_from all ≡ option_and_then guarded (plain all)
+guard_plain : (all : List ℕ) → dimension_from all ≡ option_and_then guarded (dimension_or_any all)
 guard_plain [] = refl
 guard_plain (c ∷ cs) = by_mark (c == 63) (is_ascii_digit c) refl
   where
@@ -226,9 +226,9 @@ dimension_only d old new h k = guard_plain (skip old) ∙ ap (option_and_then gu
 
 dimension_found : (d : Option ℕ) (old new : List ℕ) → dimension_at old ≡ Some (d, new) → (is_dimension d ≡ true) × IsDimension d old new
 unfolding dimension_at
-dimension_found d old new e = from (plain (skip old)) refl (sym (guard_plain (skip old)) ∙ e)
+dimension_found d old new e = from (dimension_or_any (skip old)) refl (sym (guard_plain (skip old)) ∙ e)
   where
-    from : (o : Option (Option ℕ × List ℕ)) → plain (skip old) ≡ o → option_and_then guarded o ≡ Some (d, new) → (is_dimension d ≡ true) × IsDimension d old new
+    from : (o : Option (Option ℕ × List ℕ)) → dimension_or_any (skip old) ≡ o → option_and_then guarded o ≡ Some (d, new) → (is_dimension d ≡ true) × IsDimension d old new
     from None h e = absurd cc
     from (Some x) h e =
         let k = cond_some (is_dimension x.0) x (d, new) e in

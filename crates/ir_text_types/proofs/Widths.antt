@@ -31,12 +31,12 @@ two_digits a b d e z =
 
 -- the value of two digits without a leading zero
 pub two_value : (ds : List ℕ) → 2 ≤ length ds → length ds < 3 → list_all is_ascii_digit ds ≡ true → begins_zero ds ≡ false → below_limit (integer_of ds) ≡ Some ((get_or ds 0 0 - 48) * 10 + (get_or ds 1 0 - 48))
-two_value [] l m all plain = absurd (omega (arith, l))
-two_value (a ∷ []) l m all plain = absurd (omega (arith, l))
-two_value (a ∷ b ∷ []) l m all plain =
+two_value [] l m all dimension_or_any = absurd (omega (arith, l))
+two_value (a ∷ []) l m all dimension_or_any = absurd (omega (arith, l))
+two_value (a ∷ b ∷ []) l m all dimension_or_any =
     let p = and_parts (is_ascii_digit a) (is_ascii_digit b && true) all in
-    two_digits a b p.0 (and_parts (is_ascii_digit b) true p.1).0 plain
-two_value (a ∷ b ∷ c ∷ ds) l m all plain = absurd (omega (arith, m))
+    two_digits a b p.0 (and_parts (is_ascii_digit b) true p.1).0 dimension_or_any
+two_value (a ∷ b ∷ c ∷ ds) l m all dimension_or_any = absurd (omega (arith, m))
 
 -- two such digits denote a number
 two_number : (a b : ℕ) → is_ascii_digit a ≡ true → is_ascii_digit b ≡ true → (a == 48) ≡ false → integer_of (a ∷ b ∷ []) ≡ (a - 48) * 10 + (b - 48)

@@ -78,18 +78,18 @@ fn plain_of(word: &[u8]) -> Option<ScalarType>
 
 /// Returns whether a node is this scalar type.
 #[inline(always)]
-fn is_plain(node: &TypeNode, plain: ScalarType) -> bool
-    ensures { IsTrue result → node.now ≡ plain_node plain }
+fn is_plain(node: &TypeNode, dimension_or_any: ScalarType) -> bool
+    ensures { IsTrue result → node.now ≡ plain_node dimension_or_any }
 {
     match node {
         TypeNode::Int {
             sign: Sign::Signless,
             width,
-        } => match plain {
+        } => match dimension_or_any {
             ScalarType::Integer(other) => *width == other,
             ScalarType::Index => false,
         },
-        TypeNode::Index => match plain {
+        TypeNode::Index => match dimension_or_any {
             ScalarType::Integer(_) => false,
             ScalarType::Index => true,
         },
@@ -99,15 +99,15 @@ fn is_plain(node: &TypeNode, plain: ScalarType) -> bool
 
 /// Returns the id of the scalar type, if it is among the first types of the context.
 #[inline(always)]
-fn place_of(ctx: &Context, plain: ScalarType) -> Option<TypeId>
-    ensures { IfSome result (λ n. slice_get ctx.now.types n ≡ Some (plain_node plain)) }
+fn place_of(ctx: &Context, dimension_or_any: ScalarType) -> Option<TypeId>
+    ensures { IfSome result (λ n. slice_get ctx.now.types n ≡ Some (plain_node dimension_or_any)) }
 {
     'places: for number in 0..FIRST {
         let id = TypeId::new(number);
         if !ctx.has_type(id) {
             return None;
         }
-        if is_plain(ctx.type_node(id), plain) {
+        if is_plain(ctx.type_node(id), dimension_or_any) {
             return Some(id);
         }
     }
@@ -124,10 +124,10 @@ pub(crate) fn known<'a>(ctx: &Context, bytes: &'a [u8]) -> Option<(TypeId, &'a [
     let Some((word, rest)) = lexer::word(bytes) else {
         return None;
     };
-    let Some(plain) = plain_of(word) else {
+    let Some(dimension_or_any) = plain_of(word) else {
         return None;
     };
-    match place_of(ctx, plain) {
+    match place_of(ctx, dimension_or_any) {
         Some(id) => Some((id, rest)),
         None => None,
     }

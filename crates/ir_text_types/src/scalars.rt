@@ -45,7 +45,7 @@ fn two_digits(tens: u8, ones: u8) -> u128
 /// Returns the number that decimal digits denote without a leading zero. Most widths have two digits.
 fn decimal_value(digits: &[u8]) -> Option<u128>
     requires decimal { list_all is_ascii_digit digits.now ≡ true }
-    requires plain { begins_zero digits.now ≡ false }
+    requires dimension_or_any { begins_zero digits.now ≡ false }
     ensures { result ≡ below_limit (integer_of digits.now) }
 {
     match digits {

@@ -61,8 +61,8 @@ module _ {X : Type 0} (f : ℕ → Numbers → List X) where
   all_told (e ∷ es) = f e.0 e.1 ++ all_told es
 
   -- an entry contributes nothing, or its operation is in the list
-  abbrev pub Told : List ℕ → ℕ × Numbers → Type 0
-  Told xs e = (f e.0 e.1 ≡ []) ⊎ In e.0 xs
+  abbrev pub IsContributed : List ℕ → ℕ × Numbers → Type 0
+  IsContributed xs e = (f e.0 e.1 ≡ []) ⊎ In e.0 xs
 
   none_kept : (xs : List ℕ) → contributions f (look []) xs ≡ []
   none_kept [] = refl
@@ -73,12 +73,12 @@ module _ {X : Type 0} (f : ℕ → Numbers → List X) where
   skipped e es [] a = refl
   skipped e es (x ∷ xs) a = λ i. contribution_at f x (cond (apart e.0 x a.0 i) (Some e.1) (look es x)) ++ skipped e es xs a.1 i
 
-  silent : (es : List (ℕ × Numbers)) → Each (Told []) es → all_told es ≡ []
+  silent : (es : List (ℕ × Numbers)) → Each (IsContributed []) es → all_told es ≡ []
   silent [] h = refl
   silent (e ∷ es) h = elim h.0 [ inl none ↦ ap (λ l. l ++ all_told es) none ∙ silent es h.1 | inr i ↦ absurd i ]
 
   -- an id below all entries isn't needed
-  without : (x : ℕ) (xs : List ℕ) (es : List (ℕ × Numbers)) → Above x (keys_of es) → Each (Told (x ∷ xs)) es → Each (Told xs) es
+  without : (x : ℕ) (xs : List ℕ) (es : List (ℕ × Numbers)) → Above x (keys_of es) → Each (IsContributed (x ∷ xs)) es → Each (IsContributed xs) es
   without x xs [] a h = tt
   without x xs (e ∷ es) a h = (
     elim h.0 [
@@ -89,9 +89,9 @@ module _ {X : Type 0} (f : ℕ → Numbers → List X) where
   )
 
   -- the entries, given the claim for those after the first, by comparing the first entry with the first id
-  by : (e : ℕ × Numbers) (es : List (ℕ × Numbers)) → ((ys : List ℕ) → IsStrictlySortedBy nat_cmp ys → Each (Told ys) es → contributions f (look es) ys ≡ all_told es)
-      → IsStrictlySortedBy nat_cmp (keys_of (e ∷ es)) → (x : ℕ) (xs : List ℕ) → IsStrictlySortedBy nat_cmp (x ∷ xs) → Each (Told (x ∷ xs)) (e ∷ es)
-      → (IsStrictlySortedBy nat_cmp xs → Each (Told xs) (e ∷ es) → contributions f (look (e ∷ es)) xs ≡ all_told (e ∷ es)) → (r : Ordering) → nat_cmp x e.0 ≡ r → contributions f (look (e ∷ es)) (x ∷ xs) ≡ all_told (e ∷ es)
+  by : (e : ℕ × Numbers) (es : List (ℕ × Numbers)) → ((ys : List ℕ) → IsStrictlySortedBy nat_cmp ys → Each (IsContributed ys) es → contributions f (look es) ys ≡ all_told es)
+      → IsStrictlySortedBy nat_cmp (keys_of (e ∷ es)) → (x : ℕ) (xs : List ℕ) → IsStrictlySortedBy nat_cmp (x ∷ xs) → Each (IsContributed (x ∷ xs)) (e ∷ es)
+      → (IsStrictlySortedBy nat_cmp xs → Each (IsContributed xs) (e ∷ es) → contributions f (look (e ∷ es)) xs ≡ all_told (e ∷ es)) → (r : Ordering) → nat_cmp x e.0 ≡ r → contributions f (look (e ∷ es)) (x ∷ xs) ≡ all_told (e ∷ es)
   unfolding IsStrictlySortedBy
   by e es rest s x xs t h more Less l =
       let below : Above x (keys_of (e ∷ es)) = (l, extra x e.0 (keys_of es) l s.0) in
@@ -99,7 +99,7 @@ module _ {X : Type 0} (f : ℕ → Numbers → List X) where
   by e es rest s x xs t h more Equal l =
       let is = same x e.0 l in
       let above : Above e.0 xs = subst (λ y. Above y xs) is t.0 in
-      let left : Each (Told xs) es = without e.0 xs es s.0 (subst (λ y. Each (Told (y ∷ xs)) es) is h.1) in
+      let left : Each (IsContributed xs) es = without e.0 xs es s.0 (subst (λ y. Each (IsContributed (y ∷ xs)) es) is h.1) in
       ap (λ o. contribution_at f x o ++ contributions f (look (e ∷ es)) xs) (ap (λ r. cond (is_eq r) (Some e.1) (look es x)) l)
       ∙ ap (λ y. f y e.1 ++ contributions f (look (e ∷ es)) xs) is
       ∙ ap (λ z. f e.0 e.1 ++ z) (skipped e es xs above ∙ rest xs t.1 left)
@@ -108,16 +108,16 @@ module _ {X : Type 0} (f : ℕ → Numbers → List X) where
       let above : Above e.0 (x ∷ xs) = (first, extra e.0 x xs first t.0) in
       skipped e es (x ∷ xs) above ∙ rest (x ∷ xs) t h.1 ∙ nothing h.0 above
     where
-      nothing : Told (x ∷ xs) e → Above e.0 (x ∷ xs) → all_told es ≡ all_told (e ∷ es)
+      nothing : IsContributed (x ∷ xs) e → Above e.0 (x ∷ xs) → all_told es ≡ all_told (e ∷ es)
       nothing (inl none) above = sym (ap (λ z. z ++ all_told es) none)
       nothing (inr i) above = absurd (not_above e.0 (x ∷ xs) above i)
 
-  step : (e : ℕ × Numbers) (es : List (ℕ × Numbers)) → ((ys : List ℕ) → IsStrictlySortedBy nat_cmp ys → Each (Told ys) es → contributions f (look es) ys ≡ all_told es)
-      → IsStrictlySortedBy nat_cmp (keys_of (e ∷ es)) → (xs : List ℕ) → IsStrictlySortedBy nat_cmp xs → Each (Told xs) (e ∷ es) → contributions f (look (e ∷ es)) xs ≡ all_told (e ∷ es)
+  step : (e : ℕ × Numbers) (es : List (ℕ × Numbers)) → ((ys : List ℕ) → IsStrictlySortedBy nat_cmp ys → Each (IsContributed ys) es → contributions f (look es) ys ≡ all_told es)
+      → IsStrictlySortedBy nat_cmp (keys_of (e ∷ es)) → (xs : List ℕ) → IsStrictlySortedBy nat_cmp xs → Each (IsContributed xs) (e ∷ es) → contributions f (look (e ∷ es)) xs ≡ all_told (e ∷ es)
   step e es rest s [] t h = sym (silent (e ∷ es) h)
   step e es rest s (x ∷ xs) t h = by e es rest s x xs t h (step e es rest s xs) (nat_cmp x e.0) refl
 
-  pub told_all : (es : List (ℕ × Numbers)) (xs : List ℕ) → IsStrictlySortedBy nat_cmp (keys_of es) → IsStrictlySortedBy nat_cmp xs → Each (Told xs) es → contributions f (look es) xs ≡ all_told es
+  pub told_all : (es : List (ℕ × Numbers)) (xs : List ℕ) → IsStrictlySortedBy nat_cmp (keys_of es) → IsStrictlySortedBy nat_cmp xs → Each (IsContributed xs) es → contributions f (look es) xs ≡ all_told es
   unfolding IsStrictlySortedBy
   told_all [] xs s t h = none_kept xs
   told_all (e ∷ es) xs s t h = step e es (λ ys u k. told_all es ys s.1 u k) s xs t h
@@ -135,7 +135,7 @@ listed x (k ∷ ks) e = go (listed x ks) (bool_cases (is_eq (nat_cmp x k)))
 
 module _ {X : Type 0} (f : ℕ → Numbers → List X) (test : Numbers → Bool) (others : (x : ℕ) (r : Numbers) → test r ≡ false → f x r ≡ [])
     (ks : List ℕ) where
-  each_told : (es : List (ℕ × Numbers)) → IsStrictlySortedBy nat_cmp (keys_of es) → ((x : ℕ) → said_at test (look es x) ≡ true → list_any (is_at (nat_cmp x)) ks ≡ true) → Each (Told f ks) es
+  each_told : (es : List (ℕ × Numbers)) → IsStrictlySortedBy nat_cmp (keys_of es) → ((x : ℕ) → said_at test (look es x) ≡ true → list_any (is_at (nat_cmp x)) ks ≡ true) → Each (IsContributed f ks) es
   unfolding IsStrictlySortedBy
   each_told [] s h = tt
   each_told (e ∷ es) s h = (first (bool_cases (test e.1)), each_told es s.1 later)
@@ -143,7 +143,7 @@ module _ {X : Type 0} (f : ℕ → Numbers → List X) (test : Numbers → Bool)
       itself : look (e ∷ es) e.0 ≡ Some e.1
       itself = ap (λ z. cond z (Some e.1) (look es e.0)) (same_test e.0 e.0 ∙ eq-eqb e.0 e.0 refl)
 
-      first : (test e.1 ≡ true) ⊎ (test e.1 ≡ false) → Told f ks e
+      first : (test e.1 ≡ true) ⊎ (test e.1 ≡ false) → IsContributed f ks e
       first (inl so) = inr (listed e.0 ks (h e.0 (ap (said_at test) itself ∙ so)))
       first (inr lacks) = inl (others e.0 e.1 lacks)
 

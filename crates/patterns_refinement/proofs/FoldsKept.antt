@@ -315,16 +315,16 @@ cast_fits c k v n w e =
     resize_bits c k (Some v) (Some (k, n)) (ap (λ b. if b then resize_any c k (Some v) else None) w ∙ given_at (cast_of c (width_of v.0) (width_of k) v.1) n (λ b. Some (Some (k, b))) (Some (Some (k, n))) e refl) (k, n) refl
 
 module _ (h : Header) (ty : TypeTerm) (k : BitsKind) (n : ℕ) (results : h.results ≡ ty ∷ []) where
-  abbrev Fit : Rule → Type 0
-  Fit r =
+  abbrev FitsBits : Rule → Type 0
+  FitsBits r =
       (js : List (Option BitsKind)) (ys : List (Option Known)) → takes r h k js ≡ true → is_width (width_of k) ≡ true → AllHaveBits ys → fold_of h.name h.properties ys (ty ∷ []) ≡ Some (k, n)
       → fold_by r h.properties k ys ≡ Some n → is_bits k n ≡ true
 
-  constant_fits : Fit rule.Constant
+  constant_fits : FitsBits rule.Constant
   constant_fits js (y ∷ ys) t w g e f = absurd (none-some n f)
   constant_fits js [] t w g e f = sym (ap are_its_bits (ap (fold_of h.name h.properties []) results ∙ e)) ∙ t
 
-  pub fold_fits : (r : Rule) → Fit r
+  pub fold_fits : (r : Rule) → FitsBits r
   fold_fits rule.Constant js ys t w g e f = constant_fits js ys t w g e f
   fold_fits (rule.Binary o) js [] t w g e f = absurd (none-some n f)
   fold_fits (rule.Binary o) js (y ∷ []) t w g e f = absurd (none-some n f)

@@ -24,7 +24,7 @@ use Rattle.patterns_soundness.proofs.Inwards as inwards
 use Rattle.patterns_soundness.proofs.Moving.{HasBlock}
 use Rattle.patterns_soundness.proofs.Ordered.{Before, Inside}
 use Rattle.patterns_soundness.proofs.Phases.{AllTurned, Coming, Out, Side, Stays, entered, id_of, in_step_reason, in_step_stays, phase_in, phase_out, stays_both, stays_none, turned_onto}
-use Rattle.patterns_soundness.proofs.Steps.{Across, Fit}
+use Rattle.patterns_soundness.proofs.Steps.{Across, IsWithinLimits}
 
 turned_last : (us rs : List Operation) (l : Operation) → turned_onto (us ++ l ∷ []) rs ≡ l ∷ turned_onto us rs
 turned_last [] rs l = refl
@@ -78,7 +78,7 @@ module _ (x y r : ℕ) (insertion : Place) (hx hy : Header) (deep : ℕ) (x_open
     pub free : (fs : List Edit) → Free fs after → Free (brought insertion y r (map (λ o. id_of o) us) (head last).id ++ fs) m
     pub coming : Coming x y r insertion hx hy deep x_opened x_plain y_opened y_plain args B News [] (us ++ last ∷ []) after
     pub stays : Stays x y r insertion hx hy deep x_opened x_plain y_opened y_plain args B (us ++ last ∷ []) m after
-    pub sides : (q : ℕ) (targs : List TypeTerm) (ws : List Operation) → ((o : Operation) → In o ws → Fit x y insertion hx hy deep o) → ((z o : Operation) → In z (us ++ last ∷ []) → In o ws → has_id (head z).id o ≡ false)
+    pub sides : (q : ℕ) (targs : List TypeTerm) (ws : List Operation) → ((o : Operation) → In o ws → IsWithinLimits x y insertion hx hy deep o) → ((z o : Operation) → In z (us ++ last ∷ []) → In o ws → has_id (head z).id o ≡ false)
         → Side x y r insertion hx hy deep x_opened x_plain y_opened y_plain args B q targs ws m start.across → Side x y r insertion hx hy deep x_opened x_plain y_opened y_plain args B q targs ws after coming.across
 
   abbrev m1 : Module
@@ -117,7 +117,7 @@ module _ (x y r : ℕ) (insertion : Place) (hx hy : Header) (deep : ℕ) (x_open
 
   Sides : (n : Module) → Across x y insertion hx hy deep n → (n2 : Module) → Across x y insertion hx hy deep n2 → Type 0
   Sides n s n2 s2 =
-      (q : ℕ) (targs : List TypeTerm) (ws : List Operation) → ((o : Operation) → In o ws → Fit x y insertion hx hy deep o) → ((z o : Operation) → In z (us ++ last ∷ []) → In o ws → has_id (head z).id o ≡ false)
+      (q : ℕ) (targs : List TypeTerm) (ws : List Operation) → ((o : Operation) → In o ws → IsWithinLimits x y insertion hx hy deep o) → ((z o : Operation) → In z (us ++ last ∷ []) → In o ws → has_id (head z).id o ≡ false)
       → Side x y r insertion hx hy deep x_opened x_plain y_opened y_plain args B q targs ws n s → Side x y r insertion hx hy deep x_opened x_plain y_opened y_plain args B q targs ws n2 s2
 
   pub bring : ((v : Value) → News v → (o : Operation) → In o (us ++ last ∷ []) → eqb (owner_of v).0 (head o).id ≡ false) → LastDominatedBy → Brought

@@ -44,7 +44,7 @@ use Rattle.patterns_soundness.proofs.Moving.{HasBlock}
 use Rattle.patterns_soundness.proofs.Phases.{Out, id_of}
 use Rattle.patterns_soundness.proofs.Points.{own_operand}
 use Rattle.patterns_soundness.proofs.Started.{missing_unused, rel_of}
-use Rattle.patterns_soundness.proofs.Steps.{Across, Fit}
+use Rattle.patterns_soundness.proofs.Steps.{Across, IsWithinLimits}
 use Rattle.patterns_soundness.proofs.Within as within_y
 use Rattle.ir_event.proofs.Facts.{own_id}
 
@@ -63,7 +63,7 @@ cast_uses n ty v u e = ap (λ b. cond b ((n, 0) ∷ []) [] ++ []) e
 -- a block of x without arguments, whose operations move into that of y; the terminator's operands go through casts
 module _ (x y r : ℕ) (insertion : Place) (hx hy : Header) (deep : ℕ) (x_opened : is_isolated hx.name ≡ false) (x_plain : is_table hx.name ≡ false) (y_opened : is_isolated hy.name ≡ false) (y_plain : is_table hy.name ≡ false)
     (us : List Operation) (last : Operation) (ms : List Bool) (m : Module) (a : Across x y insertion hx hy deep m) (into : HasBlock y r m.tree) (is : region_at r (regions a.located.at.here) ≡ Some (block [] (joined_ops (us ++ last ∷ []) no_ops)))
-    (fits : (o : Operation) → In o (us ++ last ∷ []) → Fit x y insertion hx hy deep o) (wide : length ms ≡ length (head last).operands) (Q : (n : Module) → Across x y insertion hx hy deep n → Type 0) where
+    (fits : (o : Operation) → In o (us ++ last ∷ []) → IsWithinLimits x y insertion hx hy deep o) (wide : length ms ≡ length (head last).operands) (Q : (n : Module) → Across x y insertion hx hy deep n → Type 0) where
   abbrev B : ℕ → Type 0
   B b = ⊥
 

@@ -45,7 +45,7 @@ use Rattle.patterns_soundness.proofs.Ordered.{later_shows}
 use Rattle.patterns_soundness.proofs.Phases.{id_of}
 use Rattle.patterns_soundness.proofs.Points.{Point, here_is, dominated_by_operand, stands_there}
 use Rattle.patterns_soundness.proofs.Started.{next_to_out, fit_of, fresh, lowered_at, started, started_block, started_side}
-use Rattle.patterns_soundness.proofs.Steps.{Across, Fit, there_of}
+use Rattle.patterns_soundness.proofs.Steps.{Across, IsWithinLimits, there_of}
 use Rattle.patterns_soundness.proofs.Within as within_y
 use Rattle.patterns_soundness.proofs.of_base.Facts.{bridges_make, when_some}
 use Rattle.patterns_laws.proofs.KnownFolds.{given_some}
@@ -186,7 +186,7 @@ module _ (m : Module) (o : Operation) (preceding : Place) (s : Point m o precedi
     y_fresh : has_id m.next m.tree ≡ false
     y_fresh = fresh x preceding m st new leaf seen one_made.located
 
-    fits : (r : ℕ) (small : r ≤ 1) (k : Ended) (k_is : body m.tree o r ≡ Some k) (p : Operation) → In p (all r small k k_is) → Fit (head o).id m.next preceding hx hy deep p
+    fits : (r : ℕ) (small : r ≤ 1) (k : Ended) (k_is : body m.tree o r ≡ Some k) (p : Operation) → In p (all r small k k_is) → IsWithinLimits (head o).id m.next preceding hx hy deep p
     fits r small k k_is p i = fit_of x preceding m st r [] (all r small k k_is) (side r small k k_is) m.next hx hy deep y_fresh refl p i
 
     blocks : (r : ℕ) (small : r ≤ 1) (k : Ended) (k_is : body m.tree o r ≡ Some k) → HasBlock m.next r m1.tree

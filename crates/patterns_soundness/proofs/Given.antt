@@ -30,7 +30,7 @@ use Rattle.patterns_soundness.specs.base.Folding.{is_all_ones, drop_zero, drop_o
 use Rattle.patterns_soundness.proofs.Typed.{ChoiceTypes, a_choice, among_each, choice_is, choices_are, conjunction_is, ignoring_one_are, ignoring_zero_are, keeping_are, named_is, number_is, two_numbers, typed, types_at}
 use Rattle.patterns_soundness.proofs.Points.{DefiningOp, Point, here_is, dominated_by_after, dominated_by_operand, stands_there}
 use Rattle.patterns_soundness.proofs.Limits as fit
-use Rattle.patterns_soundness.proofs.Limits.{Fit}
+use Rattle.patterns_soundness.proofs.Limits.{IsWithinLimits}
 use Rattle.patterns_soundness.proofs.Shapes.{one_is, source_is, three_is, two_is}
 use Rattle.patterns_laws.proofs.KnownFolds.{given_some}
 use Rattle.std.proofs.lemmas.Option.{same_Some}
@@ -55,7 +55,7 @@ module _ (m : Module) (o : Operation) (insertion : Place) (s : Point m o inserti
   t = m.tree
 
   -- the operation is one before which edits insert
-  pub fits : (ty : TypeTerm) → (head o).results ≡ ty ∷ [] → (k : ℕ) → op_count m.tree + k ≤ most_ops → m.next + k ≤ most_next → Fit (head o).id insertion ty k m
+  pub fits : (ty : TypeTerm) → (head o).results ≡ ty ∷ [] → (k : ℕ) → op_count m.tree + k ≤ most_ops → m.next + k ≤ most_next → IsWithinLimits (head o).id insertion ty k m
   fits ty one k ops ids = record { located = stands_there m o insertion s; one = ap (λ z. (head z).results) (here_is m o insertion s) ∙ one; ops = ops; ids = ids }
 
   -- a value of the result's type that dominates the operation replaces the result

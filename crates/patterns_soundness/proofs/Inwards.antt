@@ -43,7 +43,7 @@ use Rattle.patterns_soundness.proofs.Kept.{Kept}
 use Rattle.patterns_soundness.proofs.Moving as moving
 use Rattle.patterns_soundness.proofs.Moving.{HasBlock}
 use Rattle.patterns_soundness.proofs.Ordered.{Before, Inside, before_both, inner_dominated_by, inner_table, inside_left, later_around, later_dominated_by, later_shows, later_table, put_before, put_inside, put_last, there_left}
-use Rattle.patterns_soundness.proofs.Steps.{Across, Fit, Lack, UsedBy, across_moved, count_moved, side_moved, there_of, two_apart, users_moved}
+use Rattle.patterns_soundness.proofs.Steps.{Across, IsWithinLimits, Lack, UsedBy, across_moved, count_moved, side_moved, there_of, two_apart, users_moved}
 
 abbrev OpWithPath : Type 0
 OpWithPath = OpWithPathOf (List ℕ) TypeTerm AttrTerm
@@ -64,7 +64,7 @@ IsFirst (p ∷ vs) t = (o : Operation) → In o vs → Before (head p).id (head 
 
 module _ (x y r : ℕ) (insertion : Place) (hx hy : Header) (deep : ℕ) (y_opened : is_isolated hy.name ≡ false) (y_plain : is_table hy.name ≡ false)
     (m : Module) (s : Across x y insertion hx hy deep m) (into : HasBlock y r m.tree) (z : Operation) (before : Before (head z).id y m.tree) (at : find (head z).id m.tree ≡ Some z) (vs : List Operation) (came : (o : Operation) → In o vs → Came y r m.tree o) (first : IsFirst vs m.tree)
-    (fit : Fit x y insertion hx hy deep z) (fits : (o : Operation) → In o vs → Fit x y insertion hx hy deep o) (lacks : (o : Operation) → In o vs → Lack z o) (users : UsedBy z vs m.tree) where
+    (fit : IsWithinLimits x y insertion hx hy deep z) (fits : (o : Operation) → In o vs → IsWithinLimits x y insertion hx hy deep o) (lacks : (o : Operation) → In o vs → Lack z o) (users : UsedBy z vs m.tree) where
   abbrev t : Operation
   t = m.tree
 

@@ -32,22 +32,22 @@ use Rattle.patterns_soundness.specs.base.Made.{Entries, made}
 use Rattle.patterns_soundness.specs.base.Makes.{give, give_new}
 
 -- operation x, with one result of a type, comes after a place, and k more operations are within the limits
-pub record Fit (x : ℕ) (insertion : Place) (ty : TypeTerm) (k : ℕ) (m : Module) : Type 0 where
+pub record IsWithinLimits (x : ℕ) (insertion : Place) (ty : TypeTerm) (k : ℕ) (m : Module) : Type 0 where
   pub located : StandsAt x insertion m
   pub one : (head located.at.here).results ≡ ty ∷ []
   pub ops : op_count m.tree + k ≤ most_ops
   pub ids : m.next + k ≤ most_next
 
 module _ (x : ℕ) (insertion : Place) (ty : TypeTerm) where
-  result_type : (k : ℕ) (m : Module) (f : Fit x insertion ty k m) → type_of_value (Result x 0) m.tree ≡ Some ty
+  result_type : (k : ℕ) (m : Module) (f : IsWithinLimits x insertion ty k m) → type_of_value (Result x 0) m.tree ≡ Some ty
   result_type k m f = ap (option_and_then (λ o. slice_get (head o).results 0)) (found_there is_isolated x insertion m f.located) ∙ ap (λ (l : List TypeTerm). slice_get l 0) f.one
 
   -- a value of the result's type that dominates x may replace the result
-  pub given : (k : ℕ) (m : Module) → Fit x insertion ty k m → (v : Value) → dominated_by x v m ≡ true → (u : TypeTerm) → type_of_value v m.tree ≡ Some u → same_type ty u ≡ true → Free (give x v) m
+  pub given : (k : ℕ) (m : Module) → IsWithinLimits x insertion ty k m → (v : Value) → dominated_by x v m ≡ true → (u : TypeTerm) → type_of_value v m.tree ≡ Some u → same_type ty u ≡ true → Free (give x v) m
   given k m f v seen u of same = plans.give_free x insertion m f.located v seen ty f.one ((λ i. option_eq same_type (result_type k m f i) (of i)) ∙ same)
 
   -- an operation is inserted before x
-  module _ (k : ℕ) (m : Module) (f : Fit x insertion ty (suc k) m) (name : List ℕ) (operands : List Value) (new : TypeTerm) (properties : Entries)
+  module _ (k : ℕ) (m : Module) (f : IsWithinLimits x insertion ty (suc k) m) (name : List ℕ) (operands : List Value) (new : TypeTerm) (properties : Entries)
       (few : items_fit operands ≡ true) (short : items_fit properties ≡ true) (seen : list_all (visible is_isolated m.tree x) operands ≡ true) where
     abbrev o : Operation
     o = made name operands new properties
@@ -74,7 +74,7 @@ module _ (x : ℕ) (insertion : Place) (ty : TypeTerm) where
     count : op_count (edited (Make insertion (made name operands new properties)) m).tree ≡ op_count m.tree + 1
     count = put_op_count insertion (with_id m.next o) m.tree (made_there.may is_isolated x insertion m f.located o refl)
 
-    pub made_fit : Fit x insertion ty k (edited (Make insertion (made name operands new properties)) m)
+    pub made_fit : IsWithinLimits x insertion ty k (edited (Make insertion (made name operands new properties)) m)
     made_fit = record {
       located = after;
       one = ap (λ (h : HeadOf (List ℕ) TypeTerm AttrTerm). h.results) heads ∙ f.one;

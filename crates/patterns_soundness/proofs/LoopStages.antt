@@ -66,13 +66,13 @@ use Rattle.patterns_soundness.proofs.Moving.{HasBlock}
 use Rattle.patterns_soundness.proofs.NearAccepted.{result_type, results_in, there_by, there_is as there_by_results}
 use Rattle.patterns_soundness.proofs.Opened.{last_there}
 use Rattle.patterns_soundness.proofs.Ordered.{Before, inner_shows, later_shows, put_after}
-use Rattle.patterns_soundness.proofs.PairsAccepted.{AllHeld, AllNew, Told, by_case, holds, holds_other, in_pairs, less_apart, more_apart, pairs, pairs_apart, told}
+use Rattle.patterns_soundness.proofs.PairsAccepted.{AllHeld, AllNew, PlaceholderProperties, by_case, holds, holds_other, in_pairs, less_apart, more_apart, pairs, pairs_apart, told}
 use Rattle.patterns_soundness.proofs.Erased.{ErasedAll, Held, erase_edits, erased_all}
 use Rattle.patterns_soundness.proofs.Replacing.{Fresh, Holder, Near, Pair, ReplacedAll, pair_edits, replaced_all}
 use Rattle.patterns_soundness.proofs.Phases.{Out, id_of}
 use Rattle.patterns_soundness.proofs.Points.{Point, here_is, own_operand, dominated_by_operand, stands_there}
 use Rattle.patterns_soundness.proofs.Started.{absent_from, fit_of, leaf_uses, lowered_at, missing_unused, nothing_used, rel_of, shallow_out, started, started_block, started_side}
-use Rattle.patterns_soundness.proofs.Steps.{Across, Fit, nothing, there_of, two_apart}
+use Rattle.patterns_soundness.proofs.Steps.{Across, IsWithinLimits, nothing, there_of, two_apart}
 use Rattle.patterns_soundness.proofs.of_base.Facts.{crossed_length, kept_type}
 use Rattle.std.proofs.lemmas.Option.{slice_get_within, same_Some}
 use Rattle.ir_event.proofs.Facts.{own_id}
@@ -281,7 +281,7 @@ module _ (m : Module) (o : Operation) (preceding : Place) (s : Point m o precedi
   pub y_plain : is_table hy.name ≡ false
   y_plain = ap is_table name_is ∙ for_plain
 
-  pub fits : (p : Operation) → In p like.0 → Fit (head o).id m3.next preceding hx hy deep p
+  pub fits : (p : Operation) → In p like.0 → IsWithinLimits (head o).id m3.next preceding hx hy deep p
   fits p i = fit_of x preceding m3 st3 0 args zs like.1 y hx hy deep (absent_from m3 st3.wellformed y (omega arith)) refl p i
 
   pub end_in : In ended.end like.0
@@ -333,7 +333,7 @@ module _ (m : Module) (o : Operation) (preceding : Place) (s : Point m o precedi
   new_each (b ∷ ms) k c [] a = tt
   new_each (b ∷ ms) k c (ty ∷ tys) a = (a.0, new_each ms (k + 1) (cond b (c + 1) c) tys a.1)
 
-  pub counted_rules : (p : Pair) → In p ps → Told m3.next IsHeld IsNew m1.next (m1.next + length args) m4.next p
+  pub counted_rules : (p : Pair) → In p ps → PlaceholderProperties m3.next IsHeld IsNew m1.next (m1.next + length args) m4.next p
   counted_rules p i = told m3.next IsHeld IsNew (indices args) m1.next 0 m4.next args refl (held_each m1.next args p2.held) (new_each (indices args) 0 m4.next args lo.made) p i
 
   pub apart_id : (b : ℕ) (z : Operation) → has_id b z ≡ false → eqb b (head z).id ≡ false
@@ -403,7 +403,7 @@ module _ (m : Module) (o : Operation) (preceding : Place) (s : Point m o precedi
   pub kind_of : (v : Value) → News v → NewKind v
   kind_of v n = subst NewKind (sym n.2) (by_mark (counted_rules n.0 n.1))
     where
-      by_mark : Told m3.next IsHeld IsNew m1.next (m1.next + length args) m4.next n.0 → NewKind n.0.1
+      by_mark : PlaceholderProperties m3.next IsHeld IsNew m1.next (m1.next + length args) m4.next n.0 → NewKind n.0.1
       by_mark k = subst NewKind (sym k.value) (go k.mark k.later)
         where
           go : (b : Bool) → m4.next ≤ k.cast → NewKind (cond b (Result k.cast 0) (Arg m3.next 0 k.number))
@@ -416,7 +416,7 @@ module _ (m : Module) (o : Operation) (preceding : Place) (s : Point m o precedi
   pub side5 : region_at 0 (regions lo.led.across.located.at.here) ≡ Some (block args (joined_ops (ended.preceding ++ ended.end ∷ []) no_ops))
   side5 = lo.led.side ∙ ap (λ l. Some (block args (joined_ops l no_ops))) ended.is
 
-  pub fits5 : (p : Operation) → In p (ended.preceding ++ ended.end ∷ []) → Fit (head o).id m3.next preceding hx hy deep p
+  pub fits5 : (p : Operation) → In p (ended.preceding ++ ended.end ∷ []) → IsWithinLimits (head o).id m3.next preceding hx hy deep p
   fits5 p i = fits p (subst (In p) (sym ended.is) i)
 
   pub spared5 : (k : ℕ) → uses_of (Arg (head o).id 0 k) m5.tree ≡ []
@@ -455,7 +455,7 @@ module _ (m : Module) (o : Operation) (preceding : Place) (s : Point m o precedi
       kept_n : Kept is_isolated B m5.tree n.tree
       kept_n = stays.kept (λ b h. h.0) all_out
 
-      by_mark : Told m3.next IsHeld IsNew m1.next (m1.next + length args) m4.next new_v.0 → dominated_by (head ended.end).id new_v.0.1 n ≡ true
+      by_mark : PlaceholderProperties m3.next IsHeld IsNew m1.next (m1.next + length args) m4.next new_v.0 → dominated_by (head ended.end).id new_v.0.1 n ≡ true
       by_mark k = subst (λ z. dominated_by (head ended.end).id z n ≡ true) (sym k.value) (go k.mark k.later k.news)
         where
           go : (b : Bool) → m4.next ≤ k.cast → IsNew b k.number k.cast new_v.0.2 → dominated_by (head ended.end).id (cond b (Result k.cast 0) (Arg m3.next 0 k.number)) n ≡ true
@@ -556,7 +556,7 @@ module _ (m : Module) (o : Operation) (preceding : Place) (s : Point m o precedi
   pub fresh6 : (p : Pair) → In p ps → Fresh (head o).id m3.next l preceding rs ys few p (ended.preceding ++ ended.end ∷ []) m6
   fresh6 p i = by_mark (counted_rules p i)
     where
-      by_mark : Told m3.next IsHeld IsNew m1.next (m1.next + length args) m4.next p → Fresh (head o).id m3.next l preceding rs ys few p (ended.preceding ++ ended.end ∷ []) m6
+      by_mark : PlaceholderProperties m3.next IsHeld IsNew m1.next (m1.next + length args) m4.next p → Fresh (head o).id m3.next l preceding rs ys few p (ended.preceding ++ ended.end ∷ []) m6
       by_mark k =
           let typed = types k.mark k.news k.index in
           record {

@@ -33,7 +33,7 @@ use Rattle.patterns_soundness.specs.base.Casting.{resizing, extend_extension, cu
 use Rattle.patterns_soundness.specs.base.Folding.{folded_to, may_read, fold_to_constant, cancel_itself, zero_remainder, regroup_constants, add_negative, compare_itself, compare_zero, expand_min_max, expand_difference, expand_remainder}
 use Rattle.patterns_soundness.proofs.Points.{DefiningOp, Point, dominated_by_after, dominated_by_operand}
 use Rattle.patterns_soundness.proofs.Limits as fit
-use Rattle.patterns_soundness.proofs.Limits.{Fit}
+use Rattle.patterns_soundness.proofs.Limits.{IsWithinLimits}
 use Rattle.patterns_soundness.proofs.Shapes.{one_is, source_among_is, source_is, two_is}
 use Rattle.patterns_soundness.proofs.Given.{HasHeadroom, fits, gives_after}
 use Rattle.patterns_laws.proofs.KnownFolds.{given_some}
@@ -49,23 +49,23 @@ few_flags name = go (among flagged name)
 
 module _ (x : ℕ) (insertion : Place) (ty : TypeTerm) where
   -- the result of a new operation replaces the result of x
-  pub by_new : (m : Module) (f : Fit x insertion ty 1 m) (n : ℕ) → n ≡ m.next → (name : List ℕ) (operands : List Value) (properties : Entries) → items_fit operands ≡ true → items_fit properties ≡ true
+  pub by_new : (m : Module) (f : IsWithinLimits x insertion ty 1 m) (n : ℕ) → n ≡ m.next → (name : List ℕ) (operands : List Value) (properties : Entries) → items_fit operands ≡ true → items_fit properties ≡ true
       → list_all (visible is_isolated m.tree x) operands ≡ true → Free (give_new insertion n x (made name operands ty properties)) m
   by_new m f n e name operands properties few short seen = fit.new_given x insertion ty 0 m f name operands ty properties few short seen n e (type_refl ty)
 
   -- a constant replaces it
-  pub by_constant : (m : Module) → Fit x insertion ty 1 m → (n : ℕ) → n ≡ m.next → (bits : ℕ) → Free (give_constant insertion n x ty bits) m
+  pub by_constant : (m : Module) → IsWithinLimits x insertion ty 1 m → (n : ℕ) → n ≡ m.next → (bits : ℕ) → Free (give_constant insertion n x ty bits) m
   by_constant m f n e bits = by_new m f n e (codes "arith.constant") [] (value_entry ty bits) refl refl refl
 
   -- an operation on two values that dominate x replaces it
-  pub by_binary : (m : Module) → Fit x insertion ty 1 m → (n : ℕ) → n ≡ m.next → (name : List ℕ) (a b : Value) → dominated_by x a m ≡ true → dominated_by x b m ≡ true → Free (give_new insertion n x (binary name ty a b)) m
+  pub by_binary : (m : Module) → IsWithinLimits x insertion ty 1 m → (n : ℕ) → n ≡ m.next → (name : List ℕ) (a b : Value) → dominated_by x a m ≡ true → dominated_by x b m ≡ true → Free (give_new insertion n x (binary name ty a b)) m
   by_binary m f n e name a b p q = by_new m f n e name (a ∷ b ∷ []) (flags name) refl (few_flags name) (both_hold (dominated_by x a m) _ p (both_hold (dominated_by x b m) true q refl))
 
   -- an operation is made, followed by other edits
-  module _ (k : ℕ) (m : Module) (f : Fit x insertion ty (suc k) m) (name : List ℕ) (operands : List Value) (new : TypeTerm) (properties : Entries) (few : items_fit operands ≡ true) (short : items_fit properties ≡ true)
+  module _ (k : ℕ) (m : Module) (f : IsWithinLimits x insertion ty (suc k) m) (name : List ℕ) (operands : List Value) (new : TypeTerm) (properties : Entries) (few : items_fit operands ≡ true) (short : items_fit properties ≡ true)
       (seen : list_all (visible is_isolated m.tree x) operands ≡ true) (es : List Edit) where
     abbrev pub GoesOn : Type 0
-    GoesOn = (n : Module) → Fit x insertion ty k n → ((v : Value) → dominated_by x v m ≡ true → dominated_by x v n ≡ true) → ((i : ℕ) → i ≡ m.next → dominated_by x (Result i 0) n ≡ true) → n.next ≡ m.next + 1 → Free es n
+    GoesOn = (n : Module) → IsWithinLimits x insertion ty k n → ((v : Value) → dominated_by x v m ≡ true → dominated_by x v n ≡ true) → ((i : ℕ) → i ≡ m.next → dominated_by x (Result i 0) n ≡ true) → n.next ≡ m.next + 1 → Free es n
 
     pub make_then : GoesOn → Free (Make insertion (made name operands new properties) ∷ es) m
     make_then go =
@@ -73,21 +73,21 @@ module _ (x : ℕ) (insertion : Place) (ty : TypeTerm) where
         (go (edited (Make insertion (made name operands new properties)) m) (fit.made_fit x insertion ty k m f name operands new properties few short seen) (fit.dominated_by_still x insertion ty k m f name operands new properties few short seen)
         (fit.dominated_by_new x insertion ty k m f name operands new properties few short seen) refl)
 
-  constant_then : (k : ℕ) (m : Module) (f : Fit x insertion ty (suc k) m) (bits : ℕ) (es : List Edit) → GoesOn k m f (codes "arith.constant") [] ty (value_entry ty bits) refl refl refl es → Free (Make insertion (constant ty bits) ∷ es) m
+  constant_then : (k : ℕ) (m : Module) (f : IsWithinLimits x insertion ty (suc k) m) (bits : ℕ) (es : List Edit) → GoesOn k m f (codes "arith.constant") [] ty (value_entry ty bits) refl refl refl es → Free (Make insertion (constant ty bits) ∷ es) m
   constant_then k m f bits es = make_then k m f (codes "arith.constant") [] ty (value_entry ty bits) refl refl refl es
 
-  binary_then : (k : ℕ) (m : Module) (f : Fit x insertion ty (suc k) m) (name : List ℕ) (a b : Value) (p : dominated_by x a m ≡ true) (q : dominated_by x b m ≡ true) (es : List Edit)
+  binary_then : (k : ℕ) (m : Module) (f : IsWithinLimits x insertion ty (suc k) m) (name : List ℕ) (a b : Value) (p : dominated_by x a m ≡ true) (q : dominated_by x b m ≡ true) (es : List Edit)
       → GoesOn k m f name (a ∷ b ∷ []) ty (flags name) refl (few_flags name) (both_hold (dominated_by x a m) _ p (both_hold (dominated_by x b m) true q refl)) es → Free (Make insertion (binary name ty a b) ∷ es) m
   binary_then k m f name a b p q es = make_then k m f name (a ∷ b ∷ []) ty (flags name) refl (few_flags name) (both_hold (dominated_by x a m) _ p (both_hold (dominated_by x b m) true q refl)) es
 
   -- an operation whose second operand is a new constant replaces it
-  pub by_binary_constant : (m : Module) → Fit x insertion ty 2 m → (bits : ℕ) (name : List ℕ) (a : Value) → dominated_by x a m ≡ true
+  pub by_binary_constant : (m : Module) → IsWithinLimits x insertion ty 2 m → (bits : ℕ) (name : List ℕ) (a : Value) → dominated_by x a m ≡ true
       → Free (Make insertion (constant ty bits) ∷ give_new insertion (m.next + 1) x (binary name ty a (Result m.next 0))) m
   by_binary_constant m f bits name a p =
       constant_then 1 m f bits (give_new insertion (m.next + 1) x (binary name ty a (Result m.next 0))) (λ n g still new e. by_binary n g (m.next + 1) (sym e) name a (Result m.next 0) (still a p) (new m.next refl))
 
   -- a select between two values by their comparison replaces it
-  pub by_comparison : (m : Module) → Fit x insertion ty 2 m → (asks : ℕ) (a b : Value) → dominated_by x a m ≡ true → dominated_by x b m ≡ true
+  pub by_comparison : (m : Module) → IsWithinLimits x insertion ty 2 m → (asks : ℕ) (a b : Value) → dominated_by x a m ≡ true → dominated_by x b m ≡ true
       → Free (Make insertion (comparison asks a b) ∷ give_new insertion (m.next + 1) x (choice ty (Result m.next 0) a b)) m
   by_comparison m f asks a b p q =
       make_then 1 m f (codes "arith.cmpi") (a ∷ b ∷ []) i1 (predicate_entry asks) refl refl (both_hold (dominated_by x a m) _ p (both_hold (dominated_by x b m) true q refl)) (give_new insertion (m.next + 1) x (choice ty (Result m.next 0) a b))
@@ -95,7 +95,7 @@ module _ (x : ℕ) (insertion : Place) (ty : TypeTerm) where
       (both_hold (dominated_by x (Result m.next 0) n) _ (new m.next refl) (both_hold (dominated_by x a n) _ (still a p) (both_hold (dominated_by x b n) true (still b q) refl))))
 
   -- a sum with the complement of a value and 1 replaces it
-  pub by_complement : (m : Module) → Fit x insertion ty 5 m → (bits : ℕ) (a b : Value) → dominated_by x a m ≡ true → dominated_by x b m ≡ true
+  pub by_complement : (m : Module) → IsWithinLimits x insertion ty 5 m → (bits : ℕ) (a b : Value) → dominated_by x a m ≡ true → dominated_by x b m ≡ true
       → Free
       (Make insertion (constant ty bits)
       ∷ Make insertion (binary (codes "arith.xori") ty b (Result m.next 0))
@@ -115,7 +115,7 @@ module _ (x : ℕ) (insertion : Place) (ty : TypeTerm) where
       by_binary m4 f4 (n + 4) (omega (arith, e1, e2, e3, e4)) (codes "arith.addi") a (Result (n + 3) 0) (still4 a (still3 a (still2 a (still1 a p)))) (new4 (n + 3) (omega (arith, e1, e2, e3)))))))
 
   -- the expansion of a remainder replaces it
-  pub by_remainder : (m : Module) → Fit x insertion ty 3 m → (division : List ℕ) (a b : Value) → dominated_by x a m ≡ true → dominated_by x b m ≡ true
+  pub by_remainder : (m : Module) → IsWithinLimits x insertion ty 3 m → (division : List ℕ) (a b : Value) → dominated_by x a m ≡ true → dominated_by x b m ≡ true
       → Free
       (Make insertion (binary division ty a b) ∷ Make insertion (binary (codes "arith.muli") ty (Result m.next 0) b) ∷ give_new insertion (m.next + 2) x (binary (codes "arith.subi") ty a (Result (m.next + 1) 0)))
       m

@@ -50,7 +50,7 @@ use Rattle.patterns_soundness.proofs.Kept.{Kept}
 use Rattle.patterns_soundness.proofs.Moving as moving
 use Rattle.patterns_soundness.proofs.Moving.{HasBlock, located_left}
 use Rattle.patterns_soundness.proofs.Ordered.{Before, Inside, around_at, inner_dominated_by, inner_table, inside_left, later_around, later_dominated_by, later_shows, later_table, put_before, there_left}
-use Rattle.patterns_soundness.proofs.Steps.{Across, Fit, Lack, UsedBy, absent_all, across_moved, count_moved, each_at, nothing, side_moved, there_of, used_there, users_moved}
+use Rattle.patterns_soundness.proofs.Steps.{Across, IsWithinLimits, Lack, UsedBy, absent_all, across_moved, count_moved, each_at, nothing, side_moved, there_of, used_there, users_moved}
 use Rattle.std.proofs.lemmas.Option.{slice_get_within}
 
 abbrev OpWithPath : Type 0
@@ -58,7 +58,7 @@ OpWithPath = OpWithPathOf (List ℕ) TypeTerm AttrTerm
 
 module _ (x y r : ℕ) (insertion : Place) (hx hy : Header) (deep : ℕ) (x_opened : is_isolated hx.name ≡ false) (x_plain : is_table hx.name ≡ false)
     (m : Module) (s : Across x y insertion hx hy deep m) (z : Operation) (vs : List Operation) (args : List TypeTerm) (is : region_at r (regions s.located.at.here) ≡ Some (block args (joined_ops (z ∷ vs) no_ops)))
-    (spared : (k : ℕ) → uses_of (Arg x r k) m.tree ≡ []) (fit : Fit x y insertion hx hy deep z) (fits : (o : Operation) → In o vs → Fit x y insertion hx hy deep o) (lacks : (o : Operation) → In o vs → Lack z o) (users : UsedBy z vs m.tree) where
+    (spared : (k : ℕ) → uses_of (Arg x r k) m.tree ≡ []) (fit : IsWithinLimits x y insertion hx hy deep z) (fits : (o : Operation) → In o vs → IsWithinLimits x y insertion hx hy deep o) (lacks : (o : Operation) → In o vs → Lack z o) (users : UsedBy z vs m.tree) where
   abbrev t : Operation
   t = m.tree
 

@@ -67,7 +67,7 @@ module _ (y : ℕ) where
   pairs_are (false ∷ ms) h k c (ty ∷ tys) e = ap (λ l. Replace (Result h 0) (Arg y 0 k) ∷ l) (pairs_are ms (h + 1) (k + 1) c tys (omega (arith, e)))
 
   -- the properties of one placeholder
-  pub record Told (H : ℕ → TypeTerm → Type 0) (V : Bool → ℕ → ℕ → TypeTerm → Type 0) (h h2 c : ℕ) (p : Pair) : Type 0 where
+  pub record PlaceholderProperties (H : ℕ → TypeTerm → Type 0) (V : Bool → ℕ → ℕ → TypeTerm → Type 0) (h h2 c : ℕ) (p : Pair) : Type 0 where
     pub low : h ≤ p.0
     pub high : p.0 < h2
     pub held : H p.0 p.2
@@ -88,14 +88,14 @@ module _ (y : ℕ) where
   AllNew V (b ∷ ms) k c (ty ∷ tys) = V b k c ty × AllNew V ms (k + 1) (cond b (c + 1) c) tys
   AllNew V _ k c _ = Unit {0}
 
-  pub told : (H : ℕ → TypeTerm → Type 0) (V : Bool → ℕ → ℕ → TypeTerm → Type 0) (ms : List Bool) (h k c : ℕ) (tys : List TypeTerm) → ms ≡ indices tys → AllHeld H h tys → AllNew V ms k c tys → (p : Pair) → In p (pairs ms h k c tys) → Told H V h (h + length tys) c p
+  pub told : (H : ℕ → TypeTerm → Type 0) (V : Bool → ℕ → ℕ → TypeTerm → Type 0) (ms : List Bool) (h k c : ℕ) (tys : List TypeTerm) → ms ≡ indices tys → AllHeld H h tys → AllNew V ms k c tys → (p : Pair) → In p (pairs ms h k c tys) → PlaceholderProperties H V h (h + length tys) c p
   unfolding pairs
   told H V [] h k c tys e a n p i = absurd i
   told H V (true ∷ ms) h k c [] e a n p i = absurd i
   told H V (false ∷ ms) h k c [] e a n p i = absurd i
   told H V (true ∷ ms) h k c (ty ∷ tys) e a n p (inl q) =
       let same : true ≡ is_index ty = cc in
-      subst (Told H V h (h + length (ty ∷ tys)) c) (sym q) (record { low = omega arith; high = omega arith; held = a.0; mark = true; number = k; cast = c; later = omega arith; value = refl; news = n.0; index = sym same })
+      subst (PlaceholderProperties H V h (h + length (ty ∷ tys)) c) (sym q) (record { low = omega arith; high = omega arith; held = a.0; mark = true; number = k; cast = c; later = omega arith; value = refl; news = n.0; index = sym same })
   told H V (true ∷ ms) h k c (ty ∷ tys) e a n p (inr i) =
       let rest : ms ≡ indices tys = cc in
       let r = told H V ms (h + 1) (k + 1) (c + 1) tys rest a.1 n.1 p i in
@@ -105,7 +105,7 @@ module _ (y : ℕ) where
       record { low = omega (arith, l); high = omega (arith, m); held = r.held; mark = r.mark; number = r.number; cast = r.cast; later = omega (arith, j); value = r.value; news = r.news; index = r.index }
   told H V (false ∷ ms) h k c (ty ∷ tys) e a n p (inl q) =
       let same : false ≡ is_index ty = cc in
-      subst (Told H V h (h + length (ty ∷ tys)) c) (sym q) (record { low = omega arith; high = omega arith; held = a.0; mark = false; number = k; cast = c; later = omega arith; value = refl; news = n.0; index = sym same })
+      subst (PlaceholderProperties H V h (h + length (ty ∷ tys)) c) (sym q) (record { low = omega arith; high = omega arith; held = a.0; mark = false; number = k; cast = c; later = omega arith; value = refl; news = n.0; index = sym same })
   told H V (false ∷ ms) h k c (ty ∷ tys) e a n p (inr i) =
       let rest : ms ≡ indices tys = cc in
       let r = told H V ms (h + 1) (k + 1) c tys rest a.1 n.1 p i in

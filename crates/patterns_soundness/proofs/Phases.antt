@@ -31,7 +31,7 @@ use Rattle.patterns_soundness.proofs.Moving.{HasBlock}
 use Rattle.patterns_soundness.proofs.Ordered.{Before, Inside}
 use Rattle.patterns_soundness.proofs.Outwards as outwards
 use Rattle.patterns_soundness.proofs.Shifts.{move_heads, move_types}
-use Rattle.patterns_soundness.proofs.Steps.{Across, Fit, Lack, UsedBy, nothing}
+use Rattle.patterns_soundness.proofs.Steps.{Across, IsWithinLimits, Lack, UsedBy, nothing}
 
 abbrev pub id_of : Operation → ℕ
 id_of o = (head o).id
@@ -95,8 +95,8 @@ module _ (x y r : ℕ) (insertion : Place) (hx hy : Header) (deep : ℕ) (x_open
     pub is : region_at r (regions across.located.at.here) ≡ Some (block args (joined_ops vs no_ops))
     pub spared : (k : ℕ) → uses_of (Arg x r k) m.tree ≡ []
     pub moved : (o : Operation) → In o rs → Before (head o).id y m.tree × (find (head o).id m.tree ≡ Some o)
-    pub fits : (o : Operation) → In o vs → Fit x y insertion hx hy deep o
-    pub moved_fits : (o : Operation) → In o rs → Fit x y insertion hx hy deep o
+    pub fits : (o : Operation) → In o vs → IsWithinLimits x y insertion hx hy deep o
+    pub moved_fits : (o : Operation) → In o rs → IsWithinLimits x y insertion hx hy deep o
     pub rel : AllRel vs m.tree
     pub turned : AllTurned rs vs m.tree
 
@@ -108,13 +108,13 @@ module _ (x y r : ℕ) (insertion : Place) (hx hy : Header) (deep : ℕ) (x_open
     pub free : (es : List Edit) → Free es (all_edited (moving (next_to insertion y) (map (λ o. id_of o) vs)) m) → Free (moving (next_to insertion y) (map (λ o. id_of o) vs) ++ es) m
     pub out : Out (turned_onto vs rs) [] (all_edited (moving (next_to insertion y) (map (λ o. id_of o) vs)) m)
     pub stays : Stays vs m (all_edited (moving (next_to insertion y) (map (λ o. id_of o) vs)) m)
-    pub sides : (q : ℕ) (targs : List TypeTerm) (ws : List Operation) → ((o : Operation) → In o ws → Fit x y insertion hx hy deep o) → ((z o : Operation) → In z vs → In o ws → has_id (head z).id o ≡ false) → Side q targs ws m s → Side q targs ws (all_edited (moving (next_to insertion y) (map (λ o. id_of o) vs)) m) out.across
+    pub sides : (q : ℕ) (targs : List TypeTerm) (ws : List Operation) → ((o : Operation) → In o ws → IsWithinLimits x y insertion hx hy deep o) → ((z o : Operation) → In z vs → In o ws → has_id (head z).id o ≡ false) → Side q targs ws m s → Side q targs ws (all_edited (moving (next_to insertion y) (map (λ o. id_of o) vs)) m) out.across
 
   module _ (rs : List Operation) (z : Operation) (vs : List Operation) (m : Module) (o : Out rs (z ∷ vs) m) where
-    abbrev fit : Fit x y insertion hx hy deep z
+    abbrev fit : IsWithinLimits x y insertion hx hy deep z
     fit = o.fits z (inl refl)
 
-    abbrev fits : (p : Operation) → In p vs → Fit x y insertion hx hy deep p
+    abbrev fits : (p : Operation) → In p vs → IsWithinLimits x y insertion hx hy deep p
     fits = λ p i. o.fits p (inr i)
 
     abbrev next_one : Module
@@ -137,8 +137,8 @@ module _ (x y r : ℕ) (insertion : Place) (hx hy : Header) (deep : ℕ) (x_open
       turned = (rel_kept m.tree next_one.tree none_more z vs o.rel.0, turned_kept m.tree next_one.tree none_more rs (z ∷ vs) o.turned);
     }
       where
-        fits_now : (p : Operation) → In p (z ∷ rs) → Fit x y insertion hx hy deep p
-        fits_now p (inl e) = subst (λ q. Fit x y insertion hx hy deep q) (sym e) fit
+        fits_now : (p : Operation) → In p (z ∷ rs) → IsWithinLimits x y insertion hx hy deep p
+        fits_now p (inl e) = subst (λ q. IsWithinLimits x y insertion hx hy deep q) (sym e) fit
         fits_now p (inr i) = o.moved_fits p i
 
         moved_now : (p : Operation) → In p (z ∷ rs) → Before (head p).id y next_one.tree × (find (head p).id next_one.tree ≡ Some p)
@@ -164,7 +164,7 @@ module _ (x y r : ℕ) (insertion : Place) (hx hy : Header) (deep : ℕ) (x_open
       next = refl;
     }
 
-    step_side : (q : ℕ) (targs : List TypeTerm) (ws : List Operation) → ((p : Operation) → In p ws → Fit x y insertion hx hy deep p) → ((p : Operation) → In p ws → has_id (head z).id p ≡ false) → Side q targs ws m o.across → Side q targs ws next_one step_out.across
+    step_side : (q : ℕ) (targs : List TypeTerm) (ws : List Operation) → ((p : Operation) → In p ws → IsWithinLimits x y insertion hx hy deep p) → ((p : Operation) → In p ws → has_id (head z).id p ≡ false) → Side q targs ws m o.across → Side q targs ws next_one step_out.across
     unfolding step_out
     step_side q targs ws wf lacks side = outwards.out_side x y r insertion hx hy deep x_opened x_plain m o.across z vs args o.is o.spared fit fits o.rel.0.1 o.rel.0.0 q targs ws (λ p i. (lacks p i, (wf p i).parent_out)) side
 
@@ -194,7 +194,7 @@ module _ (x y r : ℕ) (insertion : Place) (hx hy : Header) (deep : ℕ) (x_open
   abbrev Stepped : List Operation → Operation → List Operation → (m : Module) → Across x y insertion hx hy deep m → Module → Type 0
   Stepped rs z vs m s n =
       (o : Out (z ∷ rs) vs n) × Stays (z ∷ []) m n
-      × ((q : ℕ) (targs : List TypeTerm) (ws : List Operation) → ((p : Operation) → In p ws → Fit x y insertion hx hy deep p) → ((p : Operation) → In p ws → has_id (head z).id p ≡ false) → Side q targs ws m s → Side q targs ws n o.across)
+      × ((q : ℕ) (targs : List TypeTerm) (ws : List Operation) → ((p : Operation) → In p ws → IsWithinLimits x y insertion hx hy deep p) → ((p : Operation) → In p ws → has_id (head z).id p ≡ false) → Side q targs ws m s → Side q targs ws n o.across)
 
   stepped : (rs : List Operation) (z : Operation) (vs : List Operation) (m : Module) (o : Out rs (z ∷ vs) m) → Stepped rs z vs m o.across (edited (Move (head z).id (next_to insertion y)) m)
   stepped rs z vs m o = subst (Stepped rs z vs m o.across) (sym (step_is rs z vs m o)) (step_out rs z vs m o, step_stays rs z vs m o, step_side rs z vs m o)
@@ -225,8 +225,8 @@ module _ (x y r : ℕ) (insertion : Place) (hx hy : Header) (deep : ℕ) (x_open
       pub moved : (o : Operation) → In o rs → Before (head o).id y m.tree × (find (head o).id m.tree ≡ Some o)
       pub came : (o : Operation) → In o vs → Came y r m.tree o
       pub first : IsFirst vs m.tree
-      pub fits : (o : Operation) → In o vs → Fit x y insertion hx hy deep o
-      pub moved_fits : (o : Operation) → In o rs → Fit x y insertion hx hy deep o
+      pub fits : (o : Operation) → In o vs → IsWithinLimits x y insertion hx hy deep o
+      pub moved_fits : (o : Operation) → In o rs → IsWithinLimits x y insertion hx hy deep o
       pub turned : AllTurned rs vs m.tree
       pub news : (v : Value) → News v → (o : Operation) → In o vs → dominated_by (head o).id v m ≡ true
 
@@ -238,7 +238,7 @@ module _ (x y r : ℕ) (insertion : Place) (hx hy : Header) (deep : ℕ) (x_open
       abbrev next_in : Module
       next_in = record m { tree = put (record { parent = y; region = r; before = first_came vs }) z (without (head z).id m.tree) }
 
-      abbrev zf : Fit x y insertion hx hy deep z
+      abbrev zf : IsWithinLimits x y insertion hx hy deep z
       zf = c.moved_fits z (inl refl)
 
       in_more : NoneMore m.tree next_in.tree
@@ -258,8 +258,8 @@ module _ (x y r : ℕ) (insertion : Place) (hx hy : Header) (deep : ℕ) (x_open
         news = news;
       }
         where
-          fits_now : (p : Operation) → In p (z ∷ vs) → Fit x y insertion hx hy deep p
-          fits_now p (inl e) = subst (λ q. Fit x y insertion hx hy deep q) (sym e) zf
+          fits_now : (p : Operation) → In p (z ∷ vs) → IsWithinLimits x y insertion hx hy deep p
+          fits_now p (inl e) = subst (λ q. IsWithinLimits x y insertion hx hy deep q) (sym e) zf
           fits_now p (inr i) = c.fits p i
 
           came_now : (p : Operation) → In p (z ∷ vs) → Came y r next_in.tree p
@@ -284,7 +284,7 @@ module _ (x y r : ℕ) (insertion : Place) (hx hy : Header) (deep : ℕ) (x_open
         next = refl;
       }
 
-      pub in_step_side : (news : (v : Value) → News v → (o : Operation) → In o (z ∷ vs) → dominated_by (head o).id v next_in ≡ true) (q : ℕ) (targs : List TypeTerm) (ws : List Operation) → ((p : Operation) → In p ws → Fit x y insertion hx hy deep p) → ((p : Operation) → In p ws → has_id (head z).id p ≡ false)
+      pub in_step_side : (news : (v : Value) → News v → (o : Operation) → In o (z ∷ vs) → dominated_by (head o).id v next_in ≡ true) (q : ℕ) (targs : List TypeTerm) (ws : List Operation) → ((p : Operation) → In p ws → IsWithinLimits x y insertion hx hy deep p) → ((p : Operation) → In p ws → has_id (head z).id p ≡ false)
           → Side q targs ws m c.across → Side q targs ws next_in (in_step news).across
       unfolding in_step
       in_step_side news q targs ws wf lacks side = inwards.in_side x y r insertion hx hy deep y_opened y_plain m c.across c.into z (c.moved z (inl refl)).0 (c.moved z (inl refl)).1 vs c.came c.first zf c.fits c.turned.0.1 c.turned.0.0 q targs ws (λ p i. (lacks p i, (wf p i).y_out)) side
@@ -293,7 +293,7 @@ module _ (x y r : ℕ) (insertion : Place) (hx hy : Header) (deep : ℕ) (x_open
       abbrev pub Entered : Module → Type 0
       Entered n =
           (k : Coming rs (z ∷ vs) n) × Stays (z ∷ []) m n
-          × ((q : ℕ) (targs : List TypeTerm) (ws : List Operation) → ((p : Operation) → In p ws → Fit x y insertion hx hy deep p) → ((p : Operation) → In p ws → has_id (head z).id p ≡ false) → Side q targs ws m c.across → Side q targs ws n k.across)
+          × ((q : ℕ) (targs : List TypeTerm) (ws : List Operation) → ((p : Operation) → In p ws → IsWithinLimits x y insertion hx hy deep p) → ((p : Operation) → In p ws → has_id (head z).id p ≡ false) → Side q targs ws m c.across → Side q targs ws n k.across)
 
       pub entered : ((v : Value) → News v → (o : Operation) → In o (z ∷ vs) → dominated_by (head o).id v next_in ≡ true) → Entered (edited (Move (head z).id (record { parent = y; region = r; before = first_came vs })) m)
       entered news = subst Entered (sym in_step_is) (in_step news, in_step_stays, in_step_side news)
@@ -302,7 +302,7 @@ module _ (x y r : ℕ) (insertion : Place) (hx hy : Header) (deep : ℕ) (x_open
       pub free : (fs : List Edit) → Free fs (all_edited es m) → Free (es ++ fs) m
       pub coming : Coming [] (turned_onto rs vs) (all_edited es m)
       pub stays : Stays rs m (all_edited es m)
-      pub sides : (q : ℕ) (targs : List TypeTerm) (ws : List Operation) → ((o : Operation) → In o ws → Fit x y insertion hx hy deep o) → ((z o : Operation) → In z rs → In o ws → has_id (head z).id o ≡ false) → Side q targs ws m s → Side q targs ws (all_edited es m) coming.across
+      pub sides : (q : ℕ) (targs : List TypeTerm) (ws : List Operation) → ((o : Operation) → In o ws → IsWithinLimits x y insertion hx hy deep o) → ((z o : Operation) → In z rs → In o ws → has_id (head z).id o ≡ false) → Side q targs ws m s → Side q targs ws (all_edited es m) coming.across
 
     -- all operations before y move in, each before the one that moved last
     pub phase_in : (rs : List Operation) (p : Operation) (ws : List Operation) (m : Module) (c : Coming rs (p ∷ ws) m) → ((v : Value) → News v → (o : Operation) → In o rs → eqb (owner_of v).0 (head o).id ≡ false) → InDone (gathering y r (head p).id (map (λ o. id_of o) rs)) rs (p ∷ ws) m c.across

@@ -51,7 +51,7 @@ use Rattle.patterns_soundness.proofs.Moving.{HasBlock}
 use Rattle.patterns_soundness.proofs.Ordered.{Before, around_at, put_before}
 use Rattle.patterns_soundness.proofs.Phases.{AllRel, Rel}
 use Rattle.patterns_soundness.proofs.Points.{own_operand}
-use Rattle.patterns_soundness.proofs.Steps.{Across, Fit, Lack, UsedBy, absent_all, each_at, nothing, there_of}
+use Rattle.patterns_soundness.proofs.Steps.{Across, IsWithinLimits, Lack, UsedBy, absent_all, each_at, nothing, there_of}
 use Rattle.ir_event.proofs.of_tree_laws.Changed.{gather_none}
 use Rattle.effects.proofs.Unused.{none_here}
 use Rattle.ir_event.proofs.of_tree_laws.Facts.{new_id}
@@ -155,7 +155,7 @@ module _ (x : ℕ) (insertion : Place) (m : Module) (s : StandsAt x insertion m)
           )
 
   -- they are movable if y is new
-  pub fit_of : (y : ℕ) (hx hy : Header) (deep : ℕ) → has_id y m.tree ≡ false → deep ≡ length (s.at.step_in ∷ s.at.path) → (z : Operation) → In z all → Fit x y insertion hx hy deep z
+  pub fit_of : (y : ℕ) (hx hy : Header) (deep : ℕ) → has_id y m.tree ≡ false → deep ≡ length (s.at.step_in ∷ s.at.path) → (z : Operation) → In z all → IsWithinLimits x y insertion hx hy deep z
   fit_of y hx hy deep new depth_is z i =
       let c = cut_at z all i in
       let there = one_stands t d s.at.here xp s.at.there r args all is c.0 c.1 z c.2 in

@@ -109,7 +109,7 @@ module _ (x y : ℕ) (insertion : Place) (hx hy : Header) (deep : ℕ) where
     pub depths : around x m.tree ≡ Some deep
 
   -- x and y aren't inside the operation, and its levels are within the depth limit
-  pub record Fit (z : Operation) : Type 0 where
+  pub record IsWithinLimits (z : Operation) : Type 0 where
     pub x_out : has_id x z ≡ false
     pub y_out : has_id y z ≡ false
     pub parent_out : has_id insertion.parent z ≡ false
@@ -127,7 +127,7 @@ module _ (x y : ℕ) (insertion : Place) (hx hy : Header) (deep : ℕ) where
       go o id out true e = absurd (true≢false (sym (ap (λ i. has_id i o) (eqb-true x y e ∙ sym id) ∙ own_id o) ∙ out))
 
   -- ---- properties of any move of z to a place
-  module _ (m : Module) (s : Across m) (z : Operation) (place : Place) (found : find (head z).id m.tree ≡ Some z) (root : eqb (head m.tree).id (head z).id ≡ false) (point : has_place place m.tree ≡ true) (outside : leads_inside place (Some z) ≡ false) (fit : Fit z) where
+  module _ (m : Module) (s : Across m) (z : Operation) (place : Place) (found : find (head z).id m.tree ≡ Some z) (root : eqb (head m.tree).id (head z).id ≡ false) (point : has_place place m.tree ≡ true) (outside : leads_inside place (Some z) ≡ false) (fit : IsWithinLimits z) where
     abbrev t : Operation
     t = m.tree
 

@@ -34,7 +34,7 @@ use Rattle.patterns_base.specs.Made.{Entries, made, value_entry}
 use Rattle.patterns_base.specs.Makes.{give, made_by}
 use Rattle.patterns_base.specs.Rewrites.{becomes, carried_out, refused}
 use Rattle.patterns_soundness.proofs.Limits as fit
-use Rattle.patterns_soundness.proofs.Limits.{Fit}
+use Rattle.patterns_soundness.proofs.Limits.{IsWithinLimits}
 use Rattle.patterns_soundness.proofs.Given.{HasHeadroom}
 use Rattle.user_patterns_check.specs.Contents.{Content}
 use Rattle.user_patterns_check.specs.Outcomes.{Outcome, given, run}
@@ -159,7 +159,7 @@ module _ (x : ℕ) (insertion : Place) (ty : TypeTerm) (root : ℕ) (ts : BoundV
             rest = is ∙ ap (λ z. Some (r.0, z)) (ap (λ (z : List Operation × BoundValues Value). z.1) two);
           }
 
-  ends : (w : NewValue) (k : ℕ) (m : Module) → Fit x insertion ty 1 m → (b : BoundValues Value) (os : List Operation) (c : BoundValues Value) → Step w [] k m b os c → (t : ℕ) → last_type (w ∷ []) ≡ Some t → binding_at t ts ≡ Some ty
+  ends : (w : NewValue) (k : ℕ) (m : Module) → IsWithinLimits x insertion ty 1 m → (b : BoundValues Value) (os : List Operation) (c : BoundValues Value) → Step w [] k m b os c → (t : ℕ) → last_type (w ∷ []) ≡ Some t → binding_at t ts ≡ Some ty
       → (v : Value) → slice_get c k ≡ Some (Some v) → Free (map (λ o. Make insertion o) os ++ give x v) m
   ends w k m f b os c s t last typed v at =
       let l = s.leaf_here in
@@ -175,14 +175,14 @@ module _ (x : ℕ) (insertion : Place) (ty : TypeTerm) (root : ℕ) (ts : BoundV
       given_here : {u w : Value} → Some (Some u) ≡ Some (Some w) → u ≡ w
       given_here e = cc
 
-  module _ (w : NewValue) (ws : List NewValue) (k : ℕ) (m : Module) (f : Fit x insertion ty (suc (suc (length ws))) m) (b : BoundValues Value) (all : DominatedByAll b m) (u : NewValue) (os : List Operation) (c : BoundValues Value) (s : Step w (u ∷ ws) k m b os c) where
+  module _ (w : NewValue) (ws : List NewValue) (k : ℕ) (m : Module) (f : IsWithinLimits x insertion ty (suc (suc (length ws))) m) (b : BoundValues Value) (all : DominatedByAll b m) (u : NewValue) (os : List Operation) (c : BoundValues Value) (s : Step w (u ∷ ws) k m b os c) where
     abbrev l : IsLeaf (λ u. visible is_isolated m.tree x u) ts w s.made_here
     l = s.leaf_here
 
     abbrev next_module : Module
     next_module = edited (Make insertion (made l.name l.operands l.term l.properties)) m
 
-    next_fit : Fit x insertion ty (suc (length ws)) next_module
+    next_fit : IsWithinLimits x insertion ty (suc (length ws)) next_module
     next_fit = fit.made_fit x insertion ty (suc (length ws)) m f l.name l.operands l.term l.properties l.small l.short l.pass
 
     next_dominated_by : DominatedByAll s.after next_module
@@ -196,7 +196,7 @@ module _ (x : ℕ) (insertion : Place) (ty : TypeTerm) (root : ℕ) (ts : BoundV
         (λ i. Make insertion (sym l.is i) ∷ (map (λ o. Make insertion o) s.others ++ give x v)) ∙ ap (λ z. map (λ o. Make insertion o) z ++ give x v) (sym s.all) in
         subst (λ es. Free es m) these (fit.make_first x insertion ty (suc (length ws)) m f l.name l.operands l.term l.properties l.small l.short l.pass (map (λ o. Make insertion o) s.others ++ give x v) rest)
 
-  all_free : (w : NewValue) (ws : List NewValue) (k : ℕ) (m : Module) → Fit x insertion ty (suc (length ws)) m → (b : BoundValues Value) → DominatedByAll b m → list_all (spares root) (w ∷ ws) ≡ true
+  all_free : (w : NewValue) (ws : List NewValue) (k : ℕ) (m : Module) → IsWithinLimits x insertion ty (suc (length ws)) m → (b : BoundValues Value) → DominatedByAll b m → list_all (spares root) (w ∷ ws) ≡ true
       → (os : List Operation) (c : BoundValues Value) → all_made ts env m.next k (w ∷ ws) b ≡ Some (os, c) → (t : ℕ) → last_type (w ∷ ws) ≡ Some t → binding_at t ts ≡ Some ty
       → (v : Value) → slice_get c (k + length ws) ≡ Some (Some v) → Free (map (λ o. Make insertion o) os ++ give x v) m
   all_free w [] k m f b all spared os c e t last typed v at =
@@ -295,7 +295,7 @@ module _ (p : PatternModel) (m : Module) (x : ℕ) (wellformed : IsWellFormed is
   there : StandsAt x insertion m
   there = stands m x wellformed insertion at
 
-  fits_here : (k : ℕ) → op_count m.tree + k ≤ most_ops → m.next + k ≤ most_next → Fit x insertion ty k m
+  fits_here : (k : ℕ) → op_count m.tree + k ≤ most_ops → m.next + k ≤ most_next → IsWithinLimits x insertion ty k m
   fits_here k ops ids =
       record {
         located = there;

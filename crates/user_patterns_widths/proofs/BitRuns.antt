@@ -14,13 +14,13 @@ use Rattle.dialects_int.proofs.KnownOperands.{same_itself}
 use Rattle.user_patterns_check.specs.declared.step.Step.{Step}
 use Rattle.user_patterns_check.specs.declared.step.Step.TheVariants as step
 use Rattle.user_patterns_check.specs.Outcomes.{Outcome, given, checked, pair_outcome, run, step_of}
-use Rattle.user_patterns_widths.proofs.BitValues.{Way, combined, combined_below, combined_bit, combined_value, operation, uniform, uniform_below, uniform_bit}
+use Rattle.user_patterns_widths.proofs.BitValues.{BitOperation, combined, combined_below, combined_bit, combined_value, operation, uniform, uniform_below, uniform_bit}
 
 -- ---- bitwise steps
 pub data BitStep : Type 0 where
   -- the constant 0 or -1
   constant : Bool → BitStep
-  pair : Way → ℕ → ℕ → BitStep
+  pair : BitOperation → ℕ → ℕ → BitStep
 
 -- a bitwise step on values of a kind
 abbrev pub step_at : BitsKind → BitStep → Step
@@ -53,12 +53,12 @@ module _ (k : BitsKind) (wide : is_width (width_of k) ≡ true) where
       by_test : (n m : ℕ) → n < m → nat_lt n m ≡ true
       by_test n m l = grind (arith, nat_tests)
 
-  pair_known : (o : Way) (a b : ℕ) → pair_outcome (operation o) (as_known k a) (as_known k b) ≡ Some (as_known k (combined o a b))
+  pair_known : (o : BitOperation) (a b : ℕ) → pair_outcome (operation o) (as_known k a) (as_known k b) ≡ Some (as_known k (combined o a b))
   pair_known o a b =
       ap (λ c. if c then checked (operation o) k b (value_of (operation o) (width_of k) a b) else None) (same_itself k)
       ∙ ap (checked (operation o) k b) (combined_value o (width_of k) a b)
 
-  pair_made : (o : Way) (x y : Option ℕ)
+  pair_made : (o : BitOperation) (x y : Option ℕ)
       → given (option_map (as_known k) x) (λ p. given (option_map (as_known k) y) (λ q. pair_outcome (operation o) p q)) ≡ option_map (as_known k) (given x (λ a. given y (λ b. Some (combined o a b))))
   pair_made o None y = refl
   pair_made o (Some a) None = refl
@@ -92,7 +92,7 @@ abbrev pub bits : ℕ → List ℕ → List ℕ
 bits i vs = map (bit i) vs
 
 module _ (w i : ℕ) (below : i < w) where
-  pair_bit : (o : Way) (x y : Option ℕ)
+  pair_bit : (o : BitOperation) (x y : Option ℕ)
       → given (option_map (bit i) x) (λ a. given (option_map (bit i) y) (λ b. Some (combined o a b))) ≡ option_map (bit i) (given x (λ a. given y (λ b. Some (combined o a b))))
   pair_bit o None y = refl
   pair_bit o (Some a) None = refl

@@ -22,17 +22,17 @@ use Rattle.user_patterns_widths.specs.AllWidths.{is_bitwise}
 
 -- ---- operations
 
-pub data Way : Type 0 where
-  by_and : Way
-  by_or : Way
-  by_exclusive_or : Way
+pub data BitOperation : Type 0 where
+  by_and : BitOperation
+  by_or : BitOperation
+  by_exclusive_or : BitOperation
 
-abbrev pub operation : Way → Arithmetic
+abbrev pub operation : BitOperation → Arithmetic
 operation by_and = op.And
 operation by_or = op.Or
 operation by_exclusive_or = op.ExclusiveOr
 
-abbrev pub way_of : Arithmetic → Way
+abbrev pub way_of : Arithmetic → BitOperation
 way_of op.Or = by_or
 way_of op.ExclusiveOr = by_exclusive_or
 way_of _ = by_and
@@ -43,17 +43,17 @@ way_back op.Or e = refl
 way_back op.ExclusiveOr e = refl
 way_back _ e = absurd (true≢false (sym e))
 
-abbrev pub combined : Way → ℕ → ℕ → ℕ
+abbrev pub combined : BitOperation → ℕ → ℕ → ℕ
 combined by_and a b = bit_and a b
 combined by_or a b = bit_or a b
 combined by_exclusive_or a b = bit_xor a b
 
-pub combined_value : (o : Way) (w a b : ℕ) → value_of (operation o) w a b ≡ Some (combined o a b)
+pub combined_value : (o : BitOperation) (w a b : ℕ) → value_of (operation o) w a b ≡ Some (combined o a b)
 combined_value by_and w a b = refl
 combined_value by_or w a b = refl
 combined_value by_exclusive_or w a b = refl
 
-pub combined_below : (o : Way) (w a b : ℕ) → a < 2 ^ w → b < 2 ^ w → combined o a b < 2 ^ w
+pub combined_below : (o : BitOperation) (w a b : ℕ) → a < 2 ^ w → b < 2 ^ w → combined o a b < 2 ^ w
 combined_below by_and w a b l h = let m = and_le_l a b in omega (arith, m, l)
 combined_below by_or w a b l h = or_lt w a b l h
 combined_below by_exclusive_or w a b l h = xor_lt w a b l h
@@ -81,7 +81,7 @@ one_xor (suc zero) (suc (suc b)) l h = absurd (omega (arith, h))
 one_xor (suc (suc a)) b l h = absurd (omega (arith, l))
 
 -- each bit of a result is computed from the same bit of the operands
-pub combined_bit : (o : Way) (a b i : ℕ) → bit_at (combined o a b) i ≡ combined o (bit_at a i) (bit_at b i)
+pub combined_bit : (o : BitOperation) (a b i : ℕ) → bit_at (combined o a b) i ≡ combined o (bit_at a i) (bit_at b i)
 combined_bit by_and a b i = bit_at_and a b i ∙ one_and (bit_at a i) (bit_at b i) (bit_at-lt a i) (bit_at-lt b i)
 combined_bit by_or a b i = bit_at_or a b i ∙ one_or (bit_at a i) (bit_at b i) (bit_at-lt a i) (bit_at-lt b i)
 combined_bit by_exclusive_or a b i = bit_at_xor a b i ∙ one_xor (bit_at a i) (bit_at b i) (bit_at-lt a i) (bit_at-lt b i)

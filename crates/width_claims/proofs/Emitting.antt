@@ -60,18 +60,18 @@ all_ones : (w : ℕ) → (0 + (2 ^ w - 1)) % 2 ^ w ≡ mask w
 all_ones w = let p = pow_pos w in let e : 0 + (2 ^ w - 1) ≡ 2 ^ w - 1 = omega arith in ap (λ n. n % 2 ^ w) e ∙ mod-eq_of_lt (omega (arith, p))
 
 -- the earlier numbers don't change
-abbrev Stay : List ℕ → List ℕ → Type 0
-Stay ns ms = (i : ℕ) → i < length ns → at ms i ≡ at ns i
+abbrev KeepsEarlier : List ℕ → List ℕ → Type 0
+KeepsEarlier ns ms = (i : ℕ) → i < length ns → at ms i ≡ at ns i
 
-push_steps : (ns : List ℕ) (x : ℕ) → Stay ns (ns ++ x ∷ [])
+push_steps : (ns : List ℕ) (x : ℕ) → KeepsEarlier ns (ns ++ x ∷ [])
 push_steps ns x i l = old ns x i l
 
-push_more : (ns ms : List ℕ) (x : ℕ) → length ns ≤ length ms → Stay ns ms → Stay ns (ms ++ x ∷ [])
+push_more : (ns ms : List ℕ) (x : ℕ) → length ns ≤ length ms → KeepsEarlier ns ms → KeepsEarlier ns (ms ++ x ∷ [])
 push_more ns ms x h s i l = old ms x i (omega (arith, l, h)) ∙ s i l
 
 -- the effect of a block
 record Does (ns : List ℕ) (n : ℕ) (ms : List ℕ) (us : List Bool) (r m u v : ℕ) : Type 0 where
-  stay : Stay ns ms
+  stay : KeepsEarlier ns ms
   many : length ms ≡ m
   end_truth : length us ≡ u
   grown : n ≤ m
@@ -133,7 +133,7 @@ module _ (W : ℕ) (vs ws ms : List ℕ) where
       record { stay = push_steps ns x; many = longer ns x n many; end_truth = end_truth; grown = omega arith; there = omega arith; value = last ns x n many ∙ e }
 
   -- one more number after others
-  does_next : (ns ms : List ℕ) (us : List Bool) (n m u x v : ℕ) → Stay ns ms → length ns ≡ n → length ms ≡ m → n ≤ m → length us ≡ u → x ≡ v → Does ns n (ms ++ x ∷ []) us m (m + 1) u v
+  does_next : (ns ms : List ℕ) (us : List Bool) (n m u x v : ℕ) → KeepsEarlier ns ms → length ns ≡ n → length ms ≡ m → n ≤ m → length us ≡ u → x ≡ v → Does ns n (ms ++ x ∷ []) us m (m + 1) u v
   does_next ns os us n m u x v stay many long h end_truth e =
       record { stay = push_more ns os x (omega (arith, many, long, h)) stay; many = longer os x m long; end_truth = end_truth; grown = omega (arith, h); there = omega arith; value = last os x m long ∙ e }
 
