@@ -90,7 +90,7 @@ impl InlineData {
     }
 
     /// Returns the same operands and results in lists of any length.
-    pub fn plain(&self, alloc: Global) -> Result<ListData, AllocError>
+    pub fn to_lists(&self, alloc: Global) -> Result<ListData, AllocError>
         ensures { IfOk result (λ p. plain_contents p ≡ short_contents self.now) }
     {
         Ok(ListData {
