@@ -7,7 +7,7 @@ use Rattle.user_patterns_data.specs.declared.pattern.ConstantExpression.TheVaria
 use Rattle.user_patterns_data.specs.Shapes.{PatternModel}
 use Rattle.user_patterns_widths.specs.Polynomials.{coefficient, literal_coefficient}
 
--- the number of a literal modulo 2^128: at a type of which the literal is a number, its bits are the lowest ones of it
+-- the number of a literal modulo 2^128; at a type that has the literal, its bits are the lowest bits of this number
 abbrev pub extra_literal : ExtraConstant → List ℕ
 extra_literal (extra.Literal l) = literal_coefficient l.negative l.magnitude ∷ []
 extra_literal (extra.SameAs i) = []
