@@ -68,7 +68,7 @@ class _Block:
         return [_Written(b"\n" + label, self.at), *self.heading, _Written(b":", self.at)]
 
 
-class _Walk:
+class Walk:
     """Goes over the tokens of a text, and builds the nested text in pieces."""
 
     def __init__(self, text: bytes) -> None:
@@ -341,7 +341,7 @@ def nest(text: bytes) -> Nested:
     starts: List[int] = []
     places: List[Tuple[int, bool]] = []
     size = 0
-    for piece in _Walk(text).module():
+    for piece in Walk(text).module():
         is_copied = isinstance(piece, _Copied)
         part = text[piece.start:piece.end] if isinstance(piece, _Copied) else piece.text
         if not part:
