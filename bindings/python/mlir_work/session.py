@@ -319,8 +319,9 @@ class Session:
         return OperationHandle(self._read(), index(number))
 
     def show(self, operation: SupportsIndex) -> OperationData:
-        """Returns an operation as a dictionary that JSON can hold, with the keys of docs/JSON.md. Raises Refused with
-        20 if it isn't in the module."""
+        """Returns an operation as a dictionary that JSON can hold, with the keys of docs/JSON.md. Without the library,
+        the first call after an edit reads the whole module. Raises Refused with 20 if the operation isn't in the
+        module."""
         number = index(operation)
         found = self._all_shown().data(number)
         if found is None:
