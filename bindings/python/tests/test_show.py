@@ -175,7 +175,10 @@ class Positions(Case):
         """The root is the text's own `builtin.module` if nothing is next to it."""
         inner = '"builtin.module"() ({"t.a"() : () -> ()}) : () -> ()'
         for text, count in {"": 0, inner: 2, f"{inner} {inner}": 4, f'{inner} "t.b"() : () -> ()': 3,
-                            '"t.b"() : () -> ()': 1, f'"builtin.module"() ({{{inner}}}) : () -> ()': 3}.items():
+                            '"t.b"() : () -> ()': 1, '%a = "builtin.module"() ({}) : () -> i1': 1,
+                            '"builtin.module"() : () -> (() -> ())': 1, '"builtin.module"() : () -> ()': 1,
+                            '%a:0x2 = "t.b"() : () -> (i1, i8)': 1,
+                            f'"builtin.module"() ({{{inner}}}) : () -> ()': 3}.items():
             with self.subTest(text), session(text, positions=True) as s:
                 self.assertEqual(self.same(text.encode(), s), count)
                 self.assertEqual(len(positions_of(text.encode())), count)

@@ -1,5 +1,6 @@
 """Nests the blocks of a module's text. It looks at tokens and brackets, and not at types and attributes."""
 import bisect
+import re
 from typing import Dict, List, NamedTuple, Optional, Set, Tuple, Union
 
 from ..errors import ModuleRefused
@@ -9,6 +10,7 @@ from .tokens import Cursor, Token, unexpected
 
 # How deep regions may be in each other. The program's own limit is lower.
 MOST_DEPTH = 200
+_NUMBER = re.compile(rb"[0-9]+|0x[0-9a-fA-F]+")
 
 
 class _Copied(NamedTuple):
@@ -111,7 +113,7 @@ class Walk:
         cursor = self.cursor
         found, first = _Operation(cursor.now.start), cursor.place
         while cursor.now.sign != b'"':
-            if cursor.now.sign not in (b"%", b":", b",", b"=") and not cursor.now.text.isdigit():
+            if cursor.now.sign not in (b"%", b":", b",", b"=") and not _NUMBER.fullmatch(cursor.now.text):
                 raise unexpected(cursor.now)
             cursor.step()
         name = cursor.step()
