@@ -67,6 +67,8 @@ COMMANDS = {
     "tools/mlir_work.py reduce module.mlir --test 'grep -q arith.muli'": Typed('"arith.muli"('),
     "tools/mlir_work.py compare BEFORE AFTER --function f":
         Typed("@price: same on ", line="tools/mlir_work.py compare module.mlir module.mlir --function price"),
+    "tools/mlir_work.py show MODULE":
+        Typed("#0 builtin.module() regions ()\n", line="tools/mlir_work.py show module.mlir"),
     "gate/check_examples.py": Typed(", 0 faults"),
     "tools/page.py examples/fold.mlir examples/fold.script -o replay.html": Typed(""),
     "tools/page.py MODULE SCRIPT": Typed("<!doctype html>", line="tools/page.py module.mlir s && head -1 replay.html"),

@@ -6,6 +6,7 @@
         print(s.print())
 
 docs/EMBED.md has a tour."""
+from .data import OperationData
 from .errors import Error, FormBroken, ModuleRefused, ProcessLost, Refused, SessionClosed, Stays, Unproved
 from .handles import BlockHandle, OperationHandle, RegionHandle, UseHandle, ValueHandle
 from .library import Library
@@ -22,6 +23,6 @@ from .way import Way
 
 __all__ = ["Argument", "BlockHandle", "Canonicalized", "Cell", "Checked", "Constant", "Dead", "Diagnostic", "Effect",
            "Error", "Fired", "Firing", "FormBroken", "KINDS", "Library", "ModuleRefused", "Numbers", "Operation",
-           "OperationHandle", "Pattern", "Process", "ProcessLost", "Reason", "Refused", "RegionHandle", "Reply",
-           "Result", "Rewrite", "Row", "Session", "SessionClosed", "Stays", "Symbol", "Traced", "Unproved", "Unreached",
-           "Use", "UseHandle", "Value", "ValueHandle", "Way", "after", "before", "end", "quoted", "start"]
+           "OperationData", "OperationHandle", "Pattern", "Process", "ProcessLost", "Reason", "Refused", "RegionHandle",
+           "Reply", "Result", "Rewrite", "Row", "Session", "SessionClosed", "Stays", "Symbol", "Traced", "Unproved",
+           "Unreached", "Use", "UseHandle", "Value", "ValueHandle", "Way", "after", "before", "end", "quoted", "start"]

@@ -1,9 +1,45 @@
 """Operations, values, regions and blocks of a session as light handles, with the names that MLIR's bindings have. Each
 read asks the library, so a handle shows the module as it now is."""
-from typing import Dict, Iterator, NamedTuple, Optional, Tuple
+from typing import Dict, Iterator, List, NamedTuple, Optional, Tuple
 
+from .data import OperationData
 from .reader import Reader
-from .values import Argument, Result, Value
+from .values import Argument, Result, Value, op_text
+
+
+def place_of(reader: Reader, number: int, known: Dict[int, int]) -> int:
+    """Returns the place of an operation in its block, from 0. `known` has places that were found before, and gets those
+    of the operation and of the operations before it."""
+    unknown: List[int] = []
+    at: Optional[int] = number
+    while at is not None and at not in known:
+        unknown.append(at)
+        at = reader.near("previous", at)
+    first = 0 if at is None else known[at] + 1
+    known.update((it, place) for place, it in enumerate(reversed(unknown), first))
+    return known[number]
+
+
+def _blocks(reader: Reader, number: int) -> List[List[str]]:
+    """Returns for each region of an operation the types of the arguments of its block."""
+    counts = [reader.arguments(number, region) or 0 for region in range(reader.counts(number).regions)]
+    return [[reader.type(Argument(number, region, place)) or "" for place in range(count)]
+            for region, count in enumerate(counts)]
+
+
+def data_of(reader: Reader, number: int, known: Dict[int, int]) -> Optional[OperationData]:
+    """Returns an operation as a dictionary, or None if the module doesn't have it. `known` is that of `place_of`."""
+    name = reader.name(number)
+    if name is None:
+        return None
+    parent, results = reader.near("parent", number), range(reader.counts(number).results)
+    return {"kind": "operation", "id": op_text(number), "name": name,
+            "operands": list(map(str, reader.operands(number))),
+            "results": [reader.type(Result(number, place)) or "" for place in results],
+            "properties": reader.entries("property", number), "attributes": reader.entries("attribute", number),
+            "regions": _blocks(reader, number), "parent": None if parent is None else op_text(parent),
+            "region": None if parent is None else reader.near("region_of", number),
+            "place": None if parent is None else place_of(reader, number, known)}
 
 
 class OperationHandle:
@@ -80,6 +116,11 @@ class OperationHandle:
         return self._reader.near("region_of", self.number)
 
     @property
+    def place(self) -> Optional[int]:
+        """Its place in its block, from 0; None for the root. Takes time proportional to the place."""
+        return None if self.parent is None else place_of(self._reader, self.number, {})
+
+    @property
     def next(self) -> "Optional[OperationHandle]":
         """The next operation in its block."""
         return self._near("next")
@@ -88,6 +129,14 @@ class OperationHandle:
     def previous(self) -> "Optional[OperationHandle]":
         """The previous operation in its block."""
         return self._near("previous")
+
+    def to_dict(self) -> OperationData:
+        """Returns it as a dictionary that JSON can hold, with the keys of docs/JSON.md. Raises LookupError if it isn't
+        in the module."""
+        found = data_of(self._reader, self.number, {})
+        if found is None:
+            raise LookupError(f"#{self.number} isn't in the module")
+        return found
 
     def walk(self) -> "Iterator[OperationHandle]":
         """Visits it and the operations inside it in pre-order. The operations of a block are those at the time when the

@@ -4,8 +4,9 @@ from dataclasses import dataclass
 from typing import Dict, List, Optional, Tuple
 
 from .brackets import STRING, closed, parts, taken
+from .data import OperationData
 from .printed import BEGINS, BLOCK, Printed, block_arguments
-from .values import Argument, Result, Value
+from .values import Argument, Result, Value, op_text
 
 _HEAD = re.compile(rf"(?:%\d+(?::(\d+))? = )?({STRING})\(([^()]*)\)")
 _REGIONS = re.compile(r" \((\{\}(?:, \{\})*)\)")
@@ -33,6 +34,8 @@ class Operation:
     """The parent operation; none for the root."""
     region: int
     """The number of the region of the parent that contains it."""
+    place: int
+    """Its place among the operations of its block, from 0."""
     depth: int
     """How many operations contain it."""
 
@@ -42,15 +45,32 @@ class Operation:
     def __str__(self) -> str:
         return f"#{self.number} {self.name}"
 
+    def to_dict(self) -> OperationData:
+        """Returns it as a dictionary that JSON can hold, with the keys of docs/JSON.md."""
+        is_root = self.parent is None
+        blocks: List[List[str]] = [[] for _ in range(self.regions)]
+        for argument, of_type in self.arguments.items():
+            blocks[argument.region].append(of_type)
+        return {"kind": "operation", "id": op_text(self.number), "name": self.name,
+                "operands": list(map(str, self.operands)), "results": list(self.results.values()),
+                "properties": dict(self.properties), "attributes": dict(self.attributes), "regions": blocks,
+                "parent": None if self.parent is None else op_text(self.parent),
+                "region": None if is_root else self.region, "place": None if is_root else self.place}
+
 
 class _Lines:
     """The lines of an operation as one text, without those inside it; the operation that contains it, and the region;
-    and the arguments of its blocks. `inside` is the region that is being read."""
+    its place there, and the arguments of its blocks. `inside` is the region that is being read, and `count` how many
+    operations of it were read."""
 
     def __init__(self, text: str, number: int, around: "Optional[_Lines]", inside: int) -> None:
         self.text, self.number, self.around, self.inside = text, number, around, inside
         self.region: int = around.inside if around else 0
         self.depth: int = around.depth + 1 if around else 0
+        self.place: int = around.count if around else 0
+        self.count = 0
+        if around:
+            around.count += 1
         self.arguments: Dict[Argument, str] = {}
 
 
@@ -85,7 +105,7 @@ def _gathered(printed: Printed) -> List[_Lines]:
             around[-1].arguments.update((printed.arguments[name], of_type) for name, of_type in block_arguments(text))
         else:
             around[-1].text += text
-            around[-1].inside = line.region
+            around[-1].inside, around[-1].count = line.region, 0
             if line.region < 0:
                 around.pop()
     return found
@@ -105,7 +125,7 @@ def _operation(it: _Lines, printed: Printed) -> Operation:
         it.number, unescaped(head[2]), tuple(printed.value(name[1:]) for name in head[3].split(", ") if name),
         _types(rest[3:end]), {Result(it.number, place): of_type for place, of_type in enumerate(results)},
         properties, attributes, regions[1].count("{}") if regions else 0, it.arguments,
-        it.around.number if it.around else None, it.region, it.depth)
+        it.around.number if it.around else None, it.region, it.place, it.depth)
 
 
 def read(text: str) -> List[Operation]:

@@ -9,12 +9,14 @@ from typing import (Dict, Iterable, Iterator, List, Literal, Optional, Sequence,
 
 from .blocks import NESTABLE, flatten, is_nested, nest
 from .command import Program
+from .data import OperationData
 from .errors import Error, ModuleRefused, Refused, SessionClosed, Unproved
 from .handles import OperationHandle, ValueHandle
 from .library import Library, is_preferred
 from .numbers import Numbers
 from .operations import Operation, read
 from .patterns import Checked, Pattern, all_checked_of, checked_of, patterns_of
+from .positions import Positions, positions_of
 from .process import Process
 from .reader import Reader
 from .reply import Reply
@@ -22,6 +24,7 @@ from .rewrites import (Canonicalized, Fired, Reason, Rewrite, Traced, canonicali
                        traced_of)
 from .rows import KINDS, Constant, Dead, Diagnostic, Effect, Row, Symbol, Unreached, Use, rows_of
 from .script import BLANKS, File, has_divider, is_text, patterns_in
+from .shown import OfLibrary, OfText, Shown
 from .values import Value, key_text, op_text
 from .way import Way, check_limit
 
@@ -101,7 +104,8 @@ class Session:
     timeout a call waits. `way` is a user-defined connection. With `opaque`, unknown types and attributes are kept as
     their texts, in the module and in commands. With `blocks`, a module that is refused with 8 or 9, since regions have
     several blocks, is read as nested scopes (`mlir_work.blocks`): `print` shows blocks again, and all else shows the
-    scopes. `patterns` is a file of user patterns, a line each, or several files; they are defined first.
+    scopes. `patterns` is a file of user patterns, a line each, or several files; they are defined first. With
+    `positions`, `show` and `show_all` say where each operation begins in the text.
 
     Raises ModuleRefused, and Refused if a pattern of a file is refused. Each call raises Refused if its command is
     refused, which changes nothing, and ProcessLost if the program ended. That, and an interrupt within a call, closes
@@ -109,7 +113,7 @@ class Session:
 
     def __init__(self, text: Text, program: Optional[Program] = None, kinds: Optional[Iterable[str]] = None,
                  limit: Optional[int] = None, *, timeout: Optional[float] = None, way: Optional[Way] = None,
-                 opaque: bool = False, patterns: Files = (), blocks: bool = False) -> None:
+                 opaque: bool = False, patterns: Files = (), blocks: bool = False, positions: bool = False) -> None:
         wanted = None if kinds is None else _listed(kinds)
         unknown = [kind for kind in wanted or () if kind not in KINDS]
         if unknown:
@@ -120,6 +124,8 @@ class Session:
         self._way: Way = _way_to(program, timeout) if way is None else way
         self._thread = threading.get_ident()
         self._listing: Optional[List[Operation]] = None
+        self._shown: Optional[Shown] = None
+        self._positions: Optional[Positions] = None
         self._reader: Optional[Reader] = None
         self._numbers: Optional[Numbers] = None
         self.marks, self.refused, self.closed = 0, 0, False
@@ -133,7 +139,8 @@ class Session:
         """The patterns of the last `rewrite`, `trace`, `fired` or `apply` that no check proves for the module before
         it."""
         try:
-            self.unattached = self._opened(_bytes(text), limit, opaque, blocks)
+            self.unattached, opened = self._opened(_bytes(text), limit, opaque, blocks)
+            self._positions = positions_of(opened) if positions else None
             there = set(KINDS) - {it.split()[1] for it in self.unattached}
             for kind in KINDS if wanted is not None else ():
                 if kind in there and kind not in (wanted or ()):
@@ -144,18 +151,18 @@ class Session:
             self._abandon()
             raise
 
-    def _opened(self, text: bytes, limit: Optional[int], opaque: bool, blocks: bool) -> List[str]:
+    def _opened(self, text: bytes, limit: Optional[int], opaque: bool, blocks: bool) -> Tuple[List[str], bytes]:
         """Opens the module, nested if that is asked for and needed. Returns a line for each analysis that isn't
-        attached."""
+        attached, and the text that was opened."""
         way = self._way
         try:
-            return way.open(text, limit, True) if opaque else way.open(text, limit)
+            return way.open(text, limit, True) if opaque else way.open(text, limit), text
         except ModuleRefused as fault:
             if not blocks or fault.number not in NESTABLE:
                 raise
         nested = nest(text)
         try:
-            return way.open(nested, limit, True) if opaque else way.open(nested, limit)
+            return way.open(nested, limit, True) if opaque else way.open(nested, limit), nested
         except ModuleRefused as fault:
             raise nested.refusal(fault) from None
 
@@ -241,7 +248,7 @@ class Session:
         elif word in (b"commit", b"rollback"):
             self.marks -= 1
         if word not in _LOOKS:
-            self._listing = None
+            self._forget_listing()
         return None
 
     def expect(self, refusal: Union[int, str], line: Text) -> bool:
@@ -311,13 +318,50 @@ class Session:
         """Returns a handle of an operation by its number. Raises Error if the session isn't over the library."""
         return OperationHandle(self._read(), index(number))
 
-    def _read(self) -> Reader:
+    def show(self, operation: SupportsIndex) -> OperationData:
+        """Returns an operation as a dictionary that JSON can hold, with the keys of docs/JSON.md. Without the library,
+        the first call after an edit reads the whole module. Raises Refused with 20 if the operation isn't in the
+        module."""
+        number = index(operation)
+        found = self._all_shown().data(number)
+        if found is None:
+            raise Refused(20, "NoSuchOp", line=f"show {op_text(number)}")
+        return found
+
+    def show_all(self, page: int = 1000, skip: int = 0) -> Iterator[List[OperationData]]:
+        """Yields the operations in pre-order, without the first `skip` ones, in lists of at most `page` dictionaries as
+        `show` returns them. The operations are those at the time of the call. Each list shows the module at the time
+        when it is yielded, without operations that were erased meanwhile."""
+        if page < 1 or skip < 0:
+            raise ValueError(f"found page {page} and skip {skip}, expected at least 1 and at least 0")
+        return self._pages(self._all_shown().numbers()[skip:], page)
+
+    def _pages(self, numbers: List[int], page: int) -> Iterator[List[OperationData]]:
+        for begin in range(0, len(numbers), page):
+            shown = self._all_shown()
+            found = [shown.data(number) for number in numbers[begin:begin + page]]
+            yield [it for it in found if it is not None]
+
+    def _all_shown(self) -> Shown:
+        """Returns the operations of the current module, through the library if it holds the module."""
+        self._must_be_usable()
+        if self._shown is None:
+            reader = self._reader_if_any()
+            self._shown = (OfText(self.operations(), self._positions) if reader is None
+                           else OfLibrary(reader, self._positions))
+        return self._shown
+
+    def _reader_if_any(self) -> Optional[Reader]:
         self._must_be_usable()
         if self._reader is None:
             self._reader = self._way.reader()
-        if self._reader is None:
-            raise Error("handles need the library (MLIR_WORK_LIBRARY): `operations()` works without it")
         return self._reader
+
+    def _read(self) -> Reader:
+        reader = self._reader_if_any()
+        if reader is None:
+            raise Error("handles need the library (MLIR_WORK_LIBRARY): `operations()` works without it")
+        return reader
 
     @property
     def numbers(self) -> Numbers:
@@ -330,7 +374,7 @@ class Session:
         return self._numbers
 
     def _forget_listing(self) -> None:
-        self._listing = None
+        self._listing = self._shown = None
 
     # Edits.
 

@@ -1,5 +1,6 @@
 """Nests the blocks of a module's text. It looks at tokens and brackets, and not at types and attributes."""
 import bisect
+import re
 from typing import Dict, List, NamedTuple, Optional, Set, Tuple, Union
 
 from ..errors import ModuleRefused
@@ -9,6 +10,7 @@ from .tokens import Cursor, Token, unexpected
 
 # How deep regions may be in each other. The program's own limit is lower.
 MOST_DEPTH = 200
+_NUMBER = re.compile(rb"[0-9]+|0x[0-9a-fA-F]+")
 
 
 class _Copied(NamedTuple):
@@ -68,7 +70,7 @@ class _Block:
         return [_Written(b"\n" + label, self.at), *self.heading, _Written(b":", self.at)]
 
 
-class _Walk:
+class Walk:
     """Goes over the tokens of a text, and builds the nested text in pieces."""
 
     def __init__(self, text: bytes) -> None:
@@ -111,7 +113,7 @@ class _Walk:
         cursor = self.cursor
         found, first = _Operation(cursor.now.start), cursor.place
         while cursor.now.sign != b'"':
-            if cursor.now.sign not in (b"%", b":", b",", b"=") and not cursor.now.text.isdigit():
+            if cursor.now.sign not in (b"%", b":", b",", b"=") and not _NUMBER.fullmatch(cursor.now.text):
                 raise unexpected(cursor.now)
             cursor.step()
         name = cursor.step()
@@ -341,7 +343,7 @@ def nest(text: bytes) -> Nested:
     starts: List[int] = []
     places: List[Tuple[int, bool]] = []
     size = 0
-    for piece in _Walk(text).module():
+    for piece in Walk(text).module():
         is_copied = isinstance(piece, _Copied)
         part = text[piece.start:piece.end] if isinstance(piece, _Copied) else piece.text
         if not part:

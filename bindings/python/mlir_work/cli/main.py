@@ -16,6 +16,7 @@ COMMANDS = {
     "reduce": ("reduce a module while it still shows a report row, a refusal, or what a test checks", "reduce"),
     "compare": ("check that a module refines another one, by running their functions on the same inputs", "comparison"),
     "explain": ("explain why commands of a script were refused, and where", "explain"),
+    "show": ("print the operations of a module, one a line, as text or as JSON objects", "show"),
     "page": ("write a web page that shows a script on a module, step by step", "page"),
 }
 STATUS = """exit status: 0 if nothing was refused, 1 if a command was refused, 2 if the command line or a file of
@@ -23,6 +24,8 @@ patterns is wrong, 3 if the module was refused, 4 if a read or a write failed, 1
 short for `mlir-work open FILE`. --opaque, --blocks, --patterns FILE and --split-input-file may also be before the
 command.
 mlir-opt, if it is installed, converts each module that isn't in generic form."""
+# What is printed between the outputs for two modules of a file, by the format of the outputs.
+DIVIDERS = {"text": "// -----", "json": '{"divider":true}'}
 # Options that may be before a command, and whether they take a word.
 GLOBAL = {program.OPAQUE: False, program.BLOCKS: False, program.PATTERNS: True, program.SPLIT: False}
 
@@ -95,7 +98,7 @@ def over_parts(given):
     for place, those in enumerate(zip(*parts), 1):
         program.PART.update(zip(names, those))
         if place > 1:
-            print("// -----", flush=True)
+            print(DIVIDERS[getattr(given, "format", "text")], flush=True)
         for key in keys:
             setattr(given, key, numbered(outputs[key], place))
         worst = max(worst, given.run(given))
