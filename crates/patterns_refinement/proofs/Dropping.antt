@@ -36,7 +36,6 @@ use Rattle.user_patterns_check.proofs.Keeping.{value_refined}
 use Rattle.patterns_laws.specs.Words.{among, with_one_as_right_identity, with_zero_as_right_identity, idempotent, named}
 use Rattle.patterns_laws.proofs.KnownFolds.{given_some}
 use Rattle.patterns_base.specs.declared.rule.Rule.{Rule}
-use Rattle.patterns_base.specs.RuleNames.{is_erasing}
 use Rattle.patterns_base.specs.declared.rule.Rule.TheVariants.{ChooseKnown, ChooseSame, DropAllOnes, DropOne, DropZero, KeepItself}
 use Rattle.patterns_base.specs.Looks.{is_number, known, passes, when}
 use Rattle.patterns_base.specs.Folding.{is_all_ones}
@@ -55,7 +54,7 @@ use Rattle.patterns_refinement.proofs.Forms.{named_is}
 use Rattle.patterns_refinement.proofs.Giving.{given_improves, old_given}
 use Rattle.patterns_refinement.proofs.Monotone.{itself}
 use Rattle.patterns_refinement.proofs.Verified.{asks_kind}
-use Rattle.patterns_refinement.proofs.Ruled.{Ruled, Site, gives_refined, known_there, named_arithmetic, of_rule, ruled, site_of, value_bits, root_has}
+use Rattle.patterns_refinement.proofs.Ruled.{may_lack, Ruled, Site, gives_refined, known_there, named_arithmetic, of_rule, ruled, site_of, value_bits, root_has}
 use Rattle.patterns_refinement.proofs.Sources.{kind_test}
 use Rattle.patterns_refinement.proofs.Trees.{value_below}
 
@@ -183,7 +182,7 @@ Keeps r =
 module _ (accepted : AreAccepted) where
   -- the second operand is a number
   number_second : (f : Arithmetic → Bool) (b : ℕ) → ((o : Arithmetic) → f o ≡ true → Firsts o (λ k. b)) → (r : Rule) (m n : Module) (x : ℕ) (a : Assignment) (done : ℕ → Bool) → IsWellFormed is_isolated m → AreKinded m.tree → AreKinded n.tree → Computing a done m.tree
-      → is_erasing r ≡ false → (q : Ruled r m n x) (u v : Value) → IsPair f (head q.here).name → (head q.here).operands ≡ u ∷ v ∷ [] → is_number m.tree b v ≡ true → give (head q.here).id u ≡ q.edits → Improves a done m (done_after m.next x done) n.tree
+      → may_lack r ≡ false → (q : Ruled r m n x) (u v : Value) → IsPair f (head q.here).name → (head q.here).operands ≡ u ∷ v ∷ [] → is_number m.tree b v ≡ true → give (head q.here).id u ≡ q.edits → Improves a done m (done_after m.next x done) n.tree
   number_second f b firsts r m n x a done wellformed kinded after computing stays q u v p ops number edits =
       let s = site_of m a done x q.here wellformed kinded computing q.found (root_has q wellformed kinded stays) in
       let two = of_two_is m a done x q.here s u v ops in

@@ -37,6 +37,7 @@ pub mod Ruled
 pub mod Firsts
 pub mod Dropping
 pub mod Readied
+pub mod Origins
 pub mod StaysReady
 pub mod OldRules
 pub mod Constants

@@ -1,5 +1,5 @@
 -- Rules that change an operation in place keep modules ready and refine what they compute.
-use Rattle.std.proofs.Common.{◌≡◌, ℕ, ◌<◌, refl, ap, sym, ◌∙◌, subst, List, map, Bool, true, false, eqb, eqb-true, eq-eqb, Some, ◌⊎◌, inl, inr}
+use Rattle.std.proofs.Common.{◌≡◌, ℕ, ◌<◌, refl, ap, sym, ◌∙◌, subst, List, map, Bool, true, false, true≢false, eqb, eqb-true, eq-eqb, Some, ◌⊎◌, inl, inr}
 use Rattle.std.specs.Prelude.{if◌then◌else◌}
 use Rattle.std.specs.List.{list_all}
 use Rattle.std.proofs.lemmas.Option.{same_Some}
@@ -24,6 +24,7 @@ use Rattle.patterns_refinement.proofs.FlagsKept.{obeys_unbroken}
 use Rattle.patterns_refinement.specs.Meaning.{ArgumentsOfTypes, AreOfTypes, Assignment, Each, EachBlock, FitsDone, ResultsOfTypes, is_arithmetic, makes, owner, result_kind, Obeys, breaks_flags}
 use Rattle.patterns_refinement.specs.Applied.{IsBelow}
 use Rattle.patterns_refinement.specs.Better.{AllSure, AreKinded, GivesLess, GivesNoLess, IsSure, gives, is_arithmetic_there, is_kinded, kind_in, may_overflow, takes_its, KeepsFlags}
+use Rattle.patterns_refinement.specs.Choices.{AreOrigins, Chooses, Origins}
 use Rattle.patterns_refinement.specs.Keeping.{Computing, Improves, IsFed, IsReady, done_after, is_there}
 use Rattle.patterns_refinement.proofs.Edited.{blocks_changed, each_both, each_changed}
 use Rattle.patterns_refinement.proofs.Wellformed.{is_below, operands_stand}
@@ -32,7 +33,8 @@ use Rattle.patterns_refinement.proofs.Giving.{after_old}
 use Rattle.patterns_refinement.proofs.Monotone.{itself}
 use Rattle.patterns_refinement.proofs.Readied.{AreKinds, HasKind, Rises, Takes, all_rise, each_rises, kinds_are, kinds_found, same_kinds_of}
 use Rattle.patterns_refinement.proofs.Settling.{each_by_found, settles}
-use Rattle.patterns_refinement.proofs.Showing.{IsUnseen, at_unseen, number_at, unseen_shows, unseen_through}
+use Rattle.patterns_refinement.proofs.Origins.{Alike, IsOldKind, KeepsKinds, all_alike, kept_chooses, kinds_themselves, no_choice, origins_are}
+use Rattle.patterns_refinement.proofs.Showing.{IsUnseen, at_unseen, kept_so, number_at, unseen_shows, unseen_through}
 use Rattle.patterns_refinement.proofs.Swapping.{Low, fed_later, still_there}
 use Rattle.patterns_refinement.proofs.Trees.{ArgumentsAre, ResultsAre}
 
@@ -156,6 +158,15 @@ module _ (m n : Module) (x : ℕ) (o : Operation) (w : Turns m n x o) (ready : I
             (operands_stand is_isolated n.tree w.wellformed.distinct w.wellformed.wellformed.visible);
       }
 
+  -- old values have the kinds that they had
+  pub turned_kinds : KeepsKinds m.next m.tree n.tree
+  turned_kinds =
+      let old = kinds_themselves m.next m.tree ready.wellformed.distinct (is_below m.next m.tree ready.wellformed.below) in
+      record {
+        results = each (ResultsAre (IsOldKind m.next m.tree)) (ResultsAre (IsOldKind m.next m.tree)) (λ h p. p) (λ p. p) old.results;
+        arguments = all_blocks (ArgumentsAre (IsOldKind m.next m.tree)) old.arguments;
+      }
+
   -- the effect of the change
   pub record TurnsWell (a : Assignment) (done : ℕ → Bool) : Type 0 where
     pub arithmetic : is_arithmetic (head o) ≡ true
@@ -210,6 +221,18 @@ module _ (m n : Module) (x : ℕ) (o : Operation) (w : Turns m n x o) (ready : I
     all_plain : Each (Was m.next (λ y. true) (λ y. true) m.tree) n.tree
     all_plain = each (Was m.next (λ y. true) (λ y. true) m.tree) (Was m.next (λ y. true) (λ y. true) m.tree) (λ h p. p) (λ p i l j. p i l k.arithmetic) (was_old m.next (λ y. true) (λ y. true) m.tree ready.wellformed.distinct (λ y l i. refl))
 
+    alike : Each (Alike m.tree n.tree) m.tree
+    alike = all_alike m.next m.tree n.tree turned_kinds below (operands_stand is_isolated m.tree ready.wellformed.distinct ready.wellformed.wellformed.visible)
+
+    -- a changed arithmetic operation is no choice
+    turned_origins : (now : Assignment) → ((v : Value) → refines (a v) (now v) ≡ true) → (origin : Origins) → AreOrigins m.next a origin later m.tree → AreOrigins m.next now origin later n.tree
+    turned_origins now better origin are =
+        origins_are m.next a now origin later m.tree n.tree are (free_still m.next (λ y. true) (λ y. true) m.tree n.tree all_plain)
+        (each (λ h. Alike m.tree n.tree h × Chooses a origin later m.tree h) (Chooses now origin later n.tree)
+        (λ h p. kept_chooses h h (kept_so m.next m.tree n.tree a now later better h p.0) origin are p.1)
+        (λ p i. absurd (true≢false (sym i ∙ no_choice n.tree (record (head o) { operands = w.operands; properties = w.properties }) k.arithmetic)))
+        (each_both (Alike m.tree n.tree) (Chooses a origin later m.tree) (λ h. Alike m.tree n.tree h × Chooses a origin later m.tree h) (λ h p q. (p, q)) m.tree alike are.chosen))
+
     unseen : IsUnseen x m.tree n.tree
     unseen =
         let one = at_unseen x w.first w.number_first m.tree (number_at x m.tree ready.wellformed.distinct (ap is_arithmetic_there w.found ∙ k.arithmetic)) in
@@ -234,5 +257,5 @@ module _ (m n : Module) (x : ℕ) (o : Operation) (w : Turns m n x o) (ready : I
           stays = λ v l e. s.stays v (free v l e);
           free = free;
           computing = record { fits = s.fits; typed = s.typed; sure = s.sure; fed = all_fed };
-          shows = unseen_shows a s.now m (done_after m.next x done) x n.tree unseen s.better (free_still m.next (λ y. true) (λ y. true) m.tree n.tree all_plain);
+          shows = unseen_shows a s.now m (done_after m.next x done) x n.tree unseen s.better alike (free_still m.next (λ y. true) (λ y. true) m.tree n.tree all_plain) (turned_origins s.now s.better);
         }

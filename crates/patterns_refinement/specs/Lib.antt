@@ -5,6 +5,7 @@ pub mod Applying
 pub mod Better
 pub mod FlagSamples
 pub mod Improving
+pub mod Choices
 pub mod Observing
 pub mod Unique
 pub mod Keeping
