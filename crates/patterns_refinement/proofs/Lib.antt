@@ -39,6 +39,8 @@ pub mod Dropping
 pub mod Readied
 pub mod Origins
 pub mod StaysReady
+pub mod Unmissed
+pub mod Picking
 pub mod OldRules
 pub mod Constants
 pub mod Makings
