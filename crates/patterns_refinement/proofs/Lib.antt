@@ -95,5 +95,6 @@ pub mod PlainLists
 pub mod AnswersKept
 pub mod TracedRuns
 pub mod RefiningSampled
+pub mod ChoiceSampled
 pub mod RunsRefined
 pub mod Sampled

@@ -18,6 +18,7 @@ pub mod Passing
 pub mod RuleListRuns
 pub mod Refining
 pub mod RefiningSamples
+pub mod ChoiceSamples
 pub mod UsedTypes
 pub mod Narrow
 pub mod ByForm
