@@ -56,7 +56,8 @@ use Rattle.patterns_refinement.proofs.Readied.{Rises, Takes, each_rises, same_ta
 use Rattle.patterns_refinement.proofs.Ruled.{Ruled, Site, known_kinds, of_rule, rule_kinds, ruled, site_of, value_bits}
 use Rattle.patterns_refinement.proofs.Sources.{Sole, kind_test, made_or_poison, sole_of}
 use Rattle.patterns_refinement.proofs.Trees.{each_found}
-use Rattle.patterns_refinement.proofs.Turning.{Turns, TurnsChoice, TurnsWell, choice_improves, turned_improves, turned_ready}
+use Rattle.patterns_refinement.proofs.TurnedChoice.{TurnsChoice, choice_improves}
+use Rattle.patterns_refinement.proofs.Turning.{Turns, TurnsWell, turned_improves, turned_ready}
 
 module _ (accepted : AreAccepted) where
   record Opposite (m n : Module) (x : ℕ) (q : Ruled ChooseOpposite m n x) : Type 0 where

@@ -62,6 +62,7 @@ pub mod Expanding
 pub mod Remainders
 pub mod Extremes
 pub mod Turning
+pub mod TurnedChoice
 pub mod Choosing
 pub mod Mirroring
 pub mod Listed

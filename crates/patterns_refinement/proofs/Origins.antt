@@ -190,12 +190,14 @@ kept_chooses {n} {t} {u} {a} {now} {later} h k s o are c i y e =
 
 -- ---- origins in a tree after an edit
 pub origins_are : (n : ℕ) (a now : Assignment) (o : Origins) (done : ℕ → Bool) (t u : Operation) → AreOrigins n a o done t → ((v : Value) → owner v < n → is_computed t v ≡ false → is_computed u v ≡ false) → Each (Chooses now o done u) u → AreOrigins n now o done u
-origins_are n a now o done t u are plain each = record { chosen = each; computed = λ v e. go v e (leb_tells n (owner v)) (bool_cases (is_computed t v)); unused = are.unused }
-  where
-    go : (v : Value) → is_computed u v ≡ true → ((_ ≡ true) × (n ≤ owner v)) ⊎ ((_ ≡ false) × (owner v < n)) → (is_computed t v ≡ true) ⊎ (is_computed t v ≡ false) → o v ≡ None
-    go v e (inl l) c = are.unused v l.1
-    go v e (inr l) (inl c) = are.computed v c
-    go v e (inr l) (inr c) = absurd (true≢false (sym e ∙ plain v l.1 c))
+origins_are n a now o done t u are plain each = record {
+  chosen = each;
+  computed = λ v e. elim (leb_tells n (owner v)) [
+    | inl l ↦ are.unused v l.1
+    | inr l ↦ elim (bool_cases (is_computed t v)) [ inl c ↦ are.computed v c | inr c ↦ absurd (true≢false (sym e ∙ plain v l.1 c)) ]
+  ];
+  unused = are.unused;
+}
 
 -- the executed operations may be given by another function
 pub origins_later : (n : ℕ) (a : Assignment) (o : Origins) (done later : ℕ → Bool) (t : Operation) → ((y : ℕ) → y < n → later y ≡ done y) → AreOrigins n a o done t → AreOrigins n a o later t

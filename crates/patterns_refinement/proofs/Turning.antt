@@ -7,8 +7,8 @@ use Rattle.ir_types.specs.Words.{is_isolated}
 use Rattle.ir_types.specs.Terms.{AttrTerm, TypeTerm}
 use Rattle.ir_tree.specs.declared.value.Value.{Value}
 use Rattle.ir_tree.specs.declared.value.Value.TheVariants.{Result}
-use Rattle.ir_tree.specs.Tree.{head, op, regions}
-use Rattle.ir_tree.specs.Edits.{at, each_head, regions_each_head}
+use Rattle.ir_tree.specs.Tree.{head}
+use Rattle.ir_tree.specs.Edits.{at, each_head}
 use Rattle.ir_tree.specs.Ids.{find}
 use Rattle.ir_tree.specs.WellFormed.{IsWellFormed}
 use Rattle.ir_tree.specs.Meaning.{Operation}
@@ -24,9 +24,7 @@ use Rattle.patterns_refinement.proofs.FlagsKept.{obeys_unbroken}
 use Rattle.patterns_refinement.specs.Meaning.{ArgumentsOfTypes, AreOfTypes, Assignment, Each, EachBlock, FitsDone, ResultsOfTypes, is_arithmetic, makes, owner, result_kind, Obeys, breaks_flags}
 use Rattle.patterns_refinement.specs.Applied.{IsBelow}
 use Rattle.patterns_refinement.specs.Better.{AllSure, AreKinded, GivesLess, GivesNoLess, IsSure, gives, is_arithmetic_there, is_kinded, kind_in, may_overflow, takes_its, KeepsFlags}
-use Rattle.patterns_refinement.specs.After.{OperandsStand}
-use Rattle.patterns_refinement.specs.Choices.{AreOrigins, Chooses, Chosen, Origins, is_choice}
-use Rattle.patterns_refinement.specs.Observing.{RegionsFollow, Shows, Stays, is_computed, shown_regions, without_operands}
+use Rattle.patterns_refinement.specs.Choices.{AreOrigins, Chooses, Origins}
 use Rattle.patterns_refinement.specs.Keeping.{Computing, Improves, IsFed, IsReady, done_after, is_there}
 use Rattle.patterns_refinement.proofs.Edited.{blocks_changed, each_both, each_changed}
 use Rattle.patterns_refinement.proofs.Wellformed.{is_below, operands_stand}
@@ -36,9 +34,7 @@ use Rattle.patterns_refinement.proofs.Monotone.{itself}
 use Rattle.patterns_refinement.proofs.Readied.{AreKinds, HasKind, Rises, Takes, all_rise, each_rises, kinds_are, kinds_found, same_kinds_of}
 use Rattle.patterns_refinement.proofs.Settling.{each_by_found, settles}
 use Rattle.patterns_refinement.proofs.Origins.{Alike, IsOldKind, KeepsKinds, all_alike, kept_chooses, kinds_themselves, no_choice, origins_are}
-use Rattle.patterns_refinement.proofs.Showing.{IsUnseen, at_root, at_unseen, inside, kept_so, number_at, stays_so, unseen_shows, unseen_through}
-use Rattle.patterns_refinement.proofs.Shown.{each_shown, shown_changed}
-use Rattle.patterns_refinement.proofs.Follows.{follows_turned}
+use Rattle.patterns_refinement.proofs.Showing.{IsUnseen, at_unseen, kept_so, number_at, unseen_shows, unseen_through}
 use Rattle.patterns_refinement.proofs.Swapping.{Low, fed_later, still_there}
 use Rattle.patterns_refinement.proofs.Trees.{ArgumentsAre, ResultsAre}
 
@@ -56,7 +52,7 @@ KeepsId f = (h : Header) → h.id ≡ (f h).id
 abbrev pub KeepsNumber : (Header → Header) → Type 0
 KeepsNumber f = (h : Header) → is_arithmetic (f h) ≡ is_arithmetic h
 
-same_id : (x : ℕ) (f : Header → Header) → KeepsId f → (h : Header) → h.id ≡ (at x f h).id
+pub same_id : (x : ℕ) (f : Header → Header) → KeepsId f → (h : Header) → h.id ≡ (at x f h).id
 same_id x f k h = go (eqb h.id x)
   where
     go : (b : Bool) → h.id ≡ (if b then f h else h).id
@@ -71,14 +67,14 @@ module _ (x : ℕ) (f g h : Header → Header) (own_f : KeepsId f) (own_g : Keep
   abbrev changed : Header → Header
   changed j = at x h (at x g (at x f j))
 
-  its_change : at x h (at x g (at x f (head o))) ≡ last
+  pub its_change : at x h (at x g (at x f (head o))) ≡ last
   its_change =
       let first = f (head o) in
       let at_first : eqb (f (head o)).id x ≡ true = ap (λ y. eqb y x) (sym (own_f (head o))) ∙ own in
       let at_second : eqb (g (f (head o))).id x ≡ true = ap (λ y. eqb y x) (sym (own_g (f (head o)))) ∙ at_first in
       ap (λ j. at x h (at x g j)) (at_it x f (head o) own) ∙ ap (at x h) (at_it x g (f (head o)) at_first) ∙ at_it x h (g (f (head o))) at_second ∙ is
 
-  other_change : (j : Header) → eqb j.id x ≡ false → at x h (at x g (at x f j)) ≡ j
+  pub other_change : (j : Header) → eqb j.id x ≡ false → at x h (at x g (at x f j)) ≡ j
   other_change j e = ap (λ j. at x h (at x g j)) (at_another x f j e) ∙ ap (at x h) (at_another x g j e) ∙ at_another x h j e
 
   abbrev IsIt : Header → Type 0
@@ -131,15 +127,15 @@ module _ (m n : Module) (x : ℕ) (o : Operation) (w : Turns m n x o) (ready : I
   abbrev last : Header
   last = record (head o) { operands = w.operands; properties = w.properties }
 
-  it : Each (λ j. eqb j.id x ≡ true → j ≡ head o) m.tree
+  pub it : Each (λ j. eqb j.id x ≡ true → j ≡ head o) m.tree
   it = each_by_found (λ j. eqb j.id x ≡ true → j ≡ head o) m.tree ready.wellformed.distinct (λ p e i. ap head (same_Some _ _ (sym (ap (λ y. find y m.tree) (sym (eqb-true (head p).id x i)) ∙ e) ∙ w.found)))
 
-  abbrev each : (P Q : Header → Type 0) → ((j : Header) → P j → Q j) → (P (head o) → Q (record (head o) { operands = w.operands; properties = w.properties })) → Each P m.tree → Each Q n.tree
+  abbrev pub each : (P Q : Header → Type 0) → ((j : Header) → P j → Q j) → (P (head o) → Q (record (head o) { operands = w.operands; properties = w.properties })) → Each P m.tree → Each Q n.tree
   each P Q other its s =
       subst (λ t. Each Q t) w.tree
       (turned_each x w.first w.second w.third w.own_first w.own_second w.own_third o (eq-eqb (head o).id x w.own) (record (head o) { operands = w.operands; properties = w.properties }) w.becomes P Q other its m.tree it s)
 
-  abbrev all_blocks : (Q : ℕ → ℕ → List TypeTerm → Type 0) → EachBlock Q m.tree → EachBlock Q n.tree
+  abbrev pub all_blocks : (Q : ℕ → ℕ → List TypeTerm → Type 0) → EachBlock Q m.tree → EachBlock Q n.tree
   all_blocks Q s =
       subst (λ t. EachBlock Q t) w.tree
       (turned_blocks x w.first w.second w.third w.own_first w.own_second w.own_third o (eq-eqb (head o).id x w.own) (record (head o) { operands = w.operands; properties = w.properties }) w.becomes Q m.tree s)
@@ -263,140 +259,3 @@ module _ (m n : Module) (x : ℕ) (o : Operation) (w : Turns m n x o) (ready : I
           computing = record { fits = s.fits; typed = s.typed; sure = s.sure; fed = all_fed };
           shows = unseen_shows a s.now m (done_after m.next x done) x n.tree unseen s.better alike (free_still m.next (λ y. true) (λ y. true) m.tree n.tree all_plain) (turned_origins s.now s.better);
         }
-
-  -- ---- a choice with other operands, of which it chooses the same
-  pub record TurnsChoice (a : Assignment) (done : ℕ → Bool) : Type 0 where
-    pub choice : is_choice m.tree (head o) ≡ true
-    pub properties : w.properties ≡ (head o).properties
-    pub values : list_all (λ v. has_value v m.tree) w.operands ≡ true
-    pub fed : done x ≡ true → list_all (is_there done) w.operands ≡ true
-    pub chooses : (origin : Origins) (y : Value) → done x ≡ true → Chosen a origin y (head o).operands → Chosen a origin y w.operands
-
-  module _ (a : Assignment) (done : ℕ → Bool) (computing : Computing a done m.tree) (k : TurnsChoice a done) where
-    abbrev later : ℕ → Bool
-    later = done_after m.next x done
-
-    below : IsBelow m.next m.tree
-    below = is_below m.next m.tree ready.wellformed.below
-
-    operands : OperandsStand m.tree
-    operands = operands_stand is_isolated m.tree ready.wellformed.distinct ready.wellformed.wellformed.visible
-
-    was : (y : ℕ) → y < m.next → done_after m.next x done y ≡ true → done y ≡ true
-    was y l i = sym (after_old m.next x done y l) ∙ i
-
-    its_done : (head o).id < m.next → done_after m.next x done (head o).id ≡ true → done x ≡ true
-    its_done l i = ap done (sym w.own) ∙ was (head o).id l i
-
-    -- a choice isn't arithmetic
-    no_number : {A : Type 0} → is_arithmetic (head o) ≡ true → A
-    no_number e = absurd (true≢false (sym k.choice ∙ no_choice m.tree (head o) e))
-
-    all_fits : Each (FitsDone a (done_after m.next x done)) n.tree
-    all_fits =
-        each (Low m (FitsDone a done)) (FitsDone a (done_after m.next x done)) (λ h p i j. p.0 (was h.id p.1 i) j) (λ p i j. no_number j)
-        (each_both (FitsDone a done) (λ h. h.id < m.next) (Low m (FitsDone a done)) (λ h p l. (p, l)) m.tree computing.fits below)
-
-    all_sure : AllSure a (done_after m.next x done) n.tree
-    all_sure =
-        each (Low m (IsSure a done)) (IsSure a (done_after m.next x done)) (λ h p i j. p.0 (was h.id p.1 i) j) (λ p i j. no_number j)
-        (each_both (IsSure a done) (λ h. h.id < m.next) (Low m (IsSure a done)) (λ h p l. (p, l)) m.tree computing.sure below)
-
-    all_fed : Each (IsFed (done_after m.next x done)) n.tree
-    all_fed =
-        each (Low m (IsFed (done_after m.next x done))) (IsFed (done_after m.next x done)) (λ h p. p.0) (λ p i. still_there m x done below w.operands k.values (k.fed (its_done p.1 i)))
-        (each_both (IsFed (done_after m.next x done)) (λ h. h.id < m.next) (Low m (IsFed (done_after m.next x done))) (λ h p l. (p, l)) m.tree
-        (fed_later m x done below operands computing.fed) below)
-
-    all_were : (before after : ℕ → Bool) → ((y : ℕ) → y < m.next → after y ≡ true → before y ≡ true) → Each (Was m.next before after m.tree) n.tree
-    all_were before after f = each (Was m.next before after m.tree) (Was m.next before after m.tree) (λ h p. p) (λ p i l j. no_number j) (was_old m.next before after m.tree ready.wellformed.distinct f)
-
-    plain : (v : Value) → owner v < m.next → is_computed m.tree v ≡ false → is_computed n.tree v ≡ false
-    plain = free_still m.next (λ y. true) (λ y. true) m.tree n.tree (all_were (λ y. true) (λ y. true) (λ y l i. refl))
-
-    alike : Each (Alike m.tree n.tree) m.tree
-    alike = all_alike m.next m.tree n.tree turned_kinds below operands
-
-    abbrev moved : Header → Header
-    moved j = at x w.third (at x w.second (at x w.first j))
-
-    abbrev Moves : Header → Type 0
-    Moves j = Stays m.next m.tree n.tree a a (done_after m.next x done) j (at x w.third (at x w.second (at x w.first j)))
-
-    own_stays : Stays m.next m.tree n.tree a a (done_after m.next x done) (head o) (record (head o) { operands = w.operands; properties = w.properties })
-    own_stays = record {
-      same = sym (ap (λ properties. record (without_operands (head o)) { properties = properties }) k.properties);
-      choice = λ e. absurd (true≢false (sym k.choice ∙ e));
-      still = λ e. absurd (true≢false (sym k.choice ∙ e));
-      better = λ e. absurd (true≢false (sym k.choice ∙ e));
-    }
-
-    moves : Each Moves m.tree
-    moves = each_both (Alike m.tree n.tree) (λ j. eqb j.id x ≡ true → j ≡ head o) Moves (λ j p i. go j p i (bool_cases (eqb j.id x))) m.tree alike it
-      where
-        go : (j : Header) → Alike m.tree n.tree j → (eqb j.id x ≡ true → j ≡ head o) → (eqb j.id x ≡ true) ⊎ (eqb j.id x ≡ false) → Moves j
-        go j p i (inl e) =
-            subst Moves (sym (i e))
-            (subst (Stays m.next m.tree n.tree a a later (head o)) (sym (its_change x w.first w.second w.third w.own_first w.own_second w.own_third o (eq-eqb (head o).id x w.own) last w.becomes)) own_stays)
-        go j p i (inr e) =
-            subst (Stays m.next m.tree n.tree a a later j) (sym (other_change x w.first w.second w.third w.own_first w.own_second w.own_third o (eq-eqb (head o).id x w.own) last w.becomes j e))
-            (stays_so m.next m.tree n.tree a a later (λ v. itself (a v)) j p)
-
-    chooses_still : (origin : Origins) → AreOrigins m.next a origin (done_after m.next x done) m.tree → AreOrigins m.next a origin (done_after m.next x done) n.tree
-    chooses_still origin are =
-        origins_are m.next a a origin later m.tree n.tree are plain
-        (each (λ h. Low m (Alike m.tree n.tree) h × Chooses a origin later m.tree h) (Chooses a origin later n.tree)
-        (λ h p. kept_chooses h h (kept_so m.next m.tree n.tree a a later (λ v. itself (a v)) h p.0.0) origin are p.1)
-        (λ p i y e. let g = p.1 k.choice y e in (g.0, k.chooses origin y (its_done p.0.1 g.0) g.1))
-        (each_both (Low m (Alike m.tree n.tree)) (Chooses a origin later m.tree) (λ h. Low m (Alike m.tree n.tree) h × Chooses a origin later m.tree h) (λ h p q. (p, q)) m.tree
-        (each_both (Alike m.tree n.tree) (λ h. h.id < m.next) (Low m (Alike m.tree n.tree)) (λ h p l. (p, l)) m.tree alike below) are.chosen))
-
-    turned_head : head n.tree ≡ at x w.third (at x w.second (at x w.first (head m.tree)))
-    turned_head = ap head (sym w.tree) ∙ one m.tree
-      where
-        one : (t : Operation) → head (turned_tree x w.first w.second w.third t) ≡ at x w.third (at x w.second (at x w.first (head t)))
-        one (op h rs) = refl
-
-    same_number : (f : Header → Header) → KeepsNumber f → (h : Header) → is_arithmetic (at x f h) ≡ is_arithmetic h
-    same_number f keeps h = go (eqb h.id x)
-      where
-        go : (b : Bool) → is_arithmetic (if b then f h else h) ≡ is_arithmetic h
-        go true = keeps h
-        go false = refl
-
-    turned_shown : shown_regions (regions n.tree) ≡ regions_each_head (at x w.third) (regions_each_head (at x w.second) (regions_each_head (at x w.first) (shown_regions (regions m.tree))))
-    turned_shown = ap (λ t. shown_regions (regions t)) (sym w.tree) ∙ one m.tree
-      where
-        one : (t : Operation) → shown_regions (regions (turned_tree x w.first w.second w.third t)) ≡ regions_each_head (at x w.third) (regions_each_head (at x w.second) (regions_each_head (at x w.first) (shown_regions (regions t))))
-        one (op h rs) =
-            shown_changed (at x w.third) (same_number w.third w.number_third) (regions_each_head (at x w.second) (regions_each_head (at x w.first) rs))
-            ∙ ap (regions_each_head (at x w.third)) (shown_changed (at x w.second) (same_number w.second w.number_second) (regions_each_head (at x w.first) rs)
-            ∙ ap (regions_each_head (at x w.second)) (shown_changed (at x w.first) (same_number w.first w.number_first) rs))
-
-    turned_shows : Shows a a m (done_after m.next x done) n.tree
-    turned_shows = record {
-      root = λ i. subst (Stays m.next m.tree n.tree a a later (head m.tree)) (sym turned_head) (at_root Moves m.tree moves);
-      follows =
-          subst (RegionsFollow (Stays m.next m.tree n.tree a a later) (shown_regions (regions m.tree))) (sym turned_shown)
-          (follows_turned (Stays m.next m.tree n.tree a a later) (at x w.first) (at x w.second) (at x w.third) (shown_regions (regions m.tree)) (each_shown Moves (regions m.tree) (inside Moves m.tree moves)));
-      plain = plain;
-      origins = chooses_still;
-    }
-
-    pub choice_improves : Improves a done m (done_after m.next x done) n.tree
-    choice_improves = record {
-      now = a;
-      better = λ v l. itself (a v);
-      stays = λ v l e. refl;
-      free = free_still m.next done (done_after m.next x done) m.tree n.tree (all_were done (done_after m.next x done) was);
-      computing = record {
-        fits = all_fits;
-        typed = (
-          each (ResultsOfTypes a) (ResultsOfTypes a) (λ h p. p) (λ p. p) computing.typed.0,
-          all_blocks (ArgumentsOfTypes a) computing.typed.1,
-        );
-        sure = all_sure;
-        fed = all_fed;
-      };
-      shows = turned_shows;
-    }
