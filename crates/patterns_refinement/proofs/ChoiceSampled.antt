@@ -120,7 +120,7 @@ unfolding folds.rule_of folds.rules
 origins = record {
   chosen = (
     (λ e. never e),
-    ((((λ e. never e), ((((λ e y f. (refl, ((kind.Int 1, 1), (refl, f)))), tt), (((λ e. never e), tt), (((λ e. never e), tt), tt))), tt)), tt), tt),
+    ((((λ e. never e), ((((λ e y f. (refl, ((kind.Int 1, 1), refl, f))), tt), (((λ e. never e), tt), (((λ e. never e), tt), tt))), tt)), tt), tt),
   );
   computed = computed;
   unused = unused;

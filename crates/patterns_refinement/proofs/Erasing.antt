@@ -23,7 +23,7 @@ use Rattle.patterns_base.specs.Rules.{rule}
 use Rattle.patterns_base.proofs.Facts.{when_some}
 use Rattle.patterns_soundness.specs.Accepted.{AreAccepted}
 use Rattle.user_patterns_data.specs.Matching.{Header}
-use Rattle.patterns_refinement.specs.Meaning.{ArgumentsOfTypes, Assignment, Each, FitsDone, ResultsOfTypes, result_kind}
+use Rattle.patterns_refinement.specs.Meaning.{ArgumentsOfTypes, Assignment, Each, FitsDone, ResultsOfTypes, result_kind, owner}
 use Rattle.patterns_refinement.specs.Applied.{IsBelow}
 use Rattle.patterns_refinement.specs.After.{OperandsStand}
 use Rattle.patterns_refinement.specs.Better.{AreKinded, IsSure, is_kinded, kind_in, takes_its}

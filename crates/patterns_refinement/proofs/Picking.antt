@@ -139,12 +139,12 @@ module _ (r : Rule) (m n : Module) (x : ℕ) (a : Assignment) (done : ℕ → Bo
 
   pub picked_improves : Improves a done m (done_after m.next x done) n.tree
   picked_improves =
-      replaced_improves m n x a done q.insertion [] k.value wellformed q.within (inr (q.here, (q.found, select_unmissed q.here k.name))) picked_replaces computing kinded
+      replaced_improves m n x a done q.insertion [] k.value wellformed q.within (inr (q.here, q.found, select_unmissed q.here k.name)) picked_replaces computing kinded
       (old_given a m.next x done k.value (value_below m.next m.tree (is_below m.next m.tree wellformed.below) k.value k.within) (λ d. ap (λ o. refines o (a k.value)) no_outcome) k.there)
       free (subst (λ es. all_edited es m ≡ n) these q.module_is)
 
 -- ---- the operands
-record OfThree (m : Module) (done : ℕ → Bool) (x : ℕ) (c u v : Value) : Type 0 where
+pub record OfThree (m : Module) (done : ℕ → Bool) (x : ℕ) (c u v : Value) : Type 0 where
   pub first : has_value c m.tree ≡ true
   pub second : has_value u m.tree ≡ true
   pub third : has_value v m.tree ≡ true
