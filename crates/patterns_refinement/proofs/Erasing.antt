@@ -1,5 +1,5 @@
 -- The rule that erases dead operations keeps modules ready and refines what they compute.
-use Rattle.std.proofs.Common.{◌≡◌, ℕ, ◌<◌, refl, ap, sym, ◌∙◌, subst, List, [], ◌∷◌, Bool, true, Some}
+use Rattle.std.proofs.Common.{◌≡◌, ℕ, ◌<◌, refl, ap, sym, ◌∙◌, subst, List, [], ◌∷◌, Bool, true, false, Some}
 use Rattle.std.specs.List.{list_all}
 use Rattle.std.proofs.lemmas.Option.{same_Some}
 use Rattle.ir_types.specs.Words.{is_isolated}
