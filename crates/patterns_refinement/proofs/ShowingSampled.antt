@@ -73,17 +73,17 @@ pub arguments_unused : (y n : ℕ) → y < n → (v : Value) → n ≤ owner v �
 arguments_unused y n l (Result x k) h = refl
 arguments_unused y n l (Arg x r k) h = go (x == y) refl
   where
+    less : (x y n : ℕ) → x ≡ y → y < n → n ≤ x → ⊥
+    less x y n e l h = omega (arith, e, l, h)
+
     go : (b : Bool) → (x == y) ≡ b → (if b then Some (Arg x r k) else None) ≡ None
     go true e = absurd (less x y n (eqb-true x y e) l h)
     go false e = refl
 
-    less : (x y n : ℕ) → x ≡ y → y < n → n ≤ x → ⊥
-    less x y n e l h = omega (arith, e, l, h)
-
 pub arguments_stand : (a : Assignment) (later : ℕ → Bool) → AreOrigins 5 a (arguments_of 1) later (function_of 5 (returning (Arg 1 0 0))).tree
 unfolding folds.rule_of folds.rules
 arguments_stand a later = record {
-  chosen = ((λ e. never e), ((((λ e. never e), (((λ e. never e), tt), tt)), tt), tt));
+  chosen = ((λ e. never e), ((((λ e. never e), ((((λ e. never e), tt), tt), tt)), tt), tt));
   computed = computed;
   unused = arguments_unused 1 5 (omega arith);
 }
