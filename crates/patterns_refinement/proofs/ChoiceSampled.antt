@@ -1,5 +1,5 @@
 -- The module with a `select` of memrefs has no diagnostics and computes, and a rule applies in it.
-use Rattle.std.proofs.Common.{◌≡◌, ℕ, zero, suc, refl, sym, subst, ◌<◌, [], ◌∷◌, true≢false, Some, None, true, slice_get, get_or, inl, arith, ap, eqb, ◌≤◌}
+use Rattle.std.proofs.Common.{◌≡◌, ℕ, zero, suc, refl, subst, ◌<◌, [], ◌∷◌, Some, None, true, slice_get, get_or, arith, ap, eqb, ◌≤◌}
 use Rattle.std.proofs.lemmas.Option.{none-some, same_Some}
 use Rattle.std.proofs.lemmas.Map.Made.{IsDistinct-from_count}
 use Rattle.std.proofs.lemmas.Cmp.{nat_eq_equiv}
@@ -14,7 +14,6 @@ use Rattle.op_registry.specs.Registry as registry
 use Rattle.op_registry.specs.Rows as rows
 use Rattle.op_registry.specs.Properties as properties
 use Rattle.dialects_int.specs.Folds as folds
-use Rattle.patterns_laws.specs.Words as lists
 use Rattle.patterns_base.specs.Looks as looks
 use Rattle.patterns_base.specs.Rewrites as rewrites
 use Rattle.patterns_base.specs.Rewrites.{becomes, rewrite_of}
@@ -29,7 +28,7 @@ use Rattle.patterns_refinement.specs.ChoiceSamples.{ChoiceIsRefined, after, befo
 use Rattle.patterns_refinement.specs.Refining.{Refined, observed}
 use Rattle.patterns_refinement.specs.RefiningSamples.{memory}
 use Rattle.patterns_refinement.specs.Samples.{all_done}
-use Rattle.patterns_refinement.specs.Verified.{IsVerified, is_in_range, is_within}
+use Rattle.patterns_refinement.specs.Verified.{is_in_range, is_within}
 use Rattle.patterns_refinement.proofs.RefiningSampled.{seen, which}
 use Rattle.patterns_refinement.proofs.ShowingSampled.{never}
 

@@ -44,12 +44,12 @@ use Rattle.patterns_base.specs.Rewrites.{becomes, rewrite_of}
 use Rattle.patterns_base.specs.Rules.{rule}
 use Rattle.patterns_base.proofs.Dispatch.{of_among}
 use Rattle.patterns_soundness.specs.Accepted.{AreAccepted}
-use Rattle.patterns_soundness.proofs.Shapes.{three_is, two_is}
+use Rattle.patterns_soundness.proofs.Shapes.{two_is}
 use Rattle.patterns_base.proofs.Facts.{when_some}
 use Rattle.patterns_refinement.specs.Meaning.{Assignment, IsOfType, of_three, of_two}
 use Rattle.patterns_refinement.specs.Better.{AreKinded, is_arithmetic_there, is_kind, kind_in, takes}
 use Rattle.patterns_refinement.specs.Keeping.{Computing, Improves, done_after, is_there}
-use Rattle.patterns_refinement.proofs.Firsts.{Firsts, IsPair, both_kept, by_and, by_select, chosen_kept, first_kept, keeping_pairs, one_first, one_pairs, ones_first, zero_first, zero_pairs}
+use Rattle.patterns_refinement.proofs.Firsts.{Firsts, IsPair, both_kept, by_and, chosen_kept, first_kept, keeping_pairs, one_first, one_pairs, ones_first, zero_first, zero_pairs}
 use Rattle.patterns_refinement.proofs.Forms.{named_is}
 use Rattle.patterns_refinement.proofs.Giving.{given_improves, old_given}
 use Rattle.patterns_refinement.proofs.Monotone.{itself}

@@ -1,6 +1,5 @@
 -- The bindings of a match of a pattern in a ready module.
 use Rattle.std.proofs.Common.{◌≡◌, ℕ, zero, suc, ◌+◌, ◌-◌, ◌<◌, refl, ap, sym, ◌∙◌, subst, List, [], ◌∷◌, ◌++◌, length, map, Bool, true, false, true≢false, ◌&&◌, eqb, Option, Some, None, slice_get, ◌⊎◌, inl, inr, arith}
-use Rattle.ir_tree.specs.Ids.{find}
 use Rattle.std.specs.Prelude.{codes, is_some, if◌then◌else◌, option_map}
 use Rattle.std.specs.List.{list_all, list_any, range_with_len}
 use Rattle.std.proofs.lemmas.Bool.{and_parts}

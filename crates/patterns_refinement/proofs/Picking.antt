@@ -1,12 +1,11 @@
 -- The rules on a `select` of one value, and by a known condition, refine what was computed: also a `select` of memrefs or
 -- tensors.
-use Rattle.std.proofs.Common.{◌≡◌, ℕ, ◌<◌, refl, ap, sym, ◌∙◌, subst, List, [], ◌∷◌, map, Bool, true, false, true≢false, ◌&&◌, not, eqb-true, Option, Some, None, ◌⊎◌, inl, inr, slice_get}
+use Rattle.std.proofs.Common.{◌≡◌, ℕ, refl, ap, sym, ◌∙◌, subst, List, [], ◌∷◌, map, Bool, true, false, true≢false, ◌&&◌, not, Option, Some, None, ◌⊎◌, inl, inr, slice_get}
 use Rattle.std.specs.Prelude.{codes, if◌then◌else◌, is_some, option_and_then, ◌==◌}
 use Rattle.std.specs.List.{list_all}
-use Rattle.std.proofs.lemmas.Bool.{and_from, and_parts}
+use Rattle.std.proofs.lemmas.Bool.{and_parts}
 use Rattle.std.proofs.lemmas.Option.{none-some, same_Some}
 use Rattle.ir_types.specs.Terms.{TypeTerm}
-use Rattle.ir_types.specs.SameTypes.{same_type}
 use Rattle.ir_types.specs.Words.{is_isolated}
 use Rattle.ir_types.specs.declared.bits.BitsKind.{BitsKind}
 use Rattle.ir_types.specs.declared.bits.BitsKind.TheVariants as kind
@@ -21,14 +20,12 @@ use Rattle.ir_tree.proofs.Replaced.{same_value_true}
 use Rattle.ir_tree_laws.specs.Values.{has_value, type_of_value}
 use Rattle.ir_tree_laws.proofs.Reasoned.{some_there}
 use Rattle.ir_event.specs.Modules.{Module}
-use Rattle.dialects_int.specs.declared.operations.Rule.{Rule as How}
 use Rattle.dialects_int.specs.declared.operations.Rule.TheVariants as how
 use Rattle.dialects_int.specs.Arithmetic.{choice_of}
 use Rattle.dialects_int.specs.Folds.{Known, kind_of, rule_of}
 use Rattle.rewriter_machine.specs.Contents.{all_edited}
 use Rattle.user_patterns_check.specs.Checks.{refines}
 use Rattle.user_patterns_check.specs.Outcomes.{Outcome, given}
-use Rattle.user_patterns_data.specs.Matching.{Header}
 use Rattle.patterns_laws.specs.Words.{named}
 use Rattle.patterns_laws.proofs.KnownFolds.{given_some}
 use Rattle.patterns_base.specs.declared.rule.Rule.{Rule}
@@ -42,7 +39,7 @@ use Rattle.patterns_soundness.specs.Accepted.{AreAccepted}
 use Rattle.patterns_soundness.proofs.Shapes.{three_is}
 use Rattle.patterns_refinement.specs.Meaning.{Assignment, IsOfType, result_kind}
 use Rattle.patterns_refinement.specs.After.{rewritten}
-use Rattle.patterns_refinement.specs.Better.{AreKinded, is_kind, kind_in}
+use Rattle.patterns_refinement.specs.Better.{AreKinded, kind_in}
 use Rattle.patterns_refinement.specs.Choices.{AreOrigins, Chooses, Chosen, IsStill, Origins, has_condition, is_choice, is_select}
 use Rattle.patterns_refinement.specs.Keeping.{Computing, Improves, IsFed, done_after, is_there}
 use Rattle.patterns_refinement.proofs.Dropping.{Keeps, choice_refined, chosen_better, chosen_is, known_is, old_improves, one_of}

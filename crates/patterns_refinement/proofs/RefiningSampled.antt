@@ -3,7 +3,7 @@ use Rattle.patterns_refinement.specs.Observing.{shown_regions}
 use Rattle.user_patterns_data.specs.Matching.{Header}
 use Rattle.std.specs.List.{filter}
 use Rattle.std.specs.Prelude.{if◌then◌else◌}
-use Rattle.std.proofs.Common.{◌≡◌, ℕ, zero, suc, refl, sym, subst, ◌<◌, [], ◌∷◌, true≢false, Some, None, true, slice_get, get_or, inl, arith, ap, ◌∙◌, map, Bool, false, eqb, List}
+use Rattle.std.proofs.Common.{◌≡◌, ℕ, zero, suc, refl, sym, subst, ◌<◌, [], ◌∷◌, true≢false, Some, None, true, slice_get, get_or, inl, arith, ap, ◌∙◌, map, Bool, eqb, List}
 use Rattle.std.proofs.lemmas.Option.{none-some, same_Some}
 use Rattle.std.proofs.lemmas.Map.Made.{IsDistinct-from_count}
 use Rattle.std.proofs.lemmas.Cmp.{nat_eq_equiv}

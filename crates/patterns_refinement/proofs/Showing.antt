@@ -1,7 +1,6 @@
 -- A tree after an edit shows what the tree showed.
 use Rattle.std.proofs.Common.{◌≡◌, ℕ, ◌+◌, ◌<◌, ◌≤◌, refl, ap, sym, ◌∙◌, subst, Bool, true, false, true≢false, eqb, eqb-true, Some, List, [], ◌∷◌, ◌++◌, map, ◌⊎◌, inl, inr, arith}
 use Rattle.std.specs.Prelude.{if◌then◌else◌}
-use Rattle.std.specs.List.{list_all}
 use Rattle.std.proofs.lemmas.Option.{same_Some}
 use Rattle.ir_types.specs.Terms.{TypeTerm, AttrTerm}
 use Rattle.ir_types.specs.Words.{is_isolated}
@@ -9,19 +8,16 @@ use Rattle.ir_tree.specs.declared.value.Value.{Value}
 use Rattle.ir_tree.specs.declared.value.Value.TheVariants.{Result}
 use Rattle.ir_tree.specs.declared.place.Place.{Place}
 use Rattle.ir_tree.specs.Tree.{RegionsOf, RegionOf, OpsOf, op, no_regions, region, empty, block, no_ops, next, head, regions}
-use Rattle.ir_tree.specs.Edits.{at, each_head, put_value, put_values, regions_each_head, with_value_replaced}
+use Rattle.ir_tree.specs.Edits.{at, each_head, put_values, regions_each_head, with_value_replaced}
 use Rattle.ir_tree.specs.Ids.{HasDistinctIds, find}
 use Rattle.ir_tree.specs.Places.{drop_op, put, regions_each_list, without}
-use Rattle.ir_tree.specs.Uses.{same_value}
 use Rattle.ir_tree.specs.WellFormed.{IsWellFormed}
 use Rattle.ir_event.specs.Modules.{Module}
 use Rattle.ir_tree.specs.Meaning.{Operation}
-use Rattle.ir_tree.proofs.Replaced.{same_value_true}
 use Rattle.ir_tree_laws.specs.Members.{In}
 use Rattle.ir_tree_laws.specs.Reasons.{with_id}
 use Rattle.ir_tree_laws.specs.Stands.{OpWithPathOf, StepOf, ops_stands, region_stands, regions_stands, stands}
-use Rattle.ir_tree_laws.specs.Values.{has_value}
-use Rattle.ir_tree_laws.proofs.Listed.{all_each, bool_cases, in_left, in_right}
+use Rattle.ir_tree_laws.proofs.Listed.{bool_cases, in_left, in_right}
 use Rattle.ir_tree_laws.proofs.Members.{stand_found}
 use Rattle.user_patterns_check.specs.Checks.{refines}
 use Rattle.user_patterns_check.specs.Outcomes.{Outcome}
@@ -38,7 +34,6 @@ use Rattle.patterns_refinement.proofs.Wellformed.{is_below}
 use Rattle.patterns_refinement.proofs.Monotone.{through}
 use Rattle.patterns_refinement.proofs.Rewritten.{AllBare, AllPut}
 use Rattle.patterns_refinement.proofs.Settling.{each_by_found}
-use Rattle.patterns_refinement.proofs.Trees.{value_below}
 use Rattle.patterns_refinement.proofs.Shown.{IsNumberAt, each_shown, shown_at, shown_changed, shown_lacks, shown_put, shown_without}
 
 abbrev Regions : Type 0

@@ -1,9 +1,8 @@
 -- A rule that changes the operands of a choice in place keeps what the module shows.
-use Rattle.std.proofs.Common.{◌≡◌, ℕ, ◌<◌, refl, ap, sym, ◌∙◌, subst, List, Bool, true, false, true≢false, eqb, eq-eqb, ◌⊎◌, inl, inr}
+use Rattle.std.proofs.Common.{◌≡◌, ℕ, ◌<◌, refl, ap, sym, ◌∙◌, subst, Bool, true, false, true≢false, eqb, eq-eqb, ◌⊎◌, inl, inr}
 use Rattle.std.specs.Prelude.{if◌then◌else◌}
 use Rattle.std.specs.List.{list_all}
 use Rattle.ir_types.specs.Words.{is_isolated}
-use Rattle.ir_types.specs.Terms.{TypeTerm}
 use Rattle.ir_tree.specs.declared.value.Value.{Value}
 use Rattle.ir_tree.specs.Tree.{head, op, regions}
 use Rattle.ir_tree.specs.Edits.{at, regions_each_head}
@@ -12,7 +11,7 @@ use Rattle.ir_tree_laws.specs.Values.{has_value}
 use Rattle.ir_tree_laws.proofs.Listed.{bool_cases}
 use Rattle.ir_event.specs.Modules.{Module}
 use Rattle.user_patterns_data.specs.Matching.{Header}
-use Rattle.patterns_refinement.specs.Meaning.{ArgumentsOfTypes, Assignment, Each, EachBlock, FitsDone, ResultsOfTypes, is_arithmetic, owner}
+use Rattle.patterns_refinement.specs.Meaning.{ArgumentsOfTypes, Assignment, Each, FitsDone, ResultsOfTypes, is_arithmetic, owner}
 use Rattle.patterns_refinement.specs.After.{OperandsStand}
 use Rattle.patterns_refinement.specs.Applied.{IsBelow}
 use Rattle.patterns_refinement.specs.Better.{AllSure, IsSure}

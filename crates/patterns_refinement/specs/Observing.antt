@@ -1,7 +1,7 @@
 -- Which operations of a module can be observed, and when a rewritten module shows the same. An arithmetic operation
 -- computes a result and does nothing else. All other operations are observable: returns, calls, stores, loops, and
 -- operations of unknown dialects.
-use Rattle.std.specs.Prelude.{◌≡◌, ◌⊎◌, ◌<◌, ℕ, List, [], ◌∷◌, map, Bool, true, false, ◌&&◌, not, if◌then◌else◌}
+use Rattle.std.specs.Prelude.{◌≡◌, ◌⊎◌, ◌<◌, ℕ, List, [], map, Bool, true, false, ◌&&◌, not, if◌then◌else◌}
 use Rattle.ir_types.specs.Terms.{TypeTerm, AttrTerm}
 use Rattle.ir_tree.specs.declared.value.Value.{Value}
 use Rattle.ir_tree.specs.Tree.{RegionsOf, RegionOf, OpsOf, op, no_regions, region, empty, block, no_ops, next, head, regions}

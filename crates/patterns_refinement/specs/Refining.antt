@@ -1,7 +1,7 @@
 -- Refinement of modules. An observer sees the operations that can't be erased, in order, the outcomes of their operands,
 -- and what the operands stand for. A module refines another if the observer sees the same operations with the same or
 -- refined operands, for all outcomes of the values that the module doesn't compute: arguments, loads and results of calls.
-use Rattle.std.specs.Prelude.{◌≡◌, ◌<◌, ℕ, List, [], ◌∷◌, ◌++◌, map, Bool, true, false, if◌then◌else◌, Option, Some, None}
+use Rattle.std.specs.Prelude.{◌≡◌, ◌<◌, ℕ, List, [], ◌∷◌, ◌++◌, map, Bool, true, false, if◌then◌else◌, Option}
 use Rattle.std.specs.List.{filter}
 use Rattle.ir_types.specs.Terms.{TypeTerm, AttrTerm}
 use Rattle.ir_tree.specs.declared.value.Value.{Value}
