@@ -40,6 +40,7 @@ pub mod Readied
 pub mod Origins
 pub mod StaysReady
 pub mod Unmissed
+pub mod Themselves
 pub mod Picking
 pub mod OldRules
 pub mod Constants

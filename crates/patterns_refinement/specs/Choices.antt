@@ -1,11 +1,16 @@
 -- A `select` by an integer or `index` of values that are neither, such as memrefs and tensors: a choice. Such values have
 -- no outcome. Each of them stands for a value, or for nothing. If a choice is executed and its condition is known, its
 -- result may stand for what the chosen operand stands for. Otherwise it stands for nothing.
-use Rattle.std.specs.Prelude.{◌≡◌, ◌≤◌, ℕ, List, [], ◌∷◌, map, Bool, true, false, ◌&&◌, not, Option, Some, None, is_some}
+use Rattle.std.specs.Prelude.{◌≡◌, ◌<◌, ◌≤◌, ℕ, List, [], ◌∷◌, map, Bool, true, false, ◌&&◌, not, Option, Some, None, is_some}
 use Rattle.ir_types.specs.declared.bits.BitsKind.{BitsKind}
+use Rattle.ir_types.specs.Words.{is_isolated}
 use Rattle.ir_tree.specs.declared.value.Value.{Value}
-use Rattle.ir_tree.specs.declared.value.Value.TheVariants.{Result}
+use Rattle.ir_tree.specs.declared.value.Value.TheVariants.{Arg, Result}
+use Rattle.ir_tree.specs.Tree.{head}
+use Rattle.ir_tree.specs.Ids.{find}
+use Rattle.ir_tree.specs.WellFormed.{IsWellFormed}
 use Rattle.ir_tree.specs.Meaning.{Operation}
+use Rattle.ir_event.specs.Modules.{Module}
 use Rattle.dialects_int.specs.declared.operations.Rule.{Rule}
 use Rattle.dialects_int.specs.declared.operations.Rule.TheVariants as rule
 use Rattle.dialects_int.specs.Arithmetic.{choice_of}
@@ -32,6 +37,15 @@ has_condition (c ∷ js) = is_some c
 -- Returns whether an operation of a tree is a choice. A `select` by a tensor or a vector of i1 isn't one.
 abbrev pub is_choice : Operation → Header → Bool
 is_choice t h = is_select (rule_of h.name) && (not (is_some (result_kind h)) && has_condition (map (kind_in t) h.operands))
+
+abbrev pub is_choice_there : Operation → Option Operation → Bool
+is_choice_there t None = false
+is_choice_there t (Some o) = is_choice t (head o)
+
+-- Returns whether a choice gives the value.
+abbrev pub is_chosen : Operation → Value → Bool
+is_chosen t (Result x k) = is_choice_there t (find x t)
+is_chosen t (Arg x r k) = false
 
 -- ---- what values stand for
 -- what each value stands for: a value, or nothing
@@ -70,3 +84,10 @@ AllStill o [] [] = Unit {0}
 AllStill o [] (w ∷ ws) = ⊥
 AllStill o (v ∷ vs) [] = ⊥
 AllStill o (v ∷ vs) (w ∷ ws) = IsStill (o v) (o w) × AllStill o vs ws
+
+-- In a well-formed module, each value may stand for itself, unless an arithmetic operation or a choice gives it.
+abbrev pub MayStandForThemselves : Type 0
+MayStandForThemselves =
+    (m : Module) → IsWellFormed is_isolated m → (a : Assignment) (done : ℕ → Bool)
+    → (o : Origins) × AreOrigins m.next a o done m.tree
+    × ((v : Value) → owner v < m.next → gives (λ x. true) m.tree v ≡ false → is_chosen m.tree v ≡ false → o v ≡ Some v)

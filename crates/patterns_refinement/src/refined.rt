@@ -1,5 +1,6 @@
 //! After `apply`, `rewrite` and `canon`, an observer sees a refinement of what an observer saw before. A module without
 //! diagnostics satisfies the premises.
+ghost use Rattle.patterns_refinement.specs.Choices.{MayStandForThemselves};
 ghost use Rattle.patterns_refinement.specs.ChoiceSamples.{ChoiceIsRefined};
 ghost use Rattle.patterns_refinement.specs.Refining.{ApplyRefines, CanonRefines, KeptIsRefined, RewriteRefines};
 ghost use Rattle.patterns_refinement.specs.RefiningSamples.{SampleIsRefined, SamplesArentRefined};
@@ -41,4 +42,10 @@ pub fn a_sample_is_refined()
 /// compute.
 pub fn outcomes_are_unique()
     ensures { OutcomesAreUnique }
+{}
+
+/// In a well-formed module, each value may stand for itself, unless an arithmetic operation or a choice gives it. So if
+/// such a value is an operand of an observed operation, it is the same value after a rewrite.
+pub fn values_may_stand_for_themselves()
+    ensures { MayStandForThemselves }
 {}
