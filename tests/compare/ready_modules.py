@@ -1,12 +1,12 @@
 #!/usr/bin/env python3
 """How many modules are ready for the laws of crates/patterns_refinement (`IsReady`): each arithmetic operation on
-integers or index takes its operands, and a select by an i1 selects an integer or index.
+integers or index takes its operands.
 
 usage: tests/compare/ready_modules.py [FILE..]
 
 The modules are FILE.., or those of tests/golden/opaque; each is read with opaque terms, by the rules in Python. It
 prints how many have no diagnostics, and how many of those aren't ready, by cause. It ends with status 1 if a module
-without diagnostics isn't ready for another cause than a select by an i1 of something that is no integer or index."""
+without diagnostics isn't ready."""
 import collections
 import pathlib
 import sys
@@ -38,19 +38,14 @@ def takes(name, types, result):
 
 
 def is_kinded(op, types):
-    """Whether an operation takes its operands, if it is arithmetic. It isn't if its result isn't a number, but for a
-    select by an i1."""
-    if op.name not in ARITHMETIC or op.name == CONSTANT:
+    """Whether an operation takes its operands, if it is arithmetic. It isn't if its result isn't a number."""
+    if op.name not in ARITHMETIC or op.name == CONSTANT or not op.results or not is_T(op.results[0]):
         return True
-    if op.results and is_T(op.results[0]):
-        return takes(op.name, types, op.results[0])
-    return op.name != SELECT or types[:1] != [I1]
+    return takes(op.name, types, op.results[0])
 
 
 def cause(op, types):
     """Why an operation that doesn't take its operands may be in a module without diagnostics."""
-    if op.name == SELECT and not is_T(op.results[0]):
-        return "select of no number"
     return "beyond the table" if is_beyond(op, types) else "not listed"
 
 
@@ -83,7 +78,7 @@ def main():
     if words and words[0].startswith("-"):
         print(__doc__)
         return 0
-    counts, why, unlisted = collections.Counter(), collections.Counter(), 0
+    counts, why = collections.Counter(), collections.Counter()
     for name, module in modules(words):
         found, clean = set(causes(module)), not diagnostics(module)
         counts["read"] += 1
@@ -93,12 +88,11 @@ def main():
         counts["ready with arithmetic"] += clean and not found and has_arithmetic(module)
         for it in found if clean else ():
             why[it] += 1
-            unlisted += it[0] != "select of no number"
             print(f"{name}: {it[1]}, {it[0]}")
     print(", ".join(f"{word} {count}" for word, count in counts.items()))
     print("not ready without diagnostics: " + ", ".join(f"{name} {told} {count}" for (told, name), count in
                                                        sorted(why.items())))
-    return 1 if unlisted else 0
+    return 1 if why else 0
 
 
 if __name__ == "__main__":

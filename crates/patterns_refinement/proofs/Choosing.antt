@@ -12,6 +12,7 @@ use Rattle.ir_types.specs.Terms.{TypeTerm}
 use Rattle.ir_types.specs.Words.{is_isolated}
 use Rattle.ir_tree.specs.declared.value.Value.{Value}
 use Rattle.ir_tree.specs.declared.value.Value.TheVariants.{Result}
+use Rattle.ir_tree.specs.Ids.{find}
 use Rattle.ir_tree.specs.Tree.{head}
 use Rattle.ir_tree.specs.Edits.{put_operand}
 use Rattle.ir_tree.specs.WellFormed.{IsWellFormed}
@@ -38,8 +39,11 @@ use Rattle.patterns_soundness.proofs.Shapes.{three_is, two_is}
 use Rattle.user_patterns_data.specs.Matching.{Header}
 use Rattle.patterns_refinement.specs.Meaning.{Assignment, of_two, result_kind, breaks_by, flags_of}
 use Rattle.patterns_refinement.specs.Better.{is_kind, is_kinded, is_poison_by_ones, is_signed_quotient, kind_in, takes, takes_its}
+use Rattle.patterns_refinement.specs.Choices.{Chosen, Origins}
 use Rattle.patterns_refinement.specs.Keeping.{Computing, IsReady, KeepsComputing, KeepsReady, is_there}
-use Rattle.patterns_refinement.proofs.Dropping.{choice_refined, kind_by, known_is, known_test, of_three_is, of_two_is}
+use Rattle.patterns_refinement.proofs.Dropping.{choice_refined, kind_by, known_is, known_test, of_two_is}
+use Rattle.patterns_refinement.proofs.Picking.{choice_is, kind_cases, three_of}
+use Rattle.patterns_refinement.proofs.Verified.{is_by_truth, verified_by_truth}
 use Rattle.patterns_refinement.proofs.EditsForm.{all_wellformed}
 use Rattle.patterns_refinement.proofs.Expanding.{by_exclusive_or}
 use Rattle.patterns_refinement.proofs.Extremes.{select_is, select_out}
@@ -49,9 +53,10 @@ use Rattle.patterns_refinement.proofs.Forms.{makes_is, named_is}
 use Rattle.patterns_refinement.proofs.Monotone.{same_refined}
 use Rattle.patterns_refinement.proofs.Pairs.{Paired, paired}
 use Rattle.patterns_refinement.proofs.Readied.{Rises, Takes, each_rises, same_takes}
-use Rattle.patterns_refinement.proofs.Ruled.{Ruled, Site, known_kinds, of_rule, root_has, rule_kinds, ruled, site_of, value_bits}
+use Rattle.patterns_refinement.proofs.Ruled.{Ruled, Site, known_kinds, of_rule, rule_kinds, ruled, site_of, value_bits}
 use Rattle.patterns_refinement.proofs.Sources.{Sole, kind_test, made_or_poison, sole_of}
 use Rattle.patterns_refinement.proofs.Trees.{each_found}
+use Rattle.patterns_refinement.proofs.TurnedChoice.{TurnsChoice, choice_improves}
 use Rattle.patterns_refinement.proofs.Turning.{Turns, TurnsWell, turned_improves, turned_ready}
 
 module _ (accepted : AreAccepted) where
@@ -126,26 +131,22 @@ module _ (accepted : AreAccepted) where
           wellformed = subst (IsWellFormed is_isolated) after (all_wellformed es m (tt, (tt, (tt, tt))) ready.wellformed (subst (λ es. Free es m) w.edits q.free));
         }
 
-    record OppositeKinds : Type 0 where
+    -- the condition is the negation of another, and both are i1
+    record OppositeTruths : Type 0 where
       pub sole : Sole m (λ h. named (codes "arith.xori") h.name && is_verified m.tree h) w.first w.inner
       pub own_name : rule_of (head sole.here).name ≡ Some (how.Binary op.ExclusiveOr)
       pub own_operands : (head sole.here).operands ≡ w.condition ∷ w.truth ∷ []
       pub sole_kind : result_kind (head sole.here) ≡ Some (kind.Int 1)
-      pub own_kind : BitsKind
-      pub is : result_kind (head q.here) ≡ Some own_kind
-      pub width : is_width (width_of own_kind) ≡ true
+      pub first_is : is_kind (kind.Int 1) (kind_in m.tree w.first) ≡ true
       pub condition_is : is_kind (kind.Int 1) (kind_in m.tree w.condition) ≡ true
-      pub second_is : is_kind own_kind (kind_in m.tree w.second) ≡ true
-      pub third_is : is_kind own_kind (kind_in m.tree w.third) ≡ true
       pub condition : has_value w.condition m.tree ≡ true
       pub second : has_value w.second m.tree ≡ true
       pub third : has_value w.third m.tree ≡ true
 
-    opposite_kinds : OppositeKinds
-    opposite_kinds =
-        let k = rule_kinds m.tree (head q.here) (each_found (λ h. is_kinded m.tree h ≡ true) x m.tree ready.kinded q.here q.found).0 (root_has q ready.wellformed ready.kinded refl) how.Select w.name in
-        let all = and_parts (is_kind (kind.Int 1) (kind_in m.tree w.first)) (is_kind k.kind (kind_in m.tree w.second) && is_kind k.kind (kind_in m.tree w.third)) (subst (λ vs. takes how.Select (head q.here) k.kind (map (kind_in m.tree) vs) ≡ true) w.operands k.operands) in
-        let both = and_parts (is_kind k.kind (kind_in m.tree w.second)) (is_kind k.kind (kind_in m.tree w.third)) all.1 in
+    opposite_truths : OppositeTruths
+    opposite_truths =
+        let first_is : is_kind (kind.Int 1) (kind_in m.tree w.first) ≡ true =
+        subst (λ vs. is_by_truth (map (kind_in m.tree) vs) ≡ true) w.operands (verified_by_truth m.tree q.here ready.wellformed.distinct (ap (λ y. find y m.tree) q.id ∙ q.found) (q.verified refl) w.name) in
         let stand = operands_stand is_isolated m.tree ready.wellformed.distinct ready.wellformed.wellformed.visible in
         let values = subst (λ vs. list_all (λ v. has_value v m.tree) vs ≡ true) w.operands (each_found (λ h. list_all (λ v. has_value v m.tree) h.operands ≡ true) x m.tree stand q.here q.found).0 in
         let f = and_parts (has_value w.first m.tree) (has_value w.second m.tree && (has_value w.third m.tree && true)) values in
@@ -154,7 +155,7 @@ module _ (accepted : AreAccepted) where
         let inner_name = ap rule_of (named_is (codes "arith.xori") w.inner.name (and_parts (named (codes "arith.xori") w.inner.name) (is_verified m.tree w.inner) s.passed).0) ∙ by_exclusive_or in
         let own_name : rule_of (head s.here).name ≡ Some (how.Binary op.ExclusiveOr) = ap rule_of (ap (λ (h : Header). h.name) s.heads) ∙ inner_name in
         let own_operands : (head s.here).operands ≡ w.condition ∷ w.truth ∷ [] = ap (λ (h : Header). h.operands) s.heads ∙ w.inner_operands in
-        let sole_kind : result_kind (head s.here) ≡ Some (kind.Int 1) = sym s.kind ∙ kind_test (kind.Int 1) (kind_in m.tree w.first) all.0 in
+        let sole_kind : result_kind (head s.here) ≡ Some (kind.Int 1) = sym s.kind ∙ kind_test (kind.Int 1) (kind_in m.tree w.first) first_is in
         let r = known_kinds m.tree (head s.here) (each_found (λ h. is_kinded m.tree h ≡ true) s.id m.tree ready.kinded s.here s.found).0 (how.Binary op.ExclusiveOr) own_name (kind.Int 1) sole_kind in
         let truths : r.kind ≡ kind.Int 1 = same_Some _ _ (sym r.is ∙ sole_kind) in
         let inside = and_parts (is_kind r.kind (kind_in m.tree w.condition)) (is_kind r.kind (kind_in m.tree w.truth)) (subst (λ vs. takes (how.Binary op.ExclusiveOr) (head s.here) r.kind (map (kind_in m.tree) vs) ≡ true) own_operands r.operands) in
@@ -164,18 +165,110 @@ module _ (accepted : AreAccepted) where
           own_name = own_name;
           own_operands = own_operands;
           sole_kind = sole_kind;
-          own_kind = k.kind;
-          is = k.is;
-          width = k.width;
+          first_is = first_is;
           condition_is = subst (λ k. is_kind k (kind_in m.tree w.condition) ≡ true) truths inside.0;
-          second_is = both.0;
-          third_is = both.1;
           condition = (and_parts (has_value w.condition m.tree) (has_value w.truth m.tree && true) inner_values).0;
           second = g.0;
           third = (and_parts (has_value w.third m.tree) true g.1).0;
         }
 
-    module _ (k : OppositeKinds) where
+    module _ (j : OppositeTruths) where
+      new_values : list_all (λ v. has_value v m.tree) (w.condition ∷ w.third ∷ w.second ∷ []) ≡ true
+      new_values =
+          and_from (has_value w.condition m.tree) (has_value w.third m.tree && (has_value w.second m.tree && true)) j.condition
+          (and_from (has_value w.third m.tree) (has_value w.second m.tree && true) j.third (and_from (has_value w.second m.tree) true j.second refl))
+
+      module _ (a : Assignment) (done : ℕ → Bool) (computing : Computing a done m.tree) where
+        inner_site : Site m a done j.sole.id j.sole.here
+        inner_site = site_of m a done j.sole.id j.sole.here ready.wellformed ready.kinded computing j.sole.found (λ i. ap is_some j.sole_kind)
+
+        -- the other condition, if the condition is known
+        record Opposed (c : Known) : Type 0 where
+          pub known : Known
+          pub is : a w.condition ≡ Some known
+          pub kind_is : known.0 ≡ kind.Int 1
+          pub fits : known.1 < 2 ^ 1
+          pub number : bit_xor known.1 1 ≡ c.1
+
+        module _ (d : done x ≡ true) where
+          all_there : (is_there done w.first ≡ true) × (is_there done w.second ≡ true) × (is_there done w.third ≡ true)
+          all_there = (three_of q a done ready.wellformed computing w.first w.second w.third w.operands).there d
+
+          inner_done : done j.sole.id ≡ true
+          inner_done = ap (is_there done) (sym j.sole.value) ∙ all_there.0
+
+          inner_there : is_there done w.condition ≡ true
+          inner_there = (of_two_is m a done j.sole.id j.sole.here inner_site w.condition w.truth j.own_operands).first_there inner_done
+
+          new_there : list_all (is_there done) (w.condition ∷ w.third ∷ w.second ∷ []) ≡ true
+          new_there =
+              and_from (is_there done w.condition) (is_there done w.third && (is_there done w.second && true)) inner_there
+              (and_from (is_there done w.third) (is_there done w.second && true) all_there.2 (and_from (is_there done w.second) true all_there.1 refl))
+
+          inner_makes : (pair_outcome op.ExclusiveOr (a w.condition) (a w.truth) ≡ Some (a w.first)) ⊎ (a w.first ≡ None)
+          inner_makes = elim (made_or_poison m a done j.sole.id j.sole.here inner_site (how.Binary op.ExclusiveOr) j.own_name (of_rule m a done j.sole.id j.sole.here inner_site (how.Binary op.ExclusiveOr) j.own_name) inner_done) [
+            | inl i ↦ inl
+                (subst (λ v. pair_outcome op.ExclusiveOr (a w.condition) (a w.truth) ≡ Some (a v)) (sym j.sole.value)
+                (subst (λ vs. of_two (pair_outcome op.ExclusiveOr) (map a vs) ≡ Some (a (Result j.sole.id 0))) j.own_operands i))
+            | inr none ↦ inr (ap a j.sole.value ∙ none)
+          ]
+
+          opposed_by : (c : Known) → a w.first ≡ Some c → Paired op.ExclusiveOr (a w.condition) (a w.truth) (a w.first) → Opposed c
+          opposed_by c e p =
+              let inside = of_two_is m a done j.sole.id j.sole.here inner_site w.condition w.truth j.own_operands in
+              let one_is : w.one ≡ p.second = known_is m a done ready.wellformed ready.kinded computing w.truth w.one p.second inside.second (inside.second_there inner_done) w.one_is p.second_is in
+              let kind_is : p.first.0 ≡ kind.Int 1 = kind_by m a done j.sole.id j.sole.here inner_site w.condition (kind.Int 1) p.first j.condition_is p.first_is in
+              let number : bit_xor p.first.1 1 ≡ p.number = same_Some _ _ (ap (λ n. Some (bit_xor p.first.1 n)) (sym (ap (λ (y : Known). y.1) (sym one_is) ∙ eqb-true w.one.1 1 w.is_one)) ∙ p.value) in
+              let same : c.1 ≡ p.number = ap (λ (y : Known). y.1) (same_Some c (p.first.0, p.number) (sym e ∙ p.gives)) in
+              record {
+                known = p.first;
+                is = p.first_is;
+                kind_is = kind_is;
+                fits = subst (λ k. p.first.1 < 2 ^ width_of k) kind_is (below p.first.0 p.first.1 (value_bits m a done j.sole.id j.sole.here inner_site w.condition j.condition p.first p.first_is));
+                number = number ∙ sym same;
+              }
+
+          opposed : (c : Known) → a w.first ≡ Some c → Opposed c
+          opposed c e = elim inner_makes [
+            | inr none ↦ absurd (none-some c (sym none ∙ e))
+            | inl i ↦ elim (paired op.ExclusiveOr (a w.condition) (a w.truth) (a w.first) (refl, (λ w a b. (bit_xor a b, refl))) i) [
+              | inl none ↦ absurd (none-some c (sym none ∙ e))
+              | inr p ↦ opposed_by c e p
+            ]
+          ]
+
+        -- ---- a `select` of memrefs or tensors
+        chooses_opposite : (origin : Origins) (y : Value) → done x ≡ true → Chosen a origin y (w.first ∷ w.second ∷ w.third ∷ []) → Chosen a origin y (w.condition ∷ w.third ∷ w.second ∷ [])
+        chooses_opposite origin y d p =
+            let o = opposed d p.0 p.1 in
+            (o.known, o.is, ap origin (sym (ap (λ n. choice_of n w.second w.third) (sym o.number) ∙ other_choice o.known.1 w.second w.third o.fits)) ∙ p.2)
+
+        opposite_choice : result_kind (head q.here) ≡ None → TurnsChoice m n x q.here opposite_turns ready a done
+        unfolding opposite_turns
+        opposite_choice none = record {
+          choice = choice_is q ready.wellformed (q.verified refl) w.name none;
+          properties = refl;
+          values = new_values;
+          fed = new_there;
+          chooses = λ origin y d p. chooses_opposite origin y d (subst (Chosen a origin y) w.operands p);
+        }
+
+    -- ---- a `select` of numbers
+    record OppositeKinds : Type 0 where
+      pub own_kind : BitsKind
+      pub is : result_kind (head q.here) ≡ Some own_kind
+      pub width : is_width (width_of own_kind) ≡ true
+      pub second_is : is_kind own_kind (kind_in m.tree w.second) ≡ true
+      pub third_is : is_kind own_kind (kind_in m.tree w.third) ≡ true
+
+    opposite_kinds : is_some (result_kind (head q.here)) ≡ true → OppositeKinds
+    opposite_kinds some =
+        let k = rule_kinds m.tree (head q.here) (each_found (λ h. is_kinded m.tree h ≡ true) x m.tree ready.kinded q.here q.found).0 (λ asks. some) how.Select w.name in
+        let all = and_parts (is_kind (kind.Int 1) (kind_in m.tree w.first)) (is_kind k.kind (kind_in m.tree w.second) && is_kind k.kind (kind_in m.tree w.third)) (subst (λ vs. takes how.Select (head q.here) k.kind (map (kind_in m.tree) vs) ≡ true) w.operands k.operands) in
+        let both = and_parts (is_kind k.kind (kind_in m.tree w.second)) (is_kind k.kind (kind_in m.tree w.third)) all.1 in
+        record { own_kind = k.kind; is = k.is; width = k.width; second_is = both.0; third_is = both.1 }
+
+    module _ (j : OppositeTruths) (k : OppositeKinds) where
       opposite_takes : Takes (kind_in m.tree) (record (head q.here) { operands = w.condition ∷ w.third ∷ w.second ∷ []; properties = (head q.here).properties })
       opposite_takes =
           let value_types = kind_in m.tree in
@@ -183,63 +276,32 @@ module _ (accepted : AreAccepted) where
           same_takes (head q.here) (head q.here).id (w.condition ∷ w.third ∷ w.second ∷ []) js
           ∙ ap (λ r. takes_its r (result_kind (head q.here)) (head q.here) js) w.name ∙ ap (λ k. takes_its (Some how.Select) k (head q.here) js) k.is
           ∙ and_from (is_width (width_of k.own_kind)) (is_kind (kind.Int 1) (value_types w.condition) && (is_kind k.own_kind (value_types w.third) && is_kind k.own_kind (value_types w.second))) k.width
-          (and_from (is_kind (kind.Int 1) (value_types w.condition)) (is_kind k.own_kind (value_types w.third) && is_kind k.own_kind (value_types w.second)) k.condition_is (and_from (is_kind k.own_kind (value_types w.third)) (is_kind k.own_kind (value_types w.second)) k.third_is k.second_is))
+          (and_from (is_kind (kind.Int 1) (value_types w.condition)) (is_kind k.own_kind (value_types w.third) && is_kind k.own_kind (value_types w.second)) j.condition_is (and_from (is_kind k.own_kind (value_types w.third)) (is_kind k.own_kind (value_types w.second)) k.third_is k.second_is))
 
       module _ (a : Assignment) (done : ℕ → Bool) (computing : Computing a done m.tree) where
         site : Site m a done x q.here
-        site = site_of m a done x q.here ready.wellformed ready.kinded computing q.found (root_has q ready.wellformed ready.kinded refl)
-
-        own : Site m a done k.sole.id k.sole.here
-        own = site_of m a done k.sole.id k.sole.here ready.wellformed ready.kinded computing k.sole.found (λ i. ap is_some k.sole_kind)
+        site = site_of m a done x q.here ready.wellformed ready.kinded computing q.found (λ asks. ap is_some k.is)
 
         abbrev out : Outcome
         out = select_out (a w.condition) (a w.third) (a w.second)
 
-        module _ (d : done x ≡ true) where
-          inner_done : done k.sole.id ≡ true
-          inner_done = ap (is_there done) (sym k.sole.value) ∙ (of_three_is m a done x q.here site w.first w.second w.third w.operands).first_there d
+        opposite_known : (c : Known) → Opposed j a done computing c → refines (choice_of c.1 (a w.second) (a w.third)) out ≡ true
+        opposite_known c o =
+            let to : out ≡ choice_of o.known.1 (a w.third) (a w.second) =
+            ap (λ o. select_out o (a w.third) (a w.second)) o.is
+            ∙ ap (λ b. given (if b then Some (choice_of o.known.1 (a w.third) (a w.second)) else None) (λ z. z)) (ap (λ k. same_kind k (kind.Int 1)) o.kind_is) in
+            same_refined (choice_of c.1 (a w.second) (a w.third)) out
+            (ap (λ n. choice_of n (a w.second) (a w.third)) (sym o.number) ∙ other_choice o.known.1 (a w.second) (a w.third) o.fits ∙ sym to)
 
-          inner_there : is_there done w.condition ≡ true
-          inner_there = (of_two_is m a done k.sole.id k.sole.here own w.condition w.truth k.own_operands).first_there inner_done
-
-          inner_makes : (pair_outcome op.ExclusiveOr (a w.condition) (a w.truth) ≡ Some (a w.first)) ⊎ (a w.first ≡ None)
-          inner_makes = elim (made_or_poison m a done k.sole.id k.sole.here own (how.Binary op.ExclusiveOr) k.own_name (of_rule m a done k.sole.id k.sole.here own (how.Binary op.ExclusiveOr) k.own_name) inner_done) [
-            | inl j ↦ inl
-                (subst (λ v. pair_outcome op.ExclusiveOr (a w.condition) (a w.truth) ≡ Some (a v)) (sym k.sole.value)
-                (subst (λ vs. of_two (pair_outcome op.ExclusiveOr) (map a vs) ≡ Some (a (Result k.sole.id 0))) k.own_operands j))
-            | inr none ↦ inr (ap a k.sole.value ∙ none)
-          ]
-
-          opposite_known : (c : Known) → a w.first ≡ Some c → Paired op.ExclusiveOr (a w.condition) (a w.truth) (a w.first) → refines (choice_of c.1 (a w.second) (a w.third)) out ≡ true
-          opposite_known c e p =
-              let inside = of_two_is m a done k.sole.id k.sole.here own w.condition w.truth k.own_operands in
-              let one_is : w.one ≡ p.second = known_is m a done ready.wellformed ready.kinded computing w.truth w.one p.second inside.second (inside.second_there inner_done) w.one_is p.second_is in
-              let kind_is : p.first.0 ≡ kind.Int 1 = kind_by m a done x q.here site w.condition (kind.Int 1) p.first k.condition_is p.first_is in
-              let fits : p.first.1 < 2 ^ 1 = subst (λ k. p.first.1 < 2 ^ width_of k) kind_is (below p.first.0 p.first.1 (value_bits m a done x q.here site w.condition k.condition p.first p.first_is)) in
-              let number : bit_xor p.first.1 1 ≡ p.number = same_Some _ _ (ap (λ n. Some (bit_xor p.first.1 n)) (sym (ap (λ (y : Known). y.1) (sym one_is) ∙ eqb-true w.one.1 1 w.is_one)) ∙ p.value) in
-              let same : c.1 ≡ p.number = ap (λ (y : Known). y.1) (same_Some c (p.first.0, p.number) (sym e ∙ p.gives)) in
-              let to : out ≡ choice_of p.first.1 (a w.third) (a w.second) =
-              ap (λ o. select_out o (a w.third) (a w.second)) p.first_is
-              ∙ ap (λ b. given (if b then Some (choice_of p.first.1 (a w.third) (a w.second)) else None) (λ z. z)) (ap (λ k. same_kind k (kind.Int 1)) kind_is) in
-              same_refined (choice_of c.1 (a w.second) (a w.third)) out
-              (ap (λ n. choice_of n (a w.second) (a w.third)) (same ∙ sym number) ∙ other_choice p.first.1 (a w.second) (a w.third) fits ∙ sym to)
-
-          opposite_refined : refines (a (Result x 0)) out ≡ true
-          opposite_refined =
-              choice_refined m a done x q.here site w.first w.second w.third out w.name w.operands d
-              (λ c e i. elim inner_makes [
-                | inr none ↦ absurd (none-some c (sym none ∙ e))
-                | inl j ↦ elim (paired op.ExclusiveOr (a w.condition) (a w.truth) (a w.first) (refl, (λ w a b. (bit_xor a b, refl))) j) [
-                  | inl none ↦ absurd (none-some c (sym none ∙ e))
-                  | inr p ↦ opposite_known c e p
-                ]
-              ])
+        opposite_refined : done x ≡ true → refines (a (Result x 0)) out ≡ true
+        opposite_refined d =
+            choice_refined m a done x q.here site w.first w.second w.third out w.name w.operands d
+            (λ c e i. opposite_known c (opposed j a done computing d c e))
 
         opposite_well : TurnsWell m n x q.here opposite_turns ready a done
         unfolding opposite_turns
         opposite_well =
             let r = of_rule m a done x q.here site how.Select w.name in
-            let three = of_three_is m a done x q.here site w.first w.second w.third w.operands in
             let xs = a w.condition ∷ a w.third ∷ a w.second ∷ [] in
             record {
               arithmetic = r.arithmetic;
@@ -248,27 +310,37 @@ module _ (accepted : AreAccepted) where
                 outcome = out;
                 is_made =
                     makes_is (record (head q.here) { operands = w.condition ∷ w.third ∷ w.second ∷ []; properties = (head q.here).properties }) xs how.Select k.own_kind w.name k.is
-                    ∙ select_is (a w.condition) (a w.third) (a w.second) (λ y e. kind_by m a done x q.here site w.condition (kind.Int 1) y k.condition_is e);
+                    ∙ select_is (a w.condition) (a w.third) (a w.second) (λ y e. kind_by m a done x q.here site w.condition (kind.Int 1) y j.condition_is e);
                 better = opposite_refined d;
               };
               sure = λ d. ap (λ r. is_signed_quotient r && is_poison_by_ones (a w.condition ∷ a w.third ∷ a w.second ∷ [])) w.name;
-              values =
-                  and_from (has_value w.condition m.tree) (has_value w.third m.tree && (has_value w.second m.tree && true)) k.condition
-                  (and_from (has_value w.third m.tree) (has_value w.second m.tree && true) k.third (and_from (has_value w.second m.tree) true k.second refl));
-              fed = λ d.
-                  and_from (is_there done w.condition) (is_there done w.third && (is_there done w.second && true)) (inner_there d)
-                  (and_from (is_there done w.third) (is_there done w.second && true) (three.third_there d) (and_from (is_there done w.second) true (three.second_there d) refl));
+              values = new_values j;
+              fed = λ d. new_there j a done computing d;
             }
+
+    -- the operands have the kinds that the operation needs
+    opposite_taken : Takes (kind_in m.tree) (record (head q.here) { operands = w.condition ∷ w.third ∷ w.second ∷ []; properties = (head q.here).properties })
+    opposite_taken = elim (kind_cases (result_kind (head q.here))) [
+      | inl none ↦
+          let js = kind_in m.tree w.condition ∷ kind_in m.tree w.third ∷ kind_in m.tree w.second ∷ [] in
+          same_takes (head q.here) (head q.here).id (w.condition ∷ w.third ∷ w.second ∷ []) js
+          ∙ ap (λ r. takes_its r (result_kind (head q.here)) (head q.here) js) w.name ∙ ap (λ k. takes_its (Some how.Select) k (head q.here) js) none
+      | inr some ↦ opposite_takes opposite_truths (opposite_kinds some)
+    ]
 
   pub choose_opposite_ready : KeepsReady ChooseOpposite
   unfolding opposite_turns
   choose_opposite_ready m n x ready e =
       let q = ruled accepted ChooseOpposite m n x ready.wellformed ready.sorted e in
       let w = opposite_here m n x q in
-      turned_ready m n x q.here (opposite_turns m n x q w ready) ready (each_found Rises x m.tree (each_rises m.tree ready.sorted) q.here q.found).0 (opposite_takes m n x q w ready (opposite_kinds m n x q w ready))
+      turned_ready m n x q.here (opposite_turns m n x q w ready) ready (each_found Rises x m.tree (each_rises m.tree ready.sorted) q.here q.found).0 (opposite_taken m n x q w ready)
 
   pub choose_opposite_computing : KeepsComputing ChooseOpposite
   choose_opposite_computing m n x a done ready computing e =
       let q = ruled accepted ChooseOpposite m n x ready.wellformed ready.sorted e in
       let w = opposite_here m n x q in
-      turned_improves m n x q.here (opposite_turns m n x q w ready) ready a done computing (opposite_well m n x q w ready (opposite_kinds m n x q w ready) a done computing) (choose_opposite_ready m n x ready e).kinded
+      let j = opposite_truths m n x q w ready in
+      elim (kind_cases (result_kind (head q.here))) [
+        | inl none ↦ choice_improves m n x q.here (opposite_turns m n x q w ready) ready a done computing (opposite_choice m n x q w ready j a done computing none)
+        | inr some ↦ turned_improves m n x q.here (opposite_turns m n x q w ready) ready a done computing (opposite_well m n x q w ready j (opposite_kinds m n x q w ready some) a done computing) (choose_opposite_ready m n x ready e).kinded
+      ]

@@ -36,8 +36,7 @@ use Rattle.user_patterns_check.proofs.Keeping.{value_refined}
 use Rattle.patterns_laws.specs.Words.{among, with_one_as_right_identity, with_zero_as_right_identity, idempotent, named}
 use Rattle.patterns_laws.proofs.KnownFolds.{given_some}
 use Rattle.patterns_base.specs.declared.rule.Rule.{Rule}
-use Rattle.patterns_base.specs.RuleNames.{is_erasing}
-use Rattle.patterns_base.specs.declared.rule.Rule.TheVariants.{ChooseKnown, ChooseSame, DropAllOnes, DropOne, DropZero, KeepItself}
+use Rattle.patterns_base.specs.declared.rule.Rule.TheVariants.{DropAllOnes, DropOne, DropZero, KeepItself}
 use Rattle.patterns_base.specs.Looks.{is_number, known, passes, when}
 use Rattle.patterns_base.specs.Folding.{is_all_ones}
 use Rattle.patterns_base.specs.Makes.{give}
@@ -45,17 +44,17 @@ use Rattle.patterns_base.specs.Rewrites.{becomes, rewrite_of}
 use Rattle.patterns_base.specs.Rules.{rule}
 use Rattle.patterns_base.proofs.Dispatch.{of_among}
 use Rattle.patterns_soundness.specs.Accepted.{AreAccepted}
-use Rattle.patterns_soundness.proofs.Shapes.{three_is, two_is}
+use Rattle.patterns_soundness.proofs.Shapes.{two_is}
 use Rattle.patterns_base.proofs.Facts.{when_some}
 use Rattle.patterns_refinement.specs.Meaning.{Assignment, IsOfType, of_three, of_two}
 use Rattle.patterns_refinement.specs.Better.{AreKinded, is_arithmetic_there, is_kind, kind_in, takes}
 use Rattle.patterns_refinement.specs.Keeping.{Computing, Improves, done_after, is_there}
-use Rattle.patterns_refinement.proofs.Firsts.{Firsts, IsPair, both_kept, by_and, by_select, chosen_kept, first_kept, keeping_pairs, one_first, one_pairs, ones_first, zero_first, zero_pairs}
+use Rattle.patterns_refinement.proofs.Firsts.{Firsts, IsPair, both_kept, by_and, chosen_kept, first_kept, keeping_pairs, one_first, one_pairs, ones_first, zero_first, zero_pairs}
 use Rattle.patterns_refinement.proofs.Forms.{named_is}
 use Rattle.patterns_refinement.proofs.Giving.{given_improves, old_given}
 use Rattle.patterns_refinement.proofs.Monotone.{itself}
 use Rattle.patterns_refinement.proofs.Verified.{asks_kind}
-use Rattle.patterns_refinement.proofs.Ruled.{Ruled, Site, gives_refined, known_there, named_arithmetic, of_rule, ruled, site_of, value_bits, root_has}
+use Rattle.patterns_refinement.proofs.Ruled.{may_lack, Ruled, Site, gives_refined, known_there, named_arithmetic, of_rule, ruled, site_of, value_bits, root_has}
 use Rattle.patterns_refinement.proofs.Sources.{kind_test}
 use Rattle.patterns_refinement.proofs.Trees.{value_below}
 
@@ -145,21 +144,21 @@ widths (term.Function is os) k e = absurd (none-some k e)
 widths (term.Memref ds ty) k e = absurd (none-some k e)
 widths (term.OpaqueType s) k e = absurd (none-some k e)
 
-one_of : (P : Value → Type 0) (c : ℕ) (u v : Value) → P u → P v → P (choice_of c u v)
+pub one_of : (P : Value → Type 0) (c : ℕ) (u v : Value) → P u → P v → P (choice_of c u v)
 one_of P c u v p q = go (c == 0)
   where
     go : (b : Bool) → P (if b then v else u)
     go true = q
     go false = p
 
-chosen_is : (a : Assignment) (c : ℕ) (u v : Value) → refines (choice_of c (a u) (a v)) (a (choice_of c u v)) ≡ true
+pub chosen_is : (a : Assignment) (c : ℕ) (u v : Value) → refines (choice_of c (a u) (a v)) (a (choice_of c u v)) ≡ true
 chosen_is a c u v = go (c == 0)
   where
     go : (b : Bool) → refines (if b then a v else a u) (a (if b then v else u)) ≡ true
     go true = itself (a v)
     go false = itself (a u)
 
-chosen_better : (c : ℕ) (p q y : Outcome) → refines p y ≡ true → refines q y ≡ true → refines (choice_of c p q) y ≡ true
+pub chosen_better : (c : ℕ) (p q y : Outcome) → refines p y ≡ true → refines q y ≡ true → refines (choice_of c p q) y ≡ true
 chosen_better c p q y e f = go (c == 0)
   where
     go : (b : Bool) → refines (if b then q else p) y ≡ true
@@ -183,7 +182,7 @@ Keeps r =
 module _ (accepted : AreAccepted) where
   -- the second operand is a number
   number_second : (f : Arithmetic → Bool) (b : ℕ) → ((o : Arithmetic) → f o ≡ true → Firsts o (λ k. b)) → (r : Rule) (m n : Module) (x : ℕ) (a : Assignment) (done : ℕ → Bool) → IsWellFormed is_isolated m → AreKinded m.tree → AreKinded n.tree → Computing a done m.tree
-      → is_erasing r ≡ false → (q : Ruled r m n x) (u v : Value) → IsPair f (head q.here).name → (head q.here).operands ≡ u ∷ v ∷ [] → is_number m.tree b v ≡ true → give (head q.here).id u ≡ q.edits → Improves a done m (done_after m.next x done) n.tree
+      → may_lack r ≡ false → (q : Ruled r m n x) (u v : Value) → IsPair f (head q.here).name → (head q.here).operands ≡ u ∷ v ∷ [] → is_number m.tree b v ≡ true → give (head q.here).id u ≡ q.edits → Improves a done m (done_after m.next x done) n.tree
   number_second f b firsts r m n x a done wellformed kinded after computing stays q u v p ops number edits =
       let s = site_of m a done x q.here wellformed kinded computing q.found (root_has q wellformed kinded stays) in
       let two = of_two_is m a done x q.here s u v ops in
@@ -265,44 +264,4 @@ module _ (accepted : AreAccepted) where
             ∙ ap all_ones (width ∙ ap width_of (sym (kind_by m a done x q.here s w.second of.kind y value_types.1 e))))
             i);
         there = two.first_there;
-      })
-
-  pub choose_same_keeps : Keeps ChooseSame
-  unfolding rule
-  choose_same_keeps m n x a done wellformed sorted kinded after computing e =
-      let q = ruled accepted ChooseSame m n x wellformed sorted e in
-      let w = three_is (head q.here) (λ p. when (named (codes "arith.select") p.name) (when (same_value p.second p.third) (Some (give (head q.here).id p.second)))) q.edits q.made in
-      let g = when_some (named (codes "arith.select") (head q.here).name) (when (same_value w.second w.third) (Some (give (head q.here).id w.second))) q.edits w.makes in
-      let h = when_some (same_value w.second w.third) (Some (give (head q.here).id w.second)) q.edits g.1 in
-      let name = ap rule_of (named_is (codes "arith.select") (head q.here).name g.0) ∙ by_select in
-      let s = site_of m a done x q.here wellformed kinded computing q.found (root_has q wellformed kinded refl) in
-      let three = of_three_is m a done x q.here s w.first w.second w.third w.operands in
-      old_improves ChooseSame m n x a done wellformed after computing q (q.numeric refl) w.second s (record {
-        edits = same_Some _ _ h.1;
-        value = three.second;
-        better = λ d.
-            choice_refined m a done x q.here s w.first w.second w.third (a w.second) name w.operands d
-            (λ k e i. chosen_better k.1 (a w.second) (a w.third) (a w.second) (itself (a w.second)) (subst (λ v. refines (a v) (a w.second) ≡ true) (same_value_true w.second w.third h.0) (itself (a w.second))));
-        there = three.second_there;
-      })
-
-  pub choose_known_keeps : Keeps ChooseKnown
-  unfolding rule
-  choose_known_keeps m n x a done wellformed sorted kinded after computing e =
-      let q = ruled accepted ChooseKnown m n x wellformed sorted e in
-      let w = three_is (head q.here) (λ p. when (named (codes "arith.select") p.name) (given (known m.tree p.first) (λ c. Some (give (head q.here).id (choice_of c.1 p.second p.third))))) q.edits q.made in
-      let g = when_some (named (codes "arith.select") (head q.here).name) (given (known m.tree w.first) (λ c. Some (give (head q.here).id (choice_of c.1 w.second w.third)))) q.edits w.makes in
-      let k = given_some (known m.tree w.first) (λ c. Some (give (head q.here).id (choice_of c.1 w.second w.third))) q.edits g.1 in
-      let name = ap rule_of (named_is (codes "arith.select") (head q.here).name g.0) ∙ by_select in
-      let s = site_of m a done x q.here wellformed kinded computing q.found (root_has q wellformed kinded refl) in
-      let three = of_three_is m a done x q.here s w.first w.second w.third w.operands in
-      old_improves ChooseKnown m n x a done wellformed after computing q (q.numeric refl) (choice_of k.0.1 w.second w.third) s (record {
-        edits = same_Some _ _ k.2;
-        value = one_of (λ v. has_value v m.tree ≡ true) k.0.1 w.second w.third three.second three.third;
-        better = λ d.
-            choice_refined m a done x q.here s w.first w.second w.third (a (choice_of k.0.1 w.second w.third)) name w.operands d
-            (λ c e i.
-            let same = known_is m a done wellformed kinded computing w.first k.0 c three.first (three.first_there d) k.1 e in
-            subst (λ (c : Known). refines (choice_of c.1 (a w.second) (a w.third)) (a (choice_of k.0.1 w.second w.third)) ≡ true) same (chosen_is a k.0.1 w.second w.third));
-        there = λ d. one_of (λ v. is_there done v ≡ true) k.0.1 w.second w.third (three.second_there d) (three.third_there d);
       })

@@ -1,5 +1,5 @@
 -- The rule that erases dead operations keeps modules ready and refines what they compute.
-use Rattle.std.proofs.Common.{◌≡◌, ℕ, ◌<◌, refl, ap, sym, ◌∙◌, subst, List, [], ◌∷◌, Bool, true, Some}
+use Rattle.std.proofs.Common.{◌≡◌, ℕ, ◌<◌, refl, ap, sym, ◌∙◌, subst, List, [], ◌∷◌, Bool, true, false, Some}
 use Rattle.std.specs.List.{list_all}
 use Rattle.std.proofs.lemmas.Option.{same_Some}
 use Rattle.ir_types.specs.Words.{is_isolated}
@@ -23,11 +23,11 @@ use Rattle.patterns_base.specs.Rules.{rule}
 use Rattle.patterns_base.proofs.Facts.{when_some}
 use Rattle.patterns_soundness.specs.Accepted.{AreAccepted}
 use Rattle.user_patterns_data.specs.Matching.{Header}
-use Rattle.patterns_refinement.specs.Meaning.{ArgumentsOfTypes, Assignment, Each, FitsDone, ResultsOfTypes, result_kind}
+use Rattle.patterns_refinement.specs.Meaning.{ArgumentsOfTypes, Assignment, Each, FitsDone, ResultsOfTypes, result_kind, owner}
 use Rattle.patterns_refinement.specs.Applied.{IsBelow}
 use Rattle.patterns_refinement.specs.After.{OperandsStand}
 use Rattle.patterns_refinement.specs.Better.{AreKinded, IsSure, is_kinded, kind_in, takes_its}
-use Rattle.patterns_refinement.specs.Observing.{Shows, Stays, is_unmissed}
+use Rattle.patterns_refinement.specs.Observing.{Shows, Stays, is_computed, is_unmissed}
 use Rattle.patterns_refinement.specs.Keeping.{Computing, Improves, IsFed, IsReady, KeepsComputing, KeepsReady, done_after, is_there}
 use Rattle.patterns_refinement.proofs.Edited.{blocks_without, each_both, each_without}
 use Rattle.patterns_refinement.proofs.EditsForm.{all_wellformed}
@@ -38,7 +38,8 @@ use Rattle.patterns_refinement.proofs.Makings.{still_there}
 use Rattle.patterns_refinement.proofs.Monotone.{itself}
 use Rattle.patterns_refinement.proofs.Readied.{AreKinds, HasKind, Rises, all_rise, each_rises, kinds_are, kinds_found, same_kinds_of}
 use Rattle.patterns_refinement.proofs.Ruled.{ruled}
-use Rattle.patterns_refinement.proofs.Showing.{erased_follows, stays_so}
+use Rattle.patterns_refinement.proofs.Origins.{Alike, IsKept, all_alike, erased_kinds, kinds_themselves}
+use Rattle.patterns_refinement.proofs.Showing.{at_root, erased_follows, kept_so, same_origins, stays_so}
 use Rattle.patterns_refinement.proofs.Trees.{ArgumentsAre, ResultsAre, value_below}
 use Rattle.std.proofs.lemmas.Bool.{and_from, and_parts}
 
@@ -140,6 +141,15 @@ module _ (accepted : AreAccepted) where
         let later = done_after m.next x done in
         let were =
         each_without (Was m.next done later m.tree) x m.tree (was_old m.next done later m.tree ready.wellformed.distinct (was m.next x done m.tree below operands)) in
+        let u = without x m.tree in
+        let alike = all_alike m.next m.tree u (erased_kinds m.next x m.tree (kinds_themselves m.next m.tree ready.wellformed.distinct below)) below operands in
+        let kept : Each (λ h. IsKept m.next m.tree u a a later h h) m.tree =
+        each_both (Alike m.tree u) (λ h. h.id < m.next) (λ h. IsKept m.next m.tree u a a later h h) (λ h p l. kept_so m.next m.tree u a a later (λ v. itself (a v)) h p) m.tree alike below in
+        let stays : Each (λ h. Stays m.next m.tree u a a later h h) m.tree =
+        each_both (Alike m.tree u) (λ h. h.id < m.next) (λ h. Stays m.next m.tree u a a later h h) (λ h p l. stays_so m.next m.tree u a a later (λ v. itself (a v)) h p) m.tree alike below in
+        let plain : (v : Value) → owner v < m.next → is_computed m.tree v ≡ false → is_computed u v ≡ false =
+        free_still m.next (λ y. true) (λ y. true) m.tree u
+        (each_without (Was m.next (λ y. true) (λ y. true) m.tree) x m.tree (was_old m.next (λ y. true) (λ y. true) m.tree ready.wellformed.distinct (λ y l i. refl))) in
         record {
           now = a;
           better = λ v l. itself (a v);
@@ -149,11 +159,10 @@ module _ (accepted : AreAccepted) where
           shows =
               subst (Shows a a m later) (sym tree_is)
               (record {
-                root = λ e. subst (Stays m.tree a a later (head m.tree)) (sym (head_without m.tree)) (stays_so m.tree a a later (λ v. itself (a v)) (head m.tree));
-                follows = erased_follows m.tree a a later x q.here ready.wellformed.distinct q.found q.unmissed (λ v. itself (a v));
-                plain =
-                    free_still m.next (λ y. true) (λ y. true) m.tree (without x m.tree)
-                    (each_without (Was m.next (λ y. true) (λ y. true) m.tree) x m.tree (was_old m.next (λ y. true) (λ y. true) m.tree ready.wellformed.distinct (λ y l i. refl)));
+                root = λ e. subst (Stays m.next m.tree u a a later (head m.tree)) (sym (head_without m.tree)) (at_root (λ h. Stays m.next m.tree u a a later h h) m.tree stays);
+                follows = erased_follows (Stays m.next m.tree u a a later) m.tree x q.here ready.wellformed.distinct q.found q.unmissed stays;
+                plain = plain;
+                origins = same_origins m.next m.tree u a a later kept (λ P s. each_without P x m.tree s) plain;
               });
         }
       where

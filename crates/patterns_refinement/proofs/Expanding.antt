@@ -30,7 +30,6 @@ use Rattle.patterns_laws.specs.Words.{named}
 use Rattle.patterns_laws.proofs.KnownFolds.{below}
 use Rattle.patterns_laws.proofs.PairRules.{one_below}
 use Rattle.patterns_base.specs.declared.rule.Rule.{Rule}
-use Rattle.patterns_base.specs.RuleNames.{is_erasing}
 use Rattle.patterns_base.specs.declared.rule.Rule.TheVariants.{ExpandDifference}
 use Rattle.patterns_base.specs.Looks.{when}
 use Rattle.patterns_base.specs.Makes.{give_new}
@@ -52,7 +51,7 @@ use Rattle.patterns_refinement.proofs.Monotone.{same_refined}
 use Rattle.patterns_refinement.proofs.OfBits.{IsOfBits, pair_bits}
 use Rattle.patterns_refinement.proofs.OfKinds.{IsKind, pair_kind}
 use Rattle.patterns_refinement.proofs.Pairs.{IsTotal, Paired, binary_gives, binary_made, constant_gives_one, constant_made, is_its_kind, number_bits, number_kind, pair_is, pair_known, pair_out, paired}
-use Rattle.patterns_refinement.proofs.Ruled.{Ruled, Site, rule_kinds, ruled, site_of, value_bits, root_has}
+use Rattle.patterns_refinement.proofs.Ruled.{may_lack, Ruled, Site, rule_kinds, ruled, site_of, value_bits, root_has}
 use Rattle.patterns_refinement.proofs.Trees.{each_found, value_below}
 
 pub by_exclusive_or : rule_of (codes "arith.xori") ≡ Some (how.Binary op.ExclusiveOr)
@@ -80,7 +79,7 @@ pub record OnTwo (r : Rule) (m n : Module) (x : ℕ) (q : Ruled r m n x) (u v : 
   pub second_below : owner v < m.next
   pub second_is : is_kind kind (kind_in m.tree v) ≡ true
 
-pub on_two_values : (r : Rule) (m n : Module) (x : ℕ) (q : Ruled r m n x) (o : Arithmetic) (u v : Value) (ty : TypeTerm) → is_erasing r ≡ false → IsReady m → rule_of (head q.here).name ≡ Some (how.Binary o) → (head q.here).operands ≡ u ∷ v ∷ [] → (head q.here).results ≡ ty ∷ [] → OnTwo r m n x q u v ty
+pub on_two_values : (r : Rule) (m n : Module) (x : ℕ) (q : Ruled r m n x) (o : Arithmetic) (u v : Value) (ty : TypeTerm) → may_lack r ≡ false → IsReady m → rule_of (head q.here).name ≡ Some (how.Binary o) → (head q.here).operands ≡ u ∷ v ∷ [] → (head q.here).results ≡ ty ∷ [] → OnTwo r m n x q u v ty
 on_two_values r m n x q o u v ty stays ready name ops results =
     let k = rule_kinds m.tree (head q.here) (each_found (λ h. is_kinded m.tree h ≡ true) x m.tree ready.kinded q.here q.found).0 (root_has q ready.wellformed ready.kinded stays) (how.Binary o) name in
     let both = and_parts (is_kind k.kind (kind_in m.tree u)) (is_kind k.kind (kind_in m.tree v)) (subst (λ vs. takes (how.Binary o) (head q.here) k.kind (map (kind_in m.tree) vs) ≡ true) ops k.operands) in

@@ -5,7 +5,9 @@ use Rattle.std.specs.Prelude.{if◌then◌else◌}
 use Rattle.std.proofs.lemmas.Bool.{and_from, and_parts}
 use Rattle.ir_types.specs.Terms.{TypeTerm, AttrTerm}
 use Rattle.ir_tree.specs.Tree.{RegionsOf, RegionOf, OpsOf, op, no_regions, region, empty, block, no_ops, next, head}
-use Rattle.ir_tree.specs.Edits.{ops_each_head, region_each_head, regions_each_head}
+use Rattle.ir_tree.specs.declared.value.Value.{Value}
+use Rattle.ir_tree.specs.declared.value.Value.TheVariants.{Result}
+use Rattle.ir_tree.specs.Edits.{ops_each_head, put_values, region_each_head, regions_each_head}
 use Rattle.ir_tree.specs.Places.{drop_op, ops_each_list, region_each_list, regions_each_list}
 use Rattle.ir_tree.specs.Meaning.{Operation}
 use Rattle.op_registry.specs.declared.own.Own.{Own}
@@ -173,6 +175,52 @@ module _ (R : Header → Header → Type 0) (x : ℕ) where
             → OpsFollow R (next (op h rs) os) (if b then (drop_op x (ops_each_list (λ p r os. drop_op x os) os)) else next (op h (regions_each_list (λ p r os. drop_op x os) h.id 0 rs)) (drop_op x (ops_each_list (λ p r os. drop_op x os) os)))
         go true i r o = skip (op h rs) os (drop_op x (ops_each_list (λ p r os. drop_op x os) os)) (g.0.0 i) o
         go false i r o = inl ((s.0.0, r), o)
+
+-- ---- a tree with a value in place of the result of a dead operation, and without that operation
+module _ (R : Header → Header → Type 0) (x : ℕ) (v : Value) where
+  abbrev f : Header → Header
+  f = put_values (Result x 0) v
+
+  mutual
+    pub follows_replaced : (p r : ℕ) (rs : Regions) → EachInRegions (λ h. R h (put_values (Result x 0) v h)) rs → WholeInRegions (IsUnmissedAt x) rs
+        → RegionsFollow R rs (regions_each_list (λ p r os. drop_op x os) p r (regions_each_head (put_values (Result x 0) v) rs))
+    follows_replaced p r no_regions s g = tt
+    follows_replaced p r (region k rs) s g = (region_replaced p r k s.0 g.0, follows_replaced p (r + 1) rs s.1 g.1)
+
+    region_replaced : (p r : ℕ) (k : Region) → EachInRegion (λ h. R h (put_values (Result x 0) v h)) k → WholeInRegion (IsUnmissedAt x) k
+        → RegionFollows R k (region_each_list (λ p r os. drop_op x os) p r (region_each_head (put_values (Result x 0) v) k))
+    region_replaced p r empty s g = tt
+    region_replaced p r (block args os) s g = (refl, ops_replaced os s g)
+
+    ops_replaced : (os : Ops) → EachAmong (λ h. R h (put_values (Result x 0) v h)) os → WholeAmong (IsUnmissedAt x) os
+        → OpsFollow R os (drop_op x (ops_each_list (λ p r os. drop_op x os) (ops_each_head (put_values (Result x 0) v) os)))
+    ops_replaced no_ops s g = tt
+    ops_replaced (next (op h rs) os) s g = go (eqb h.id x) refl (follows_replaced h.id 0 rs s.0.1 g.0.1) (ops_replaced os s.1 g.1)
+      where
+        rest : Ops
+        rest = drop_op x (ops_each_list (λ p r os. drop_op x os) (ops_each_head (put_values (Result x 0) v) os))
+
+        inner : Regions
+        inner = regions_each_list (λ p r os. drop_op x os) h.id 0 (regions_each_head (put_values (Result x 0) v) rs)
+
+        go : (b : Bool) → eqb h.id x ≡ b → RegionsFollow R rs inner → OpsFollow R os rest → OpsFollow R (next (op h rs) os) (if b then rest else next (op (put_values (Result x 0) v h) inner) rest)
+        go true i r o = skip R x (op h rs) os rest (g.0.0 i) o
+        go false i r o = inl ((s.0.0, r), o)
+
+-- ---- three changes of heads
+module _ (R : Header → Header → Type 0) (f g k : Header → Header) where
+  mutual
+    pub follows_turned : (rs : Regions) → EachInRegions (λ h. R h (k (g (f h)))) rs → RegionsFollow R rs (regions_each_head k (regions_each_head g (regions_each_head f rs)))
+    follows_turned no_regions s = tt
+    follows_turned (region j rs) s = (region_turned j s.0, follows_turned rs s.1)
+
+    region_turned : (j : Region) → EachInRegion (λ h. R h (k (g (f h)))) j → RegionFollows R j (region_each_head k (region_each_head g (region_each_head f j)))
+    region_turned empty s = tt
+    region_turned (block args os) s = (refl, ops_turned os s)
+
+    ops_turned : (os : Ops) → EachAmong (λ h. R h (k (g (f h)))) os → OpsFollow R os (ops_each_head k (ops_each_head g (ops_each_head f os)))
+    ops_turned no_ops s = tt
+    ops_turned (next (op h rs) os) s = inl ((s.0.0, follows_turned rs s.0.1), ops_turned os s.1)
 
 -- ---- composed in sequence
 module _ (P : Header → Type 0) (Q R S : Header → Header → Type 0) (named : (h k : Header) → Q h k → h.name ≡ k.name) (through : (h k l : Header) → P h → Q h k → R k l → S h l) where

@@ -1,5 +1,5 @@
 -- A module in which a value, existing or new, replaces an operation's result, computes what the module computed.
-use Rattle.std.proofs.Common.{◌≡◌, ℕ, ◌+◌, ◌<◌, ◌≤◌, refl, ap, sym, ◌∙◌, subst, List, [], ◌∷◌, ◌++◌, map, Bool, true, false, arith}
+use Rattle.std.proofs.Common.{◌≡◌, ℕ, ◌+◌, ◌<◌, ◌≤◌, refl, ap, sym, ◌∙◌, subst, List, [], ◌∷◌, ◌++◌, map, Bool, true, false, inl, arith}
 use Rattle.std.specs.Prelude.{if◌then◌else◌}
 use Rattle.std.specs.List.{list_all}
 use Rattle.std.proofs.lemmas.Bool.{and_from, and_parts, le-ltb, lt-ltb}
@@ -15,6 +15,7 @@ use Rattle.ir_tree.specs.WellFormed.{IsWellFormed}
 use Rattle.ir_tree.specs.Meaning.{Operation}
 use Rattle.ir_tree.proofs.Replaced.{same_value_true}
 use Rattle.ir_tree_laws.specs.Values.{has_value}
+use Rattle.ir_tree_laws.proofs.Listed.{all_each}
 use Rattle.ir_event.specs.Modules.{Module}
 use Rattle.user_patterns_check.specs.Checks.{refines}
 use Rattle.rewriter_machine.specs.Contents.{all_edited}
@@ -23,7 +24,7 @@ use Rattle.patterns_base.specs.Makes.{give}
 use Rattle.patterns_base.specs.Lists.{Free}
 use Rattle.user_patterns_data.specs.Matching.{Header}
 use Rattle.patterns_refinement.specs.Meaning.{AreOfTypes, Assignment, Each, FitsAll, TypedEach, is_arithmetic, owner}
-use Rattle.patterns_refinement.specs.Observing.{Shows, Stays, is_computed}
+use Rattle.patterns_refinement.specs.Observing.{Shows, is_computed}
 use Rattle.patterns_refinement.specs.After.{OperandsStand, rewritten, with_made}
 use Rattle.patterns_refinement.specs.Applied.{Agree, IsBelow}
 use Rattle.patterns_refinement.specs.Better.{AllBetter, AllSure, AreKinded, gives}
@@ -36,7 +37,8 @@ use Rattle.patterns_refinement.proofs.Wellformed.{is_below, operands_stand}
 use Rattle.patterns_refinement.proofs.Lifted.{IsBetterWith, IsReady, all_put_better, lifted, old_ready}
 use Rattle.patterns_refinement.proofs.Monotone.{itself}
 use Rattle.patterns_refinement.proofs.Rewritten.{AllBare, AllPut, all_put, given_each, operands_same}
-use Rattle.patterns_refinement.proofs.Showing.{all_better, all_through, at_root, number_at, put_same, rewritten_follows, rewritten_head}
+use Rattle.patterns_refinement.proofs.Origins.{IsKept, KeepsKinds, Replaces, kept_put, kinds_themselves, replaces_computed, rewritten_kinds}
+use Rattle.patterns_refinement.proofs.Showing.{IsReplaceable, all_better, all_through, replaced_shows}
 use Rattle.patterns_refinement.proofs.Trees.{value_below}
 
 -- ---- the operations executed after a rewrite
@@ -126,25 +128,24 @@ module _ (a : Assignment) (n x : ℕ) (done : ℕ → Bool) (made : List Operati
       given_each a c n x v done (Was n (λ y. true) (λ y. true) t) (λ h p. p) (with_made insertion n made t)
       (all_put (Was n (λ y. true) (λ y. true) t) insertion n made t (was_new n (λ y. true) (λ y. true) t n made (omega arith)) k.bare (was_old n (λ y. true) (λ y. true) t d (λ y l i. refl)))
 
-  old_stays : (now : Assignment) → ((w : Value) → refines (c w) (now w) ≡ true) → is_computed t (Result x 0) ≡ true → Each (λ h. Stays t a now (done_after n x done) h (put_values (Result x 0) v h)) t
-  old_stays now better e =
-      each_both (IsBetterWith c later (map (put_value (Result x 0) v))) (λ h. list_all (λ v. has_value v t) h.operands ≡ true) (λ h. Stays t a now later h (put_values (Result x 0) v h))
-      (λ h p s. record {
-        same = refl;
-        values = put_same t x v e h.operands;
-        better = λ i.
-            all_through (map a h.operands) (map c (map (put_value (Result x 0) v) h.operands)) (map now (map (put_value (Result x 0) v) h.operands))
-            (subst (λ zs. AllBetter zs (map c (map (put_value (Result x 0) v) h.operands))) (operands_same a c n x v done k.agrees t below h.operands s) (p i))
-            (all_better c now better (map (put_value (Result x 0) v) h.operands));
-      }) t old_better operands
+  old_kept : (now : Assignment) → ((w : Value) → refines (c w) (now w) ≡ true) → (u : Operation) → KeepsKinds n t u → Replaces n x v t u a (done_after n x done) → Each (λ h. IsKept n t u a now (done_after n x done) h (put_values (Result x 0) v h)) t
+  old_kept now better u kinds replaces =
+      each_both (IsBetterWith c later (map (put_value (Result x 0) v))) (λ h. list_all (λ v. has_value v t) h.operands ≡ true) (λ h. IsKept n t u a now later h (put_values (Result x 0) v h))
+      (λ h p s. kept_put n x v t u a now later kinds replaces h (λ w i. value_below n t below w (all_each (λ v. has_value v t) h.operands s w i))
+      (λ i.
+      all_through (map a h.operands) (map c (map (put_value (Result x 0) v) h.operands)) (map now (map (put_value (Result x 0) v) h.operands))
+      (subst (λ zs. AllBetter zs (map c (map (put_value (Result x 0) v) h.operands))) (operands_same a c n x v done k.agrees t below h.operands s) (p i))
+      (all_better c now better (map (put_value (Result x 0) v) h.operands)))) t old_better operands
 
   all_fed : (insertion : Place) → Each (IsFed later) (rewritten insertion n made x v t)
   all_fed insertion =
       given_each a c n x v done (IsFed (done_after n x done)) (λ h p i. put_there h.operands (p i)) (with_made insertion n made t) (all_put (IsFed (done_after n x done)) insertion n made t k.fed k.bare old_fed)
 
-pub given_improves : (m n : Module) (x : ℕ) (a : Assignment) (done : ℕ → Bool) (insertion : Place) (made : List Operation) (v : Value) → IsWellFormed is_isolated m → x < m.next → is_computed m.tree (Result x 0) ≡ true → Computing a done m.tree → AreKinded n.tree
+-- the operation is arithmetic or may be erased
+pub replaced_improves : (m n : Module) (x : ℕ) (a : Assignment) (done : ℕ → Bool) (insertion : Place) (made : List Operation) (v : Value) → IsWellFormed is_isolated m → x < m.next → IsReplaceable x m.tree
+    → Replaces m.next x v m.tree (rewritten insertion m.next made x v m.tree) a (done_after m.next x done) → Computing a done m.tree → AreKinded n.tree
     → Making a m.next x done made v → Free (map (λ o. Make insertion o) made ++ give x v) m → all_edited (map (λ o. Make insertion o) made ++ give x v) m ≡ n → Improves a done m (done_after m.next x done) n.tree
-given_improves m n x a done insertion made v wellformed within root computing kinded k free e =
+replaced_improves m n x a done insertion made v wellformed within replaceable replaces computing kinded k free e =
     let c = k.outcomes in
     let later = done_after m.next x done in
     let is : n.tree ≡ rewritten insertion m.next made x v m.tree = ap (λ (m : Module). m.tree) (sym e) ∙ all_edited_made insertion made x v m in
@@ -170,15 +171,18 @@ given_improves m n x a done insertion made v wellformed within root computing ki
         fed = subst (λ t. Each (IsFed later) t) (sym is) (all_fed a m.next x done made v k m.tree below operands within computing insertion);
       };
       shows =
-          let numbers = number_at x m.tree wellformed.distinct root in
-          let old = old_stays a m.next x done made v k m.tree below operands within computing s.now s.better root in
-          subst (Shows a s.now m later) (sym is)
-          (record {
-            root = λ i. subst (Stays m.tree a s.now later (head m.tree)) (sym (rewritten_head x v m.tree numbers insertion m.next made)) (at_root (λ h. Stays m.tree a s.now later h (put_values (Result x 0) v h)) m.tree old);
-            follows = rewritten_follows x v m.tree numbers a s.now later insertion m.next made k.numbers old;
-            plain = free_still m.next (λ y. true) (λ y. true) m.tree (rewritten insertion m.next made x v m.tree) (all_plain a m.next x done made v k m.tree below operands within computing insertion wellformed.distinct);
-          });
+          let u = rewritten insertion m.next made x v m.tree in
+          let kinds = rewritten_kinds m.next m.tree x v insertion made k.bare (kinds_themselves m.next m.tree wellformed.distinct below) in
+          let kept = old_kept a m.next x done made v k m.tree below operands within computing s.now s.better u kinds replaces in
+          let plain = free_still m.next (λ y. true) (λ y. true) m.tree u (all_plain a m.next x done made v k m.tree below operands within computing insertion wellformed.distinct) in
+          subst (Shows a s.now m later) (sym is) (replaced_shows m x v insertion made a s.now later wellformed.distinct replaceable k.bare k.numbers kept plain);
     }
+
+-- the operation is arithmetic
+pub given_improves : (m n : Module) (x : ℕ) (a : Assignment) (done : ℕ → Bool) (insertion : Place) (made : List Operation) (v : Value) → IsWellFormed is_isolated m → x < m.next → is_computed m.tree (Result x 0) ≡ true → Computing a done m.tree → AreKinded n.tree
+    → Making a m.next x done made v → Free (map (λ o. Make insertion o) made ++ give x v) m → all_edited (map (λ o. Make insertion o) made ++ give x v) m ≡ n → Improves a done m (done_after m.next x done) n.tree
+given_improves m n x a done insertion made v wellformed within root =
+    replaced_improves m n x a done insertion made v wellformed within (inl root) (replaces_computed m.next x v m.tree (rewritten insertion m.next made x v m.tree) a (done_after m.next x done) root)
 
 -- an existing value that refines the result
 pub old_given : (a : Assignment) (n x : ℕ) (done : ℕ → Bool) (v : Value) → owner v < n → (done x ≡ true → refines (a (Result x 0)) (a v) ≡ true) → (done x ≡ true → is_there done v ≡ true) → Making a n x done [] v

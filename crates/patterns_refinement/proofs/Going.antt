@@ -69,6 +69,7 @@ kept_by s values env old k ran is = (defined.0, defined.1, defined.2, defined.3,
 -- ---- from a plan
 module _ (t : Operation) (verified : Header → Bool) (n : ℕ) (p : PatternModel) where
   pub record IsPlanned (b : BoundValues Value) (ts : BoundValues TypeTerm) (os : List Operation) (v : Value) : Type 0 where
+    pub numeric : list_all is_numeric ts ≡ true
     pub widths : fits (map bound_type ts) p ≡ true
     pub constants : constants_known t verified n p b ≡ true
     pub env : List Outcome
@@ -90,6 +91,7 @@ module _ (t : Operation) (verified : Header → Bool) (n : ℕ) (p : PatternMode
       let s = given_some (binding_at p.result r.0.1) (λ v. Some (r.0.0, v)) (os, v) r.2 in
       let same : (r.0.0, s.0) ≡ (os, v) = same_Some _ _ s.2 in
       record {
+        numeric = a.0;
         widths = parts.0;
         constants = parts.1;
         env = g.0;

@@ -18,6 +18,7 @@ use Rattle.ir_tree.specs.Meaning.{Operation}
 use Rattle.ir_tree.specs.declared.place.Place.{Place}
 use Rattle.ir_tree.specs.Edits.{put_value, put_values}
 use Rattle.ir_tree_laws.specs.Values.{has_value}
+use Rattle.ir_tree_laws.proofs.Listed.{all_each}
 use Rattle.ir_event.specs.Modules.{Module}
 use Rattle.dialects_int.specs.declared.operations.Arithmetic.{Arithmetic}
 use Rattle.dialects_int.specs.declared.operations.Arithmetic.TheVariants as op
@@ -40,7 +41,7 @@ use Rattle.user_patterns_apply.specs.Own.{UserPatternsAreAccepted}
 use Rattle.patterns_refinement.proofs.Flags.{AreUnflagged, unflagged}
 use Rattle.patterns_refinement.specs.Meaning.{AreOfTypes, Assignment, Each, FitsAll, FitsEach, is_arithmetic}
 use Rattle.patterns_refinement.specs.Applied.{Agree, Computes}
-use Rattle.patterns_refinement.specs.Observing.{Shows, Stays, is_computed}
+use Rattle.patterns_refinement.specs.Observing.{Shows, is_computed}
 use Rattle.patterns_refinement.specs.After.{or_new, rewritten, with_made}
 use Rattle.patterns_refinement.specs.Better.{AllBetter, AllSure, AreKinded, is_poison_by_ones, is_signed_quotient}
 use Rattle.patterns_refinement.specs.Applying.{RewritesCompute}
@@ -53,7 +54,9 @@ use Rattle.patterns_refinement.proofs.Going.{plans_go, planned_there, root_below
 use Rattle.patterns_refinement.proofs.Lifted.{IsBetterWith, IsReady, lifted, new_uses_better, old_ready, uses_better}
 use Rattle.patterns_refinement.proofs.News.{more_made}
 use Rattle.patterns_refinement.proofs.Rooted.{all_arithmetic, root_computed}
-use Rattle.patterns_refinement.proofs.Showing.{all_better, all_through, at_root, number_at, put_same, rewritten_follows, rewritten_head}
+use Rattle.patterns_refinement.proofs.Origins.{IsKept, kept_put, kinds_themselves, replaces_computed, rewritten_kinds}
+use Rattle.patterns_refinement.proofs.Showing.{all_better, all_through, replaced_shows}
+use Rattle.patterns_refinement.proofs.Trees.{value_below}
 use Rattle.patterns_refinement.proofs.Edited.{each_both}
 use Rattle.patterns_refinement.proofs.Frees.{Was, free_still, was_new, was_old}
 use Rattle.patterns_refinement.proofs.Rewritten.{AllBare, AllPut, all_bare, all_put, given_each, operands_same, rewritten_computes, same_makes, all_unflagged}
@@ -120,19 +123,18 @@ module _ (m : Module) (x : ℕ) (a : Assignment) (done later : ℕ → Bool) (we
   abbrev f : Header → Header
   f = put_values (Result x 0) v
 
-  each_kept : Each (λ h. Stays m.tree a now later h (put_values (Result x 0) v h)) m.tree
+  each_kept : Each (λ h. IsKept m.next m.tree (rewritten insertion m.next made x v m.tree) a now later h (put_values (Result x 0) v h)) m.tree
   each_kept =
       let below = is_below m.next m.tree wellformed.below in
       let operands = operands_stand is_isolated m.tree wellformed.distinct wellformed.wellformed.visible in
-      each_both (IsBetterWith c later (map (put_value (Result x 0) v))) (λ h. list_all (λ v. has_value v m.tree) h.operands ≡ true) (λ h. Stays m.tree a now later h (put_values (Result x 0) v h))
-      (λ h p s. record {
-        same = refl;
-        values = put_same m.tree x v root h.operands;
-        better = λ i.
-            all_through (map a h.operands) (map c (map (put_value (Result x 0) v) h.operands)) (map now (map (put_value (Result x 0) v) h.operands))
-            (subst (λ zs. AllBetter zs (map c (map (put_value (Result x 0) v) h.operands))) (operands_same a c m.next x v done agrees m.tree below h.operands s) (p i))
-            (all_better c now grows (map (put_value (Result x 0) v) h.operands));
-      }) m.tree (uses_better c later x v better m.tree (each_stands (λ h. Unit {0}) [] m.tree (λ s i. tt))) operands
+      let u = rewritten insertion m.next made x v m.tree in
+      let kinds = rewritten_kinds m.next m.tree x v insertion made bare (kinds_themselves m.next m.tree wellformed.distinct below) in
+      each_both (IsBetterWith c later (map (put_value (Result x 0) v))) (λ h. list_all (λ v. has_value v m.tree) h.operands ≡ true) (λ h. IsKept m.next m.tree u a now later h (put_values (Result x 0) v h))
+      (λ h p s. kept_put m.next x v m.tree u a now later kinds (replaces_computed m.next x v m.tree u a later root) h (λ w i. value_below m.next m.tree below w (all_each (λ v. has_value v m.tree) h.operands s w i))
+      (λ i.
+      all_through (map a h.operands) (map c (map (put_value (Result x 0) v) h.operands)) (map now (map (put_value (Result x 0) v) h.operands))
+      (subst (λ zs. AllBetter zs (map c (map (put_value (Result x 0) v) h.operands))) (operands_same a c m.next x v done agrees m.tree below h.operands s) (p i))
+      (all_better c now grows (map (put_value (Result x 0) v) h.operands)))) m.tree (uses_better c later x v better m.tree (each_stands (λ h. Unit {0}) [] m.tree (λ s i. tt))) operands
 
   all_plain : Each (Was m.next (λ y. true) (λ y. true) m.tree) (rewritten insertion m.next made x v m.tree)
   all_plain =
@@ -141,12 +143,8 @@ module _ (m : Module) (x : ℕ) (a : Assignment) (done later : ℕ → Bool) (we
 
   pub made_shows : Shows a now m later (rewritten insertion m.next made x v m.tree)
   made_shows =
-      let counted = number_at x m.tree wellformed.distinct root in
-      record {
-        root = λ i. subst (Stays m.tree a now later (head m.tree)) (sym (rewritten_head x v m.tree counted insertion m.next made)) (at_root (λ h. Stays m.tree a now later h (put_values (Result x 0) v h)) m.tree each_kept);
-        follows = rewritten_follows x v m.tree counted a now later insertion m.next made numbers each_kept;
-        plain = free_still m.next (λ y. true) (λ y. true) m.tree (rewritten insertion m.next made x v m.tree) all_plain;
-      }
+      replaced_shows m x v insertion made a now later wellformed.distinct (inl root) bare numbers each_kept
+      (free_still m.next (λ y. true) (λ y. true) m.tree (rewritten insertion m.next made x v m.tree) all_plain)
 
 -- ---- the laws
 pub rewrites_compute_better : UserPatternsAreAccepted → RewritesComputeBetter

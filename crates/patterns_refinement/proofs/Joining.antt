@@ -32,7 +32,6 @@ use Rattle.patterns_laws.specs.Keeps.{Each as EachOf}
 use Rattle.patterns_laws.specs.Words.{among, named, associative}
 use Rattle.patterns_laws.proofs.KnownFolds.{below, given_some, pair_gave}
 use Rattle.patterns_base.specs.declared.rule.Rule.{Rule}
-use Rattle.patterns_base.specs.RuleNames.{is_erasing}
 use Rattle.patterns_base.specs.declared.rule.Rule.TheVariants.{AddNegative, RegroupConstants}
 use Rattle.patterns_base.specs.Looks.{is_verified, known, source, two, when}
 use Rattle.patterns_base.specs.Makes.{give_new}
@@ -55,7 +54,7 @@ use Rattle.patterns_refinement.proofs.Makings.{GivesNew, GivesOutcomes, all_agre
 use Rattle.patterns_refinement.proofs.Monotone.{same_refined}
 use Rattle.patterns_refinement.proofs.News.{type_is_of}
 use Rattle.patterns_refinement.proofs.Pairs.{IsTotal, Paired, binary_gives, binary_made, constant_gives_one, constant_made, is_its_kind, known_kind, number_bits, number_kind, pair_known, pair_out, paired, value_fits, zero_bits}
-use Rattle.patterns_refinement.proofs.Ruled.{Ruled, Site, known_kinds, of_rule, root_has, rule_kinds, ruled, site_of, value_bits}
+use Rattle.patterns_refinement.proofs.Ruled.{may_lack, Ruled, Site, known_kinds, of_rule, root_has, rule_kinds, ruled, site_of, value_bits}
 use Rattle.patterns_refinement.proofs.Sources.{Sole, kind_test, made_or_poison, sole_of}
 use Rattle.patterns_refinement.proofs.Trees.{each_found, value_below}
 
@@ -79,7 +78,7 @@ pub record OnConstant (r : Rule) (m n : Module) (x : ℕ) (q : Ruled r m n x) (o
   pub constant_kind : c.0 ≡ kind
   pub bits : is_bits kind c.1 ≡ true
 
-pub on_constant : (r : Rule) (m n : Module) (x : ℕ) (q : Ruled r m n x) (o : Arithmetic) (u v : Value) (ty : TypeTerm) (c : Known) → is_erasing r ≡ false → IsReady m → rule_of (head q.here).name ≡ Some (how.Binary o) → (head q.here).operands ≡ u ∷ v ∷ [] → (head q.here).results ≡ ty ∷ [] → known m.tree v ≡ Some c → OnConstant r m n x q o u v ty c
+pub on_constant : (r : Rule) (m n : Module) (x : ℕ) (q : Ruled r m n x) (o : Arithmetic) (u v : Value) (ty : TypeTerm) (c : Known) → may_lack r ≡ false → IsReady m → rule_of (head q.here).name ≡ Some (how.Binary o) → (head q.here).operands ≡ u ∷ v ∷ [] → (head q.here).results ≡ ty ∷ [] → known m.tree v ≡ Some c → OnConstant r m n x q o u v ty c
 on_constant r m n x q o u v ty c stays ready name ops results there =
     let k = rule_kinds m.tree (head q.here) (each_found (λ h. is_kinded m.tree h ≡ true) x m.tree ready.kinded q.here q.found).0 (root_has q ready.wellformed ready.kinded stays) (how.Binary o) name in
     let both = and_parts (is_kind k.kind (kind_in m.tree u)) (is_kind k.kind (kind_in m.tree v)) (subst (λ vs. takes (how.Binary o) (head q.here) k.kind (map (kind_in m.tree) vs) ≡ true) ops k.operands) in

@@ -37,7 +37,11 @@ pub mod Ruled
 pub mod Firsts
 pub mod Dropping
 pub mod Readied
+pub mod Origins
 pub mod StaysReady
+pub mod Unmissed
+pub mod Themselves
+pub mod Picking
 pub mod OldRules
 pub mod Constants
 pub mod Makings
@@ -59,6 +63,7 @@ pub mod Expanding
 pub mod Remainders
 pub mod Extremes
 pub mod Turning
+pub mod TurnedChoice
 pub mod Choosing
 pub mod Mirroring
 pub mod Listed
@@ -92,5 +97,6 @@ pub mod PlainLists
 pub mod AnswersKept
 pub mod TracedRuns
 pub mod RefiningSampled
+pub mod ChoiceSampled
 pub mod RunsRefined
 pub mod Sampled

@@ -24,7 +24,6 @@ use Rattle.patterns_laws.specs.Keeps.{Each}
 use Rattle.patterns_laws.specs.Words.{among, self_inverse, remainders}
 use Rattle.patterns_laws.proofs.KnownFolds.{below, some_bits}
 use Rattle.patterns_base.specs.declared.rule.Rule.{Rule}
-use Rattle.patterns_base.specs.RuleNames.{is_erasing}
 use Rattle.patterns_base.specs.declared.rule.Rule.TheVariants.{CancelItself, ZeroRemainder}
 use Rattle.patterns_base.specs.Looks.{is_number, known, when}
 use Rattle.patterns_base.specs.Makes.{give_constant}
@@ -40,7 +39,7 @@ use Rattle.patterns_refinement.proofs.Dropping.{kind_by, known_is, known_test, o
 use Rattle.patterns_refinement.proofs.Firsts.{poison_refined}
 use Rattle.patterns_refinement.proofs.Monotone.{none_made, same_refined}
 use Rattle.patterns_refinement.proofs.OfBits.{are_bits}
-use Rattle.patterns_refinement.proofs.Ruled.{Ruled, of_rule, rule_kinds, ruled, site_of, value_bits, root_has}
+use Rattle.patterns_refinement.proofs.Ruled.{may_lack, Ruled, of_rule, rule_kinds, ruled, site_of, value_bits, root_has}
 use Rattle.patterns_refinement.proofs.Trees.{each_found}
 
 -- ---- operations that give 0
@@ -82,7 +81,7 @@ remainder_pairs = ((op.RemainderSigned, refl, (λ w a n h l e. nothing_left w a 
 
 -- ---- their outcomes
 module _ (accepted : AreAccepted) where
-  zero_number : (r : Rule) (m n : Module) (x : ℕ) (q : Ruled r m n x) (o : Arithmetic) (ty : TypeTerm) → is_erasing r ≡ false → IsReady m → rule_of (head q.here).name ≡ Some (how.Binary o) → (head q.here).results ≡ ty ∷ []
+  zero_number : (r : Rule) (m n : Module) (x : ℕ) (q : Ruled r m n x) (o : Arithmetic) (ty : TypeTerm) → may_lack r ≡ false → IsReady m → rule_of (head q.here).name ≡ Some (how.Binary o) → (head q.here).results ≡ ty ∷ []
       → give_constant q.insertion m.next (head q.here).id ty 0 ≡ q.edits → GivesNumber r m n x q
   zero_number r m n x q o ty stays ready name results edits =
       let k = rule_kinds m.tree (head q.here) (each_found (λ h. is_kinded m.tree h ≡ true) x m.tree ready.kinded q.here q.found).0 (root_has q ready.wellformed ready.kinded stays) (how.Binary o) name in

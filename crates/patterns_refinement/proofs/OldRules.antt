@@ -20,7 +20,8 @@ use Rattle.patterns_base.proofs.Facts.{when_some}
 use Rattle.patterns_soundness.proofs.Shapes.{three_is, two_is}
 use Rattle.patterns_soundness.specs.Accepted.{AreAccepted}
 use Rattle.patterns_refinement.specs.Keeping.{KeepsComputing, KeepsReady}
-use Rattle.patterns_refinement.proofs.Dropping.{choose_known_keeps, choose_same_keeps, drop_all_ones_keeps, drop_one_keeps, drop_zero_keeps, keep_itself_keeps}
+use Rattle.patterns_refinement.proofs.Picking.{choose_known_keeps, choose_same_keeps}
+use Rattle.patterns_refinement.proofs.Dropping.{drop_all_ones_keeps, drop_one_keeps, drop_zero_keeps, keep_itself_keeps}
 use Rattle.patterns_refinement.proofs.StaysReady.{GivesOld, keeps_computing, old_ready}
 
 -- ---- the value that each rule uses

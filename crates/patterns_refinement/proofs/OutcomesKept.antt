@@ -125,7 +125,7 @@ module _ (m : Module) (p : PatternModel) (x : ℕ) (proper : IsProper p) (ready 
   raised : (i : ℕ) (v : Value) (h : Header) (f : Expression) → Stands i v q.here → defining_op_head m.tree (is_verified m.tree) v ≡ Some h → rule_of h.name ≡ Some (rule_for f) → Raised m.tree a v h
   raised i v h f s e r =
       let g = defining_op_of t verified v h e in
-      let k = defining_op_kinds m ready v h e f r in
+      let k = defining_op_kinds m ready v h e f r (q.bound_kinds i v s) in
       let is : done g.id ≡ true = ap (is_there done) (sym g.value) ∙ there_all m p x proper ready os value plan q kinded a done computing d i v s in
       let n = each_found (IsSure a done) g.id t computing.sure g.here g.found in
       let sure = subst (λ (h : Header). is_arithmetic h ≡ true → may_overflow h (map a h.operands) ≡ false) g.heads (n.0 (ap done n.1 ∙ is)) k.arithmetic in

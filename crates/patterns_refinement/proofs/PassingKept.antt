@@ -65,7 +65,8 @@ use Rattle.patterns_refinement.proofs.BoundValues.{Stands, ValuesStand, standing
 use Rattle.patterns_refinement.proofs.StaysReady.{stays_kinds, stays_ready}
 use Rattle.patterns_refinement.proofs.Steps.{run_grows}
 use Rattle.patterns_refinement.proofs.Trees.{each_found, found_fit, types_found, value_below}
-use Rattle.patterns_refinement.proofs.PassingMatched.{Here, Passes, any_form, any_forms, each_mapped, found_here, defining_op_kinds, matched_all, numbers_of_bits, numbers_of_kinds, operands_known, starts}
+use Rattle.patterns_refinement.proofs.Origins.{computed_kind}
+use Rattle.patterns_refinement.proofs.PassingMatched.{Here, Passes, any_form, any_forms, each_mapped, found_here, defining_op_kinds, kinds_pass, matched_all, numbers_of_bits, numbers_of_kinds, operands_known, starts}
 use Rattle.patterns_refinement.proofs.PassingMade.{AreBuilt, IsBuilt, IsPlace, are_built, are_made, first_at, given_at_place, news_typed, old_below, placed, run_there, given_long, kinds_long}
 use Rattle.std.proofs.lemmas.List.{get_or_past}
 use Rattle.patterns_refinement.proofs.Beginning.{outcomes_long}
@@ -369,11 +370,12 @@ module _ (m : Module) (p : PatternModel) (x : ℕ) (proper : IsProper p) (ready 
     record IsKnown (w : Value) : Type 0 where
       pub there : is_there done w ≡ true
       pub known : is_some (a w) ≡ true
+      pub kind : is_some (kind_in m.tree w) ≡ true
 
     known_pass : (f : Expression) (v : Value) (h : Header) → passes_poison f ≡ true → defining_op_head m.tree (is_verified m.tree) v ≡ Some h → rule_of h.name ≡ Some (rule_for f) → IsKnown v → (w : Value) → In w h.operands → is_some (a w) ≡ true
     known_pass f v h s e r i w n =
         let g = defining_op_of t (is_verified t) v h e in
-        let k = defining_op_kinds m ready v h e f r in
+        let k = defining_op_kinds m ready v h e f r i.kind in
         let d = ap (is_there done) (sym g.value) ∙ i.there in
         let known = ap (λ v. is_some (a v)) (sym g.value) ∙ i.known in
         elim (subst (λ (h : Header). is_arithmetic h ≡ true → Obeys a g.id h) g.heads (found_fit a done t computing.fits g.id g.here g.found d) k.arithmetic) [
@@ -383,8 +385,12 @@ module _ (m : Module) (p : PatternModel) (x : ℕ) (proper : IsProper p) (ready 
 
     known_all : list_all pattern_op_passes p.old ≡ true → done x ≡ true → is_some (a (Result x 0)) ≡ true → (i : ℕ) (w : Value) → Stands i w q.here → IsKnown w
     known_all passing d k =
-        matched_all t (is_verified t) passes_poison IsKnown (λ f v h s e r i w n. record { there = there_pass f v h refl e r i.there w n; known = known_pass f v h s e r i w n })
-        p x q.here passing proper.named q.is_matched (record { there = d; known = k })
+        matched_all t (is_verified t) passes_poison IsKnown (λ f v h s e r i w n. record {
+          there = there_pass f v h refl e r i.there w n;
+          known = known_pass f v h s e r i w n;
+          kind = kinds_pass m p x proper ready os value plan f v h refl e r i.kind w n;
+        })
+        p x q.here passing proper.named q.is_matched (record { there = d; known = k; kind = computed_kind x t q.computed })
 
     -- the pattern matches there
     is_found : list_all pattern_op_passes p.old ≡ true → done x ≡ true → is_some (a (Result x 0)) ≡ true → IsFound m.tree (is_verified m.tree) m.next p x a done

@@ -1,6 +1,5 @@
 -- The bindings of a match of a pattern in a ready module.
 use Rattle.std.proofs.Common.{◌≡◌, ℕ, zero, suc, ◌+◌, ◌-◌, ◌<◌, refl, ap, sym, ◌∙◌, subst, List, [], ◌∷◌, ◌++◌, length, map, Bool, true, false, true≢false, ◌&&◌, eqb, Option, Some, None, slice_get, ◌⊎◌, inl, inr, arith}
-use Rattle.ir_tree.specs.Ids.{find}
 use Rattle.std.specs.Prelude.{codes, is_some, if◌then◌else◌, option_map}
 use Rattle.std.specs.List.{list_all, list_any, range_with_len}
 use Rattle.std.proofs.lemmas.Bool.{and_parts}
@@ -42,7 +41,7 @@ use Rattle.user_patterns_data.specs.declared.pattern.PatternOp.{PatternOp}
 use Rattle.user_patterns_data.specs.Fitting.{content_with, extra_step, kind_at, number_step}
 use Rattle.user_patterns_data.specs.Matching.{Header, BoundValues, all_bound, constraints_agree, bound, defining_op_head, header_matched, known, nothing, op_matches, ops_match, placed, binding_at, type_at, types_at, value_matched, when, written}
 use Rattle.user_patterns_data.specs.Names.{name_of, operands_of}
-use Rattle.user_patterns_data.specs.Planning.{bound_type, known_at, old_place, outcomes, places, planned, planned_by, typed}
+use Rattle.user_patterns_data.specs.Planning.{bound_type, is_numeric, known_at, old_place, outcomes, places, planned, planned_by, typed}
 use Rattle.user_patterns_data.specs.Shapes.{PatternModel}
 use Rattle.user_patterns_build.specs.CanBuild.{has_name}
 use Rattle.user_patterns_apply.proofs.FoundBuilt.{all_from, bound_from, when_is}
@@ -58,9 +57,8 @@ use Rattle.patterns_refinement.proofs.Going.{AreTyped, IsPlanned, wellformed_par
 use Rattle.patterns_refinement.proofs.OfBits.{AllOfBits, run_bits}
 use Rattle.patterns_refinement.proofs.OfKinds.{OfKinds, extras_run, numbers_run}
 use Rattle.patterns_refinement.proofs.Rooted.{hold_at, named_at}
-use Rattle.patterns_refinement.proofs.Ruled.{OfRule, known_kinds, rule_kinds}
+use Rattle.patterns_refinement.proofs.Ruled.{OfRule, known_kinds}
 use Rattle.patterns_refinement.proofs.BoundValues.{AllHold, Stands, one_stands, standing_stands, stands_standing}
-use Rattle.patterns_refinement.proofs.Verified.{HasKind, verified_has_kind}
 use Rattle.patterns_refinement.proofs.Trees.{each_found}
 use Rattle.patterns_refinement.specs.Observing.{is_computed}
 
@@ -244,25 +242,20 @@ module _ (m : Module) (ready : IsReady m) (v : Value) (h : Header) (e : defining
       let g = defining_op_of m.tree (is_verified m.tree) v h e in
       subst (λ h. is_kinded m.tree h ≡ true) g.heads (each_found (λ h. is_kinded m.tree h ≡ true) g.id m.tree ready.kinded g.here g.found).0
 
-  defining_op_has : HasKind h
-  defining_op_has =
-      let g = defining_op_of m.tree (is_verified m.tree) v h e in
-      let f = each_found (λ h. is_kinded m.tree h ≡ true) g.id m.tree ready.kinded g.here g.found in
-      subst HasKind g.heads (verified_has_kind m.tree g.here ready.wellformed.distinct (ap (λ y. find y m.tree) f.1 ∙ g.found) (ap (is_verified m.tree) g.heads ∙ g.passes_verifier) f.0)
-
-  pub defining_op_kinds : (f : Expression) → rule_of h.name ≡ Some (rule_for f) → OfRule m.tree h (rule_for f)
-  defining_op_kinds (form.Binary o i j) name = rule_kinds m.tree h defining_op_kinded defining_op_has (how.Binary o) name
-  defining_op_kinds (form.Compare q i j) name = rule_kinds m.tree h defining_op_kinded defining_op_has how.Compare name
-  defining_op_kinds (form.Select c i j) name = rule_kinds m.tree h defining_op_kinded defining_op_has how.Select name
-  defining_op_kinds (form.IntegerCast c i) name = rule_kinds m.tree h defining_op_kinded defining_op_has (how.IntegerCast c) name
-  defining_op_kinds (form.IndexCast c i) name = rule_kinds m.tree h defining_op_kinded defining_op_has (how.IndexCast c) name
-
   defining_op_known : (r : How) → rule_of h.name ≡ Some r → (k : BitsKind) → result_kind h ≡ Some k → OfRule m.tree h r
   defining_op_known r name k i = known_kinds m.tree h defining_op_kinded r name k i
 
   -- the kind of the operation's result
   pub defining_op_kind : (term : TypeTerm) → type_of_value v m.tree ≡ Some term → result_kind h ≡ kind_of term
   defining_op_kind term of = ap (λ o. given o kind_of) (defining_op_type m.tree (is_verified m.tree) v h term (defining_op_of m.tree (is_verified m.tree) v h e) of)
+
+  -- the kinds of the operation's values, if the value has a kind
+  pub defining_op_kinds : (f : Expression) → rule_of h.name ≡ Some (rule_for f) → is_some (kind_in m.tree v) ≡ true → OfRule m.tree h (rule_for f)
+  defining_op_kinds f name s = go (type_of_value v m.tree) refl s
+    where
+      go : (q : Option TypeTerm) → type_of_value v m.tree ≡ q → is_some (given q kind_of) ≡ true → OfRule m.tree h (rule_for f)
+      go None i s = absurd (true≢false (sym s))
+      go (Some term) i s = let k = some_there (kind_of term) s in defining_op_known (rule_for f) name k.0 (defining_op_kind term i ∙ k.1)
 
 -- the number of a constant is of its type
 constant_fits : (m : Module) (ready : IsReady m) (v : Value) (y : Known) (term : TypeTerm) (k : BitsKind) → known m.tree (is_verified m.tree) v ≡ Some y → type_of_value v m.tree ≡ Some term → kind_of term ≡ Some k → (y.0 ≡ k) × (is_bits y.0 y.1 ≡ true)
@@ -312,6 +305,11 @@ module _ (m : Module) (p : PatternModel) (x : ℕ) (proper : IsProper p) (ready 
     pub bound_kinds : (i : ℕ) (w : Value) → Stands i w here → is_some (kind_in m.tree w) ≡ true
     pub variables : (i : ℕ) (w : Value) → i < length p.values → Stands i w here → IsTypedAs w (kind_at (kinds_first types) i)
 
+  numeric_at : (ts : BoundValues TypeTerm) (i : ℕ) (o : Option TypeTerm) → list_all is_numeric ts ≡ true → slice_get ts i ≡ Some o → is_numeric o ≡ true
+  numeric_at [] i o e s = absurd (none-some o s)
+  numeric_at (t ∷ ts) zero o e s = ap is_numeric (sym (same_Some _ _ s)) ∙ (and_parts (is_numeric t) (list_all is_numeric ts) e).0
+  numeric_at (t ∷ ts) (suc i) o e s = numeric_at ts i o (and_parts (is_numeric t) (list_all is_numeric ts) e).1 s
+
   -- the defining operation of a matched value
   record Matched (b : BoundValues Value) (ts : BoundValues TypeTerm) (i : ℕ) : Type 0 where
     pub ty : ℕ
@@ -326,14 +324,15 @@ module _ (m : Module) (p : PatternModel) (x : ℕ) (proper : IsProper p) (ready 
     pub width : is_width (width_of kind) ≡ true
     pub computed : is_computed m.tree its_value ≡ true
 
-  matched_at : (b : BoundValues Value) (ts : BoundValues TypeTerm) (i : ℕ) → AllHold t verified (old_place p) p.old b → AreTyped t verified m.next p b ts → i < length p.old → Matched b ts i
-  matched_at b ts i holds are l =
+  matched_at : (b : BoundValues Value) (ts : BoundValues TypeTerm) (i : ℕ) → AllHold t verified (old_place p) p.old b → AreTyped t verified m.next p b ts → list_all is_numeric ts ≡ true → i < length p.old → Matched b ts i
+  matched_at b ts i holds are numeric l =
       let a = typed_at t verified (old_place p) (map PatternOp.ty p.old) b ts are.pattern_ops i (omega (arith, l, length-map p.old PatternOp.ty)) in
       let h = hold_at t verified (old_place p) p.old b holds i l in
       let w = a.2 in
       let v = h.2 in
       let of : type_of_value v.value t ≡ Some w.term = ap (λ v. type_of_value v t) (one_stands (old_place p + i) v.value w.value b v.stands w.stands) ∙ w.of_value in
-      let k = defining_op_kinds m ready v.value v.header v.gives h.0.form (ap rule_of (named_is (name_of h.0.form) v.header.name v.name) ∙ form_rule h.0.form (named_at p.old i h.0 proper.named h.1)) in
+      let k = defining_op_kinds m ready v.value v.header v.gives h.0.form (ap rule_of (named_is (name_of h.0.form) v.header.name v.name) ∙ form_rule h.0.form (named_at p.old i h.0 proper.named h.1))
+      (ap (λ o. is_some (given o kind_of)) of ∙ numeric_at ts a.0 (Some w.term) numeric w.type_stands) in
       record {
         ty = a.0;
         at = a.1;
@@ -356,9 +355,9 @@ module _ (m : Module) (p : PatternModel) (x : ℕ) (proper : IsProper p) (ready 
       subst (λ v. is_some (kind_in t v) ≡ true) (one_stands (old_place p + i) w.its_value v b w.stands s) (ap (λ o. is_some (given o kind_of)) w.of_value ∙ ap is_some w.of)
 
   -- the operands of an operation whose result has a kind have kinds
-  kinds_pass : Passes m.tree (is_verified m.tree) any_form (λ w. is_some (kind_in m.tree w) ≡ true)
+  pub kinds_pass : Passes m.tree (is_verified m.tree) any_form (λ w. is_some (kind_in m.tree w) ≡ true)
   kinds_pass f v h s e r q w i =
-      let k = defining_op_kinds m ready v h e f r in
+      let k = defining_op_kinds m ready v h e f r q in
       each_mapped (kind_in t) is_some h.operands (operands_of_kinds h k.kind f (map (kind_in t) h.operands) k.operands) w i
 
   variables_typed : (b : BoundValues Value) (ts : BoundValues TypeTerm) → AreTyped t verified m.next p b ts → AreOfKinds ts → (i : ℕ) (w : Value) → i < length p.values → Stands i w b → IsTypedAs w (kind_at (kinds_first ts) i)
@@ -383,7 +382,8 @@ module _ (m : Module) (p : PatternModel) (x : ℕ) (proper : IsProper p) (ready 
       let k = made_parts p proper.buildable in
       let found = matched_parts t verified m.next p x s.0 s.1 in
       let are = typed_parts t verified m.next p s.0 r.0 r.1 in
-      let root = matched_at s.0 r.0 (p.root - old_place p) found.pattern_ops are (omega (arith, f.root, k.root)) in
+      let parts = planned_there t verified m.next p x s.0 r.0 made value s.1 r.1 plan in
+      let root = matched_at s.0 r.0 (p.root - old_place p) found.pattern_ops are parts.numeric (omega (arith, f.root, k.root)) in
       let place : p.root ≡ old_place p + (p.root - old_place p) = omega (arith, k.root) in
       let rooted = root_kind s.0 r.0 (Result x 0) (p.root - old_place p) root (subst (λ z. Stands z (Result x 0) s.0) place found.root) in
       let bound_kinds = matched_all t verified any_form (λ w. is_some (kind_in m.tree w) ≡ true) kinds_pass p x s.0 (any_forms p.old) proper.named s.1 rooted in
@@ -393,7 +393,7 @@ module _ (m : Module) (p : PatternModel) (x : ℕ) (proper : IsProper p) (ready 
         types = r.0;
         is_matched = s.1;
         are_types = r.1;
-        parts = planned_there t verified m.next p x s.0 r.0 made value s.1 r.1 plan;
+        parts = parts;
         root = has_type t verified (old_place p) (map PatternOp.ty p.old) s.0 r.0 are.pattern_ops p.root (Result x 0) k.root (omega (arith, f.root, length-map p.old PatternOp.ty)) found.root;
         computed =
             subst (λ v. is_computed m.tree v ≡ true)

@@ -1,30 +1,30 @@
 -- What the laws keep is refined, as an observer sees it.
-use Rattle.std.proofs.Common.{◌≡◌, ℕ, ◌<◌, refl, ap, sym, ◌∙◌, subst, List, [], ◌∷◌, ◌++◌, map, Bool, true, false, true≢false, not, Some, None, inl, inr}
+use Rattle.std.proofs.Common.{◌≡◌, ℕ, ◌<◌, refl, ap, sym, ◌∙◌, subst, List, [], ◌∷◌, ◌++◌, map, Bool, true, false, true≢false, not, ◌⊎◌, inl, inr}
 use Rattle.std.specs.Prelude.{if◌then◌else◌}
-use Rattle.std.specs.List.{filter, list_all}
+use Rattle.std.specs.List.{filter}
 use Rattle.std.proofs.lemmas.Bool.{and_from, and_parts}
 use Rattle.ir_types.proofs.Truths.{same_bool}
 use Rattle.ir_types.specs.Terms.{TypeTerm, AttrTerm}
-use Rattle.ir_types.specs.Words.{is_isolated}
 use Rattle.ir_tree.specs.declared.value.Value.{Value}
 use Rattle.ir_tree.specs.Tree.{RegionsOf, RegionOf, OpsOf, op, no_regions, region, empty, block, no_ops, next, regions}
 use Rattle.ir_tree.specs.Meaning.{Operation}
-use Rattle.ir_tree_laws.specs.Values.{has_value}
+use Rattle.ir_tree_laws.proofs.Listed.{bool_cases}
 use Rattle.ir_event.specs.Modules.{Module}
 use Rattle.op_registry.specs.Registry.{own_of}
 use Rattle.effects.specs.Dead.{is_kept, may_go}
 use Rattle.effects.specs.Effects.{effects, effects_by, ops_effects, region_effects, regions_effects}
 use Rattle.user_patterns_data.specs.Matching.{Header}
-use Rattle.patterns_refinement.specs.Meaning.{Assignment, Each, EachAmong, EachInRegion, EachInRegions, owner}
+use Rattle.patterns_refinement.specs.Meaning.{Assignment, Each, EachAmong, EachInRegion, EachInRegions}
 use Rattle.patterns_refinement.specs.Better.{AllBetter}
-use Rattle.patterns_refinement.specs.Observing.{AreSameValues, Follows, IsSameValue, OpsFollow, RegionFollows, RegionsFollow, Shows, Stays, is_computed, is_unmissed, shown_regions}
-use Rattle.patterns_refinement.specs.Refining.{IsStill, KeptIsRefined, ObservationsRefine, OperandsRefine, lasting, lasting_op, lasting_ops, lasting_region, observation, operand}
-use Rattle.patterns_refinement.proofs.Edited.{each_both}
+use Rattle.patterns_refinement.specs.Choices.{AllStill, AreOrigins, Origins, is_choice}
+use Rattle.patterns_refinement.specs.Observing.{Follows, OpsFollow, RegionFollows, RegionsFollow, Shows, Stays, is_unmissed, shown_regions}
+use Rattle.patterns_refinement.specs.Refining.{KeptIsRefined, ObservationsRefine, OperandsRefine, lasting, lasting_op, lasting_ops, lasting_region, observation, operand}
 use Rattle.patterns_refinement.proofs.Follows.{by_goes, op_unmissed, union_goes, union_parts}
-use Rattle.patterns_refinement.proofs.Wellformed.{is_below, operands_stand}
+use Rattle.patterns_refinement.proofs.Origins.{origins_grown, origins_later}
+use Rattle.patterns_refinement.proofs.Unmissed.{choice_unmissed}
+use Rattle.patterns_refinement.proofs.Wellformed.{is_below}
 use Rattle.patterns_refinement.proofs.Shown.{each_shown}
 use Rattle.patterns_refinement.proofs.Showing.{inside}
-use Rattle.patterns_refinement.proofs.Trees.{value_below}
 
 abbrev Regions : Type 0
 Regions = RegionsOf (List ℕ) TypeTerm AttrTerm
@@ -150,60 +150,77 @@ module _ (P : Header → Type 0) where
     op_all : (o : Operation) → Each P o → AllOf (lasting_op o)
     op_all (op h rs) s = all_if (is_unmissed (op h rs)) (h ∷ lasting rs) (s.0, all_last rs s.1)
 
+-- ---- an operation that can't be erased is no choice
+module _ (t : Operation) where
+  abbrev IsNoChoice : Header → Type 0
+  IsNoChoice h = is_choice t h ≡ false
+
+  mutual
+    none_chooses : (rs : Regions) → AllOf IsNoChoice (lasting rs)
+    none_chooses no_regions = tt
+    none_chooses (region g rs) = all_both IsNoChoice (lasting_region g) (lasting rs) (region_none g) (none_chooses rs)
+
+    region_none : (g : Region) → AllOf IsNoChoice (lasting_region g)
+    region_none empty = tt
+    region_none (block args os) = ops_none os
+
+    ops_none : (os : Ops) → AllOf IsNoChoice (lasting_ops os)
+    ops_none no_ops = tt
+    ops_none (next o os) = all_both IsNoChoice (lasting_op o) (lasting_ops os) (op_none o) (ops_none os)
+
+    op_none : (o : Operation) → AllOf IsNoChoice (lasting_op o)
+    op_none (op h rs) = go (is_unmissed (op h rs)) refl (bool_cases (is_choice t h)) (none_chooses rs)
+      where
+        go : (b : Bool) → is_unmissed (op h rs) ≡ b → (is_choice t h ≡ true) ⊎ (is_choice t h ≡ false) → AllOf IsNoChoice (lasting rs) → AllOf IsNoChoice (if b then [] else h ∷ lasting rs)
+        go true e c rest = tt
+        go false e (inl c) rest = absurd (true≢false (sym (choice_unmissed t (op h rs) c) ∙ e))
+        go false e (inr c) rest = (c, rest)
+
 -- ---- observations
-module _ (a now : Assignment) (done later : ℕ → Bool) (m : Module) (t : Operation) (same : (y : ℕ) → y < m.next → later y ≡ done y) (shows : Shows a now m later t) (below : (v : Value) → has_value v m.tree ≡ true → owner v < m.next) where
+module _ (a now : Assignment) (o : Origins) (done later : ℕ → Bool) (m : Module) (t : Operation) (same : (y : ℕ) → y < m.next → later y ≡ done y) (shows : Shows a now m later t) (are : AreOrigins m.next a o later m.tree) where
+  -- an operation that can't be erased is no choice
   abbrev IsBelow : Header → Type 0
-  IsBelow h = (h.id < m.next) × (list_all (λ v. has_value v m.tree) h.operands ≡ true)
+  IsBelow h = h.id < m.next
 
-  is_still : (v w : Value) → owner v < m.next → IsSameValue m.tree v w → IsStill (operand a m.tree v).value (operand now t w).value
-  is_still v w less s = go (is_computed m.tree v) refl s
+  operands_refine : (vs ws : List Value) → AllStill o vs ws → AllBetter (map a vs) (map now ws) → OperandsRefine (map (operand a o) vs) (map (operand now o) ws)
+  operands_refine [] [] s b = tt
+  operands_refine [] (w ∷ ws) s b = absurd s
+  operands_refine (v ∷ vs) [] s b = absurd s
+  operands_refine (v ∷ vs) (w ∷ ws) s b = (s.0, b.0, operands_refine vs ws s.1 b.1)
+
+  observations_refine : (hs ks : List Header) → AllOf IsBelow hs → AllOf (λ h. is_choice m.tree h ≡ false) hs → Paired (Stays m.next m.tree t a now later) hs ks
+      → ObservationsRefine (map (observation a o) (filter (λ (h : Header). done h.id) hs)) (map (observation now o) (filter (λ (h : Header). later h.id) ks))
+  observations_refine [] [] s c p = tt
+  observations_refine [] (k ∷ ks) s c p = absurd p
+  observations_refine (h ∷ hs) [] s c p = absurd p
+  observations_refine (h ∷ hs) (k ∷ ks) s c p =
+      go (done h.id) (later k.id) (ap later (sym (ap (λ (h : Header). h.id) p.0.same)) ∙ same h.id s.0) refl (observations_refine hs ks s.1 c.1 p.1)
     where
-      go : (b : Bool) → is_computed m.tree v ≡ b → IsSameValue m.tree v w → IsStill (if b then None else Some v) (if is_computed t w then None else Some w)
-      go true e s = tt
-      go false e (inl i) = ap (λ w. if is_computed t w then None else Some w) i ∙ ap (λ b. if b then None else Some v) (shows.plain v less e)
-      go false e (inr i) = absurd (true≢false (sym i ∙ e))
-
-  operands_refine : (vs ws : List Value) → list_all (λ v. has_value v m.tree) vs ≡ true → AreSameValues m.tree vs ws → AllBetter (map a vs) (map now ws) → OperandsRefine (map (operand a m.tree) vs) (map (operand now t) ws)
-  operands_refine [] [] e s b = tt
-  operands_refine [] (w ∷ ws) e s b = absurd s
-  operands_refine (v ∷ vs) [] e s b = absurd s
-  operands_refine (v ∷ vs) (w ∷ ws) e s b =
-      let p = and_parts (has_value v m.tree) (list_all (λ v. has_value v m.tree) vs) e in
-      (is_still v w (below v p.0) s.0, b.0, operands_refine vs ws p.1 s.1 b.1)
-
-  observations_refine : (hs ks : List Header) → AllOf IsBelow hs → Paired (Stays m.tree a now later) hs ks
-      → ObservationsRefine (map (observation a m.tree) (filter (λ (h : Header). done h.id) hs)) (map (observation now t) (filter (λ (h : Header). later h.id) ks))
-  observations_refine [] [] s p = tt
-  observations_refine [] (k ∷ ks) s p = absurd p
-  observations_refine (h ∷ hs) [] s p = absurd p
-  observations_refine (h ∷ hs) (k ∷ ks) s p =
-      go (done h.id) (later k.id) (ap later (sym (ap (λ (h : Header). h.id) p.0.same)) ∙ same h.id s.0.0) refl (observations_refine hs ks s.1 p.1)
-    where
-      go : (b c : Bool) → c ≡ b → later k.id ≡ c → ObservationsRefine (map (observation a m.tree) (filter (λ (h : Header). done h.id) hs)) (map (observation now t) (filter (λ (h : Header). later h.id) ks))
-          → ObservationsRefine (map (observation a m.tree) (if b then h ∷ (filter (λ (h : Header). done h.id) hs) else (filter (λ (h : Header). done h.id) hs))) (map (observation now t) (if c then k ∷ (filter (λ (h : Header). later h.id) ks) else (filter (λ (h : Header). later h.id) ks)))
-      go true true i e rest = (p.0.same, operands_refine h.operands k.operands s.0.1 p.0.values (p.0.better e), rest)
+      go : (b c : Bool) → c ≡ b → later k.id ≡ c → ObservationsRefine (map (observation a o) (filter (λ (h : Header). done h.id) hs)) (map (observation now o) (filter (λ (h : Header). later h.id) ks))
+          → ObservationsRefine (map (observation a o) (if b then h ∷ (filter (λ (h : Header). done h.id) hs) else (filter (λ (h : Header). done h.id) hs))) (map (observation now o) (if c then k ∷ (filter (λ (h : Header). later h.id) ks) else (filter (λ (h : Header). later h.id) ks)))
+      go true true i e rest = (p.0.same, operands_refine h.operands k.operands (p.0.still c.0 o are) (p.0.better c.0 e), rest)
       go true false i e rest = absurd (true≢false (sym i))
       go false true i e rest = absurd (true≢false i)
       go false false i e rest = rest
 
-  pub observed_refine : Each IsBelow m.tree → ObservationsRefine (map (observation a m.tree) (filter (λ (h : Header). done h.id) (lasting (shown_regions (regions m.tree))))) (map (observation now t) (filter (λ (h : Header). later h.id) (lasting (shown_regions (regions t)))))
+  pub observed_refine : Each IsBelow m.tree → ObservationsRefine (map (observation a o) (filter (λ (h : Header). done h.id) (lasting (shown_regions (regions m.tree))))) (map (observation now o) (filter (λ (h : Header). later h.id) (lasting (shown_regions (regions t)))))
   observed_refine each =
       observations_refine (lasting (shown_regions (regions m.tree))) (lasting (shown_regions (regions t)))
       (all_last IsBelow (shown_regions (regions m.tree)) (each_shown IsBelow (regions m.tree) (inside IsBelow m.tree each)))
-      (regions_last (Stays m.tree a now later) (λ h k s. ap (λ (h : Header). h.name) s.same) (shown_regions (regions m.tree)) (shown_regions (regions t)) shows.follows)
+      (none_chooses m.tree (shown_regions (regions m.tree)))
+      (regions_last (Stays m.next m.tree t a now later) (λ h k s. ap (λ (h : Header). h.name) s.same) (shown_regions (regions m.tree)) (shown_regions (regions t)) shows.follows)
 
 pub kept_is_refined : KeptIsRefined
-kept_is_refined m n ready kept a done computing =
+kept_is_refined m n ready kept a o done computing are =
     let c = kept.2 a done computing in
     let i = c.improves in
-    let under = is_below m.next m.tree ready.wellformed.below in
+    let now_are = origins_later m.next a o done c.later m.tree c.same are in
     record {
       now = i.now;
       later = c.later;
       same = c.same;
       inputs = i.stays;
       computing = i.computing;
-      refined = observed_refine a i.now done c.later m n.tree c.same i.shows (value_below m.next m.tree under)
-          (each_both (λ h. h.id < m.next) (λ h. list_all (λ v. has_value v m.tree) h.operands ≡ true) (λ h. (h.id < m.next) × (list_all (λ v. has_value v m.tree) h.operands ≡ true)) (λ h p q. (p, q)) m.tree under
-          (operands_stand is_isolated m.tree ready.wellformed.distinct ready.wellformed.wellformed.visible));
+      origins = origins_grown m.next n.next i.now o c.later n.tree kept.1 (i.shows.origins o now_are);
+      refined = observed_refine a i.now o done c.later m n.tree c.same i.shows now_are (is_below m.next m.tree ready.wellformed.below);
     }

@@ -3,7 +3,7 @@ use Rattle.patterns_refinement.specs.Observing.{shown_regions}
 use Rattle.user_patterns_data.specs.Matching.{Header}
 use Rattle.std.specs.List.{filter}
 use Rattle.std.specs.Prelude.{if◌then◌else◌}
-use Rattle.std.proofs.Common.{◌≡◌, ℕ, zero, suc, refl, sym, subst, ◌<◌, [], ◌∷◌, true≢false, Some, None, true, slice_get, get_or, inl, arith, ap, ◌∙◌, map, Bool, false, eqb, List}
+use Rattle.std.proofs.Common.{◌≡◌, ℕ, zero, suc, refl, sym, subst, ◌<◌, [], ◌∷◌, true≢false, Some, None, true, slice_get, get_or, inl, arith, ap, ◌∙◌, map, Bool, eqb, List}
 use Rattle.std.proofs.lemmas.Option.{none-some, same_Some}
 use Rattle.std.proofs.lemmas.Map.Made.{IsDistinct-from_count}
 use Rattle.std.proofs.lemmas.Cmp.{nat_eq_equiv}
@@ -33,13 +33,16 @@ use Rattle.patterns_base.specs.Canonicalization.{canonicalization_of, converged,
 use Rattle.patterns_base.specs.declared.rule.Rule.TheVariants.{DropZero}
 use Rattle.patterns_base.specs.Diagnostics.{diagnostics_of}
 use Rattle.patterns_refinement.specs.Meaning.{Each, IsOfType, Assignment}
+use Rattle.patterns_refinement.specs.Better.{gives}
 use Rattle.patterns_refinement.specs.Canonical.{IsPlain}
+use Rattle.patterns_refinement.specs.Choices.{AreOrigins, Origins}
 use Rattle.patterns_refinement.specs.Keeping.{Computing}
 use Rattle.patterns_refinement.specs.ObservingSamples.{i8, function_of, module_of, returning, storing, summing}
 use Rattle.patterns_refinement.specs.Refining.{ObservationsRefine, observed, Refined, lasting, observation}
-use Rattle.patterns_refinement.specs.RefiningSamples.{SampleIsRefined, after, before, canonical, ending_observed, five, functions_observed, memory, SamplesArentRefined}
+use Rattle.patterns_refinement.specs.RefiningSamples.{SampleIsRefined, after, arguments_of, before, canonical, ending_observed, five, functions_observed, memory, SamplesArentRefined}
 use Rattle.patterns_refinement.specs.Samples.{all_done}
 use Rattle.patterns_refinement.specs.Verified.{IsVerified, is_in_range, is_within}
+use Rattle.patterns_refinement.proofs.ShowingSampled.{arguments_stand, arguments_unused, never}
 
 below : (k d : ℕ) → k < 8 → get_or (0 ∷ 1 ∷ 2 ∷ 3 ∷ 4 ∷ 5 ∷ 6 ∷ 7 ∷ []) k d < 8
 below zero d l = omega arith
@@ -125,6 +128,19 @@ computes = record {
   );
 }
 
+-- ---- what its values stand for
+origins : AreOrigins 8 five (arguments_of 2) all_done before.tree
+unfolding folds.rule_of folds.rules
+origins = record {
+  chosen = ((λ e. never e), ((((λ e. never e), (tt, tt)), (((λ e. never e), ((((λ e. never e), tt), (((λ e. never e), tt), (((λ e. never e), tt), (((λ e. never e), tt), (((λ e. never e), tt), tt))))), tt)), tt)), tt));
+  computed = computed;
+  unused = arguments_unused 2 8 (omega arith);
+}
+  where
+    computed : (v : Value) → gives (λ x. true) before.tree v ≡ true → arguments_of 2 v ≡ None
+    computed (Result x k) e = refl
+    computed (Arg x r k) e = never e
+
 -- ---- the rule applies
 applies : rewrite_of DropZero before 4 ≡ becomes after
 unfolding rewrites.rewrite_of rewrites.edits_of rewrites.eligible rule_table.rule rule_table.rules_for rule_table.table looks.is_verified looks.known lists.with_zero_as_right_identity folds.fold_of folds.rule_of folds.rules words.operations words.is_inherent words.is_listed words.is_table words.is_isolated properties.is_allowed properties.is_of_kind properties.kind_of properties.kinds registry.row_of rows.rows
@@ -135,15 +151,15 @@ unfolding canons.canonicalization_of canons.canonical_from canons.most_rewrites 
 canonicalizes = refl
 
 -- ---- observations
-observed_before : observed five all_done before.tree ≡ functions_observed (ending_observed (record { value = None; outcome = Some (kind.Int 8, 5) }))
+observed_before : observed five (arguments_of 2) all_done before.tree ≡ functions_observed (ending_observed (record { value = None; outcome = Some (kind.Int 8, 5) }))
 unfolding folds.rule_of folds.rules registry.row_of rows.rows
 observed_before = refl
 
-observed_after : observed five all_done after.tree ≡ functions_observed (ending_observed (record { value = Some (Arg 2 0 0); outcome = Some (kind.Int 8, 5) }))
+observed_after : observed five (arguments_of 2) all_done after.tree ≡ functions_observed (ending_observed (record { value = Some (Arg 2 0 0); outcome = Some (kind.Int 8, 5) }))
 unfolding folds.rule_of folds.rules registry.row_of rows.rows
 observed_after = refl
 
-observed_canonical : observed five all_done canonical.tree ≡ observed five all_done after.tree
+observed_canonical : observed five (arguments_of 2) all_done canonical.tree ≡ observed five (arguments_of 2) all_done after.tree
 unfolding folds.rule_of folds.rules registry.row_of rows.rows
 observed_canonical = refl
 
@@ -151,12 +167,12 @@ plain : IsPlain before
 unfolding rule_table.rules_for rule_table.table
 plain = (refl, (((refl, (tt, tt)), ((refl, (((refl, tt), ((refl, tt), ((refl, tt), ((refl, tt), ((refl, tt), tt))))), tt)), tt)), tt))
 
-refined : ObservationsRefine (observed five all_done before.tree) (observed five all_done after.tree)
+refined : ObservationsRefine (observed five (arguments_of 2) all_done before.tree) (observed five (arguments_of 2) all_done after.tree)
 unfolding folds.rule_of folds.rules registry.row_of rows.rows
 refined = (refl, tt, (refl, tt, (refl, (tt, refl, (refl, refl, tt)), (refl, (tt, refl, tt), (refl, (tt, refl, tt), tt)))))
 
 pub sample_is_refined : SampleIsRefined
-sample_is_refined = record { verified = verified; computing = computes; applies = applies; plain = plain; canonicalizes = canonicalizes; observed_canonical = observed_canonical; observed_before = observed_before; observed_after = observed_after; refined = refined }
+sample_is_refined = record { verified = verified; computing = computes; origins = origins; applies = applies; plain = plain; canonicalizes = canonicalizes; observed_canonical = observed_canonical; observed_before = observed_before; observed_after = observed_after; refined = refined }
 
 -- ---- modules that are no refinements
 abbrev AllDone : (ℕ → Bool) → List Header → Type 0
@@ -168,34 +184,31 @@ all_left done [] s = refl
 all_left done (h ∷ hs) s =
     ap (λ c. if c then h ∷ filter (λ (h : Header). done h.id) hs else filter (λ (h : Header). done h.id) hs) s.0 ∙ ap (λ l. h ∷ l) (all_left done hs s.1)
 
-never : {A : Type 0} → false ≡ true → A
-never e = absurd (true≢false (sym e))
-
-abbrev which : Value → ℕ
+abbrev pub which : Value → ℕ
 which (Result x k) = k
 which (Arg x r k) = k
 
 -- if all operations are executed, all are seen
-module _ (a : Assignment) (m n : Module) (r : Refined a all_done m n) where
-  seen : AllDone r.later (lasting (shown_regions (regions n.tree)))
-      → ObservationsRefine (map (observation a m.tree) (filter (λ (h : Header). true) (lasting (shown_regions (regions m.tree))))) (map (observation r.now n.tree) (lasting (shown_regions (regions n.tree))))
-  seen s = subst (λ l. ObservationsRefine (observed a all_done m.tree) (map (observation r.now n.tree) l)) (all_left r.later (lasting (shown_regions (regions n.tree))) s) r.refined
+module _ (a : Assignment) (o : Origins) (m n : Module) (r : Refined a o all_done m n) where
+  pub seen : AllDone r.later (lasting (shown_regions (regions n.tree)))
+      → ObservationsRefine (map (observation a o) (filter (λ (h : Header). true) (lasting (shown_regions (regions m.tree))))) (map (observation r.now o) (lasting (shown_regions (regions n.tree))))
+  seen s = subst (λ l. ObservationsRefine (observed a o all_done m.tree) (map (observation r.now o) l)) (all_left r.later (lasting (shown_regions (regions n.tree))) s) r.refined
 
-wiping : (a : Assignment) → Refined a all_done (function_of 5 (returning (Arg 1 0 0))) (module_of 5 no_ops) → ⊥
+wiping : (a : Assignment) (o : Origins) → Refined a o all_done (function_of 5 (returning (Arg 1 0 0))) (module_of 5 no_ops) → ⊥
 unfolding folds.rule_of folds.rules registry.row_of rows.rows
-wiping a r = seen a (function_of 5 (returning (Arg 1 0 0))) (module_of 5 no_ops) r tt
+wiping a o r = seen a o (function_of 5 (returning (Arg 1 0 0))) (module_of 5 no_ops) r tt
 
-other_argument : (a : Assignment) → Refined a all_done (function_of 5 (returning (Arg 1 0 0))) (function_of 5 (returning (Arg 1 0 1))) → ⊥
+other_argument : (a : Assignment) → Refined a (arguments_of 1) all_done (function_of 5 (returning (Arg 1 0 0))) (function_of 5 (returning (Arg 1 0 1))) → ⊥
 unfolding folds.rule_of folds.rules registry.row_of rows.rows
 other_argument a r =
-    let s = seen a (function_of 5 (returning (Arg 1 0 0))) (function_of 5 (returning (Arg 1 0 1))) r (r.same 1 (omega arith), (r.same 4 (omega arith), tt)) in
+    let s = seen a (arguments_of 1) (function_of 5 (returning (Arg 1 0 0))) (function_of 5 (returning (Arg 1 0 1))) r (r.same 1 (omega arith), (r.same 4 (omega arith), tt)) in
     never (ap (λ v. eqb (which v) 0) (same_Some (Arg 1 0 1) (Arg 1 0 0) s.2.1.0))
 
-erased_store : (a : Assignment) → Refined a all_done (function_of 5 (summing (storing (returning (Result 2 0))))) (function_of 5 (summing (returning (Result 2 0)))) → ⊥
+erased_store : (a : Assignment) (o : Origins) → Refined a o all_done (function_of 5 (summing (storing (returning (Result 2 0))))) (function_of 5 (summing (returning (Result 2 0)))) → ⊥
 unfolding folds.rule_of folds.rules registry.row_of rows.rows
-erased_store a r =
-    let s = seen a (function_of 5 (summing (storing (returning (Result 2 0))))) (function_of 5 (summing (returning (Result 2 0)))) r (r.same 1 (omega arith), (r.same 4 (omega arith), tt)) in
+erased_store a o r =
+    let s = seen a o (function_of 5 (summing (storing (returning (Result 2 0))))) (function_of 5 (summing (returning (Result 2 0)))) r (r.same 1 (omega arith), (r.same 4 (omega arith), tt)) in
     never (sym (ap (λ (h : Header). eqb h.id 3) s.2.0))
 
 pub samples_arent_refined : SamplesArentRefined
-samples_arent_refined = record { wiping = wiping; other_argument = other_argument; erased_store = erased_store }
+samples_arent_refined = record { wiping = wiping; origins = λ a. arguments_stand a all_done; other_argument = other_argument; erased_store = erased_store }

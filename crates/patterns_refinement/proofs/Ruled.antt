@@ -1,6 +1,6 @@
 -- The application of a rule at an operation: its edits, the operation, and the outcomes of the operation and its
 -- operands.
-use Rattle.std.proofs.Common.{◌≡◌, ℕ, zero, suc, ◌<◌, refl, ap, sym, ◌∙◌, subst, List, [], ◌∷◌, map, Bool, true, true≢false, false, ◌&&◌, Option, Some, None, inl, inr, slice_get}
+use Rattle.std.proofs.Common.{◌≡◌, ℕ, zero, suc, ◌<◌, refl, ap, sym, ◌∙◌, subst, List, [], ◌∷◌, map, Bool, true, true≢false, false, ◌&&◌, not, Option, Some, None, ◌⊎◌, inl, inr, slice_get}
 use Rattle.std.specs.Prelude.{codes, if◌then◌else◌, is_some, option_and_then}
 use Rattle.std.specs.List.{list_all}
 use Rattle.std.proofs.lemmas.Bool.{and_parts}
@@ -10,6 +10,8 @@ use Rattle.ir_types.specs.declared.bits.BitsKind.{BitsKind}
 use Rattle.ir_types.specs.Bits.{width_of}
 use Rattle.ir_types.specs.Reasons.{is_width}
 use Rattle.ir_types.specs.Words.{is_isolated}
+use Rattle.ir_types.specs.SameTypes.{same_type}
+use Rattle.ir_types.proofs.SameTerms.{type_is}
 use Rattle.ir_types.specs.Terms.{AttrTerm, TypeTerm}
 use Rattle.ir_tree.specs.declared.value.Value.{Value}
 use Rattle.ir_tree.specs.declared.value.Value.TheVariants.{Result, Arg}
@@ -19,27 +21,32 @@ use Rattle.ir_tree.specs.Ids.{find}
 use Rattle.ir_tree.specs.WellFormed.{IsWellFormed}
 use Rattle.ir_tree.specs.Meaning.{Operation}
 use Rattle.ir_tree_laws.specs.Values.{has_value, type_of_value}
+use Rattle.ir_tree_laws.proofs.Listed.{bool_cases}
 use Rattle.ir_tree_laws.proofs.Reasoned.{some_there}
 use Rattle.ir_event.specs.Modules.{Module}
 use Rattle.ir_event.specs.Step.{IsSorted}
 use Rattle.dialects_int.specs.declared.operations.Rule.{Rule as How}
 use Rattle.dialects_int.specs.declared.operations.Rule.TheVariants as how
-use Rattle.dialects_int.specs.Folds.{Known, fold_of, rule_of}
+use Rattle.dialects_int.specs.Folds.{Known, fold_of, kind_of, rule_of}
 use Rattle.rewriter_machine.specs.Contents.{Edit, all_edited}
 use Rattle.patterns_base.specs.Lists.{Free}
+use Rattle.patterns_laws.specs.Made.{i1}
 use Rattle.patterns_laws.specs.Words.{named}
 use Rattle.patterns_laws.proofs.KnownFolds.{given_some, given_at}
 use Rattle.user_patterns_check.specs.Outcomes.{Outcome, given}
 use Rattle.user_patterns_check.specs.Checks.{refines}
 use Rattle.patterns_base.specs.declared.rule.Rule.{Rule}
-use Rattle.patterns_base.specs.declared.rule.Rule.TheVariants.{EraseDead}
+use Rattle.patterns_base.specs.declared.rule.Rule.TheVariants.{ChooseKnown, ChooseOpposite, ChooseSame, ChooseTruth, EraseDead, FoldToConstant, LowerIndex}
 use Rattle.patterns_base.specs.RuleNames.{is_erasing}
-use Rattle.patterns_base.specs.Looks.{constant_value, insertion_of, defining_op, is_verified, is_in_order, known, source}
+use Rattle.patterns_base.specs.Looks.{constant_value, insertion_of, defining_op, is_number, is_verified, is_in_order, known, source, when}
+use Rattle.patterns_base.specs.Folding.{folded_to, may_read}
+use Rattle.patterns_base.specs.Makes.{give}
 use Rattle.patterns_base.specs.Looks as looks
 use Rattle.patterns_base.specs.Rewrites.{becomes, edits_of, rewrite_of, eligible}
 use Rattle.patterns_base.specs.Rules.{rule}
 use Rattle.patterns_base.proofs.Facts.{edits_are, rewrite_is, when_some}
 use Rattle.patterns_soundness.specs.Accepted.{AreAccepted}
+use Rattle.patterns_soundness.proofs.Shapes.{three_is}
 use Rattle.user_patterns_data.specs.Matching.{Header}
 use Rattle.patterns_refinement.specs.Meaning.{Assignment, is_arithmetic, makes_by, result_kind}
 use Rattle.patterns_refinement.specs.Applied.{IsBelow}
@@ -50,10 +57,11 @@ use Rattle.patterns_refinement.proofs.Applying.{carried, some_edits}
 use Rattle.patterns_refinement.proofs.Wellformed.{is_below, operands_stand}
 use Rattle.patterns_refinement.proofs.Forms.{by_constant, fold_kind, makes_is, named_is}
 use Rattle.patterns_refinement.proofs.Monotone.{same_refined}
-use Rattle.patterns_refinement.proofs.Numeric.{is_numeric, numeric_named}
+use Rattle.patterns_refinement.specs.Choices.{is_select}
+use Rattle.patterns_refinement.proofs.Numeric.{is_numeric, numeric_named, others_select_not}
 use Rattle.patterns_refinement.proofs.OfBits.{IsOfBits}
 use Rattle.patterns_refinement.proofs.Settling.{typed_bits}
-use Rattle.patterns_refinement.proofs.Verified.{HasKind, asks_kind, verified_has_kind, named_select}
+use Rattle.patterns_refinement.proofs.Verified.{HasKind, asks_kind, verified_has_kind}
 use Rattle.patterns_refinement.proofs.Trees.{TypesFound, each_found, found_fit, types_found}
 
 -- ---- a rule at an operation
@@ -100,14 +108,72 @@ ruled accepted r m n x wellformed sorted e =
       verified = suited_verified r m.tree (head g.0) w.0;
     }
 
--- the operation's result has a kind, unless the rule erases
-pub root_has : {r : Rule} {m n : Module} {x : ℕ} → (q : Ruled r m n x) → IsWellFormed is_isolated m → AreKinded m.tree → is_erasing r ≡ false → HasKind (head q.here)
-root_has {r} {m} {n} {x} q wellformed kinded e =
-    verified_has_kind m.tree q.here wellformed.distinct (ap (λ y. find y m.tree) q.id ∙ q.found) (q.verified e) (each_found (λ h. is_kinded m.tree h ≡ true) x m.tree kinded q.here q.found).0
+-- Returns whether a rule applies to operations whose results have no kind: it erases, lowers, or replaces a `select`.
+abbrev pub may_lack : Rule → Bool
+may_lack EraseDead = true
+may_lack ChooseSame = true
+may_lack ChooseKnown = true
+may_lack ChooseOpposite = true
+may_lack LowerIndex = true
+may_lack r = false
 
--- a rule of arithmetic doesn't erase
-pub numeric_stays : (r : Rule) → is_numeric r ≡ true → is_erasing r ≡ false
+lacking_erases : (r : Rule) → may_lack r ≡ false → is_erasing r ≡ false
+lacking_erases EraseDead e = absurd (true≢false e)
+lacking_erases r e = refl
+
+folded_some : (t : Operation) (n : ℕ) (insertion : Place) (o : Operation) (tys : List TypeTerm) (k : Option Known) (es : List Edit) → folded_to t n insertion o tys k ≡ Some es → (y : Known) × (k ≡ Some y)
+folded_some t n insertion o [] None es e = absurd (none-some es e)
+folded_some t n insertion o [] (Some k) es e = absurd (none-some es e)
+folded_some t n insertion o (ty ∷ uy ∷ tys) None es e = absurd (none-some es e)
+folded_some t n insertion o (ty ∷ uy ∷ tys) (Some k) es e = absurd (none-some es e)
+folded_some t n insertion o (ty ∷ []) None es e = absurd (none-some es e)
+folded_some t n insertion o (ty ∷ []) (Some k) es e = (k, refl)
+
+fold_has : (t : Operation) (n : ℕ) (insertion : Place) (o : Operation) (es : List Edit) → rule FoldToConstant t n insertion o ≡ Some es → is_some (result_kind (head o)) ≡ true
+unfolding rule
+fold_has t n insertion o es e =
+    let h = head o in
+    let fold = fold_of h.name h.properties (map (known t) h.operands) h.results in
+    let w = when_some (not (named (codes "arith.constant") h.name) && list_all (may_read t n insertion o) h.operands) (folded_to t n insertion o h.results fold) es e in
+    let k = folded_some t n insertion o h.results fold es w.1 in
+    ap is_some (fold_kind h.name h.properties (map (known t) h.operands) h.results k.0 k.1)
+
+truth_has : (t : Operation) (n : ℕ) (insertion : Place) (o : Operation) (es : List Edit) → rule ChooseTruth t n insertion o ≡ Some es → is_some (result_kind (head o)) ≡ true
+unfolding rule
+truth_has t n insertion o es e =
+    let h = head o in
+    let w = three_is h (λ p. when (named (codes "arith.select") p.name) (when (same_type p.ty i1 && (is_number t 1 p.second && is_number t 0 p.third)) (Some (give h.id p.first)))) es e in
+    let g = when_some (named (codes "arith.select") h.name) (when (same_type w.ty i1 && (is_number t 1 w.second && is_number t 0 w.third)) (Some (give h.id w.first))) es w.makes in
+    let f = when_some (same_type w.ty i1 && (is_number t 1 w.second && is_number t 0 w.third)) (Some (give h.id w.first)) es g.1 in
+    let tests = and_parts (same_type w.ty i1) (is_number t 1 w.second && is_number t 0 w.third) f.0 in
+    ap is_some (ap (λ tys. given (slice_get tys 0) kind_of) w.results ∙ ap kind_of (type_is w.ty i1 tests.0))
+
+-- a `select` to which another rule applies has a kind
+select_has : (r : Rule) (t : Operation) (n : ℕ) (insertion : Place) (o : Operation) (es : List Edit) → may_lack r ≡ false → rule r t n insertion o ≡ Some es → is_select (rule_of (head o).name) ≡ true → is_some (result_kind (head o)) ≡ true
+select_has EraseDead t n insertion o es l e s = absurd (true≢false l)
+select_has ChooseSame t n insertion o es l e s = absurd (true≢false l)
+select_has ChooseKnown t n insertion o es l e s = absurd (true≢false l)
+select_has ChooseOpposite t n insertion o es l e s = absurd (true≢false l)
+select_has LowerIndex t n insertion o es l e s = absurd (true≢false l)
+select_has FoldToConstant t n insertion o es l e s = fold_has t n insertion o es e
+select_has ChooseTruth t n insertion o es l e s = truth_has t n insertion o es e
+select_has r t n insertion o es l e s = absurd (true≢false (sym s ∙ others_select_not r t n insertion o es refl e))
+
+-- the operation's result has a kind, unless the rule also applies to others
+pub root_has : {r : Rule} {m n : Module} {x : ℕ} → (q : Ruled r m n x) → IsWellFormed is_isolated m → AreKinded m.tree → may_lack r ≡ false → HasKind (head q.here)
+root_has {r} {m} {n} {x} q wellformed kinded e = go (bool_cases (is_select (rule_of (head q.here).name)))
+  where
+    go : (is_select (rule_of (head q.here).name) ≡ true) ⊎ (is_select (rule_of (head q.here).name) ≡ false) → HasKind (head q.here)
+    go (inl s) = λ asks. select_has r m.tree m.next q.insertion q.here q.edits e q.made s
+    go (inr s) = verified_has_kind m.tree q.here wellformed.distinct (ap (λ y. find y m.tree) q.id ∙ q.found) (q.verified (lacking_erases r e)) s
+
+-- a rule of arithmetic applies to operations whose results have kinds
+pub numeric_stays : (r : Rule) → is_numeric r ≡ true → may_lack r ≡ false
 numeric_stays EraseDead e = absurd (true≢false (sym e))
+numeric_stays ChooseSame e = absurd (true≢false (sym e))
+numeric_stays ChooseKnown e = absurd (true≢false (sym e))
+numeric_stays ChooseOpposite e = absurd (true≢false (sym e))
+numeric_stays LowerIndex e = absurd (true≢false (sym e))
 numeric_stays r e = refl
 
 -- ---- the outcomes of the operation and its operands
@@ -150,7 +216,7 @@ known_kinds t h kinded r e k i =
 
 -- an operation whose result has no kind has operands of the kinds that it needs
 pub others_are_kinded : OthersAreKinded
-others_are_kinded t h other none =
+others_are_kinded t h none =
     ap (λ k. takes_its (rule_of h.name) k h (map (kind_in t) h.operands)) none ∙ go (rule_of h.name) refl
   where
     go : (q : Option How) → rule_of h.name ≡ q → takes_its (rule_of h.name) None h (map (kind_in t) h.operands) ≡ true
@@ -158,7 +224,7 @@ others_are_kinded t h other none =
     go (Some how.Constant) e = ap (λ q. takes_its q None h (map (kind_in t) h.operands)) e
     go (Some (how.Binary o)) e = ap (λ q. takes_its q None h (map (kind_in t) h.operands)) e
     go (Some how.Compare) e = ap (λ q. takes_its q None h (map (kind_in t) h.operands)) e
-    go (Some how.Select) e = absurd (true≢false (sym (named_select h.name e) ∙ other))
+    go (Some how.Select) e = ap (λ q. takes_its q None h (map (kind_in t) h.operands)) e
     go (Some (how.IntegerCast c)) e = ap (λ q. takes_its q None h (map (kind_in t) h.operands)) e
     go (Some (how.IndexCast c)) e = ap (λ q. takes_its q None h (map (kind_in t) h.operands)) e
 

@@ -1,7 +1,6 @@
 -- A tree after an edit shows what the tree showed.
 use Rattle.std.proofs.Common.{◌≡◌, ℕ, ◌+◌, ◌<◌, ◌≤◌, refl, ap, sym, ◌∙◌, subst, Bool, true, false, true≢false, eqb, eqb-true, Some, List, [], ◌∷◌, ◌++◌, map, ◌⊎◌, inl, inr, arith}
 use Rattle.std.specs.Prelude.{if◌then◌else◌}
-use Rattle.std.specs.List.{list_all}
 use Rattle.std.proofs.lemmas.Option.{same_Some}
 use Rattle.ir_types.specs.Terms.{TypeTerm, AttrTerm}
 use Rattle.ir_types.specs.Words.{is_isolated}
@@ -9,19 +8,16 @@ use Rattle.ir_tree.specs.declared.value.Value.{Value}
 use Rattle.ir_tree.specs.declared.value.Value.TheVariants.{Result}
 use Rattle.ir_tree.specs.declared.place.Place.{Place}
 use Rattle.ir_tree.specs.Tree.{RegionsOf, RegionOf, OpsOf, op, no_regions, region, empty, block, no_ops, next, head, regions}
-use Rattle.ir_tree.specs.Edits.{at, each_head, put_value, put_values, regions_each_head, with_value_replaced}
+use Rattle.ir_tree.specs.Edits.{at, each_head, put_values, regions_each_head, with_value_replaced}
 use Rattle.ir_tree.specs.Ids.{HasDistinctIds, find}
 use Rattle.ir_tree.specs.Places.{drop_op, put, regions_each_list, without}
-use Rattle.ir_tree.specs.Uses.{same_value}
 use Rattle.ir_tree.specs.WellFormed.{IsWellFormed}
 use Rattle.ir_event.specs.Modules.{Module}
 use Rattle.ir_tree.specs.Meaning.{Operation}
-use Rattle.ir_tree.proofs.Replaced.{same_value_true}
 use Rattle.ir_tree_laws.specs.Members.{In}
 use Rattle.ir_tree_laws.specs.Reasons.{with_id}
 use Rattle.ir_tree_laws.specs.Stands.{OpWithPathOf, StepOf, ops_stands, region_stands, regions_stands, stands}
-use Rattle.ir_tree_laws.specs.Values.{has_value}
-use Rattle.ir_tree_laws.proofs.Listed.{all_each, bool_cases, in_left, in_right}
+use Rattle.ir_tree_laws.proofs.Listed.{bool_cases, in_left, in_right}
 use Rattle.ir_tree_laws.proofs.Members.{stand_found}
 use Rattle.user_patterns_check.specs.Checks.{refines}
 use Rattle.user_patterns_check.specs.Outcomes.{Outcome}
@@ -29,14 +25,15 @@ use Rattle.user_patterns_data.specs.Matching.{Header}
 use Rattle.patterns_refinement.specs.Meaning.{Assignment, Each, EachAmong, EachInRegions, is_arithmetic, owner}
 use Rattle.patterns_refinement.specs.After.{rewritten, with_made}
 use Rattle.patterns_refinement.specs.Better.{AllBetter, is_arithmetic_there}
-use Rattle.patterns_refinement.specs.Observing.{AreSameValues, IsSameValue, RegionsFollow, ShownWereThere, Shows, Stays, is_computed, is_unmissed, shown_regions}
+use Rattle.patterns_refinement.specs.Choices.{AreOrigins, Chooses, Origins}
+use Rattle.patterns_refinement.specs.Observing.{RegionsFollow, ShownWereThere, Shows, Stays, is_computed, is_unmissed, shown_regions}
 use Rattle.patterns_refinement.proofs.Edited.{each_both, each_changed}
-use Rattle.patterns_refinement.proofs.Follows.{EachWhole, IsUnmissedAt, WholeAmong, WholeInRegion, WholeInRegions, follows_changed, follows_itself, follows_through, follows_without, unmissed_among_shown, were_there}
-use Rattle.patterns_refinement.proofs.Wellformed.{is_below, operands_stand}
+use Rattle.patterns_refinement.proofs.Follows.{EachWhole, IsUnmissedAt, WholeAmong, WholeInRegion, WholeInRegions, follows_changed, follows_itself, follows_replaced, follows_through, follows_without, unmissed_among_shown, were_there}
+use Rattle.patterns_refinement.proofs.Origins.{Alike, IsKept, all_still_through, kept_chooses, kept_itself, kept_stays, origins_are, origins_grown, origins_later, rewritten_origins}
+use Rattle.patterns_refinement.proofs.Wellformed.{is_below}
 use Rattle.patterns_refinement.proofs.Monotone.{through}
-use Rattle.patterns_refinement.proofs.Rewritten.{AllPut}
+use Rattle.patterns_refinement.proofs.Rewritten.{AllBare, AllPut}
 use Rattle.patterns_refinement.proofs.Settling.{each_by_found}
-use Rattle.patterns_refinement.proofs.Trees.{value_below}
 use Rattle.patterns_refinement.proofs.Shown.{IsNumberAt, each_shown, shown_at, shown_changed, shown_lacks, shown_put, shown_without}
 
 abbrev Regions : Type 0
@@ -97,11 +94,7 @@ whole_inside P (op h rs) s = s.1
 pub number_at : (x : ℕ) (t : Operation) → HasDistinctIds t → is_computed t (Result x 0) ≡ true → Each (IsNumberAt x) t
 number_at x t d e = each_by_found (IsNumberAt x) t d (λ o i j. sym (ap is_arithmetic_there (sym (ap (λ y. find y t) (eqb-true (head o).id x j)) ∙ i)) ∙ e)
 
--- operands that are the same, with refined outcomes
-same_values : (t : Operation) (vs : List Value) → AreSameValues t vs vs
-same_values t [] = tt
-same_values t (v ∷ vs) = (inl refl, same_values t vs)
-
+-- operands with refined outcomes
 pub all_better : (a now : Assignment) → ((v : Value) → refines (a v) (now v) ≡ true) → (vs : List Value) → AllBetter (map a vs) (map now vs)
 all_better a now f [] = tt
 all_better a now f (v ∷ vs) = (f v, all_better a now f vs)
@@ -114,20 +107,21 @@ all_through (x ∷ xs) [] zs p q = absurd p
 all_through (x ∷ xs) (y ∷ ys) [] p q = absurd q
 all_through (x ∷ xs) (y ∷ ys) (z ∷ zs) p q = (through x y z p.0 q.0, all_through xs ys zs p.1 q.1)
 
-pub put_same : (t : Operation) (x : ℕ) (v : Value) → is_computed t (Result x 0) ≡ true → (ws : List Value) → AreSameValues t ws (map (put_value (Result x 0) v) ws)
-put_same t x v e [] = tt
-put_same t x v e (w ∷ ws) = (go (same_value (Result x 0) w) refl, put_same t x v e ws)
-  where
-    go : (b : Bool) → same_value (Result x 0) w ≡ b → IsSameValue t w (if b then v else w)
-    go true i = inr (subst (λ w. is_computed t w ≡ true) (same_value_true (Result x 0) w i) e)
-    go false i = inl refl
-
 -- ---- a tree that is unchanged, except for operations that aren't observable
-pub stays_so : (t : Operation) (a now : Assignment) (later : ℕ → Bool) → ((v : Value) → refines (a v) (now v) ≡ true) → (h : Header) → Stays t a now later h h
-stays_so t a now later f h = record { same = refl; values = same_values t h.operands; better = λ i. all_better a now f h.operands }
+module _ (n : ℕ) (t u : Operation) (a now : Assignment) (later : ℕ → Bool) (f : (v : Value) → refines (a v) (now v) ≡ true) where
+  pub kept_so : (h : Header) → Alike t u h → IsKept n t u a now later h h
+  kept_so h alike = kept_itself n t u a now later (all_better a now f) h alike
 
-each_stays : (t : Operation) (a now : Assignment) (later : ℕ → Bool) → ((v : Value) → refines (a v) (now v) ≡ true) → (u : Operation) → Each (λ h. Unit {0}) u → Each (λ h. Stays t a now later h h) u
-each_stays t a now later f u s = each_both (λ h. Unit {0}) (λ h. Unit {0}) (λ h. Stays t a now later h h) (λ h p q. stays_so t a now later f h) u s s
+  pub stays_so : (h : Header) → Alike t u h → Stays n t u a now later h h
+  stays_so h alike = kept_stays h h (kept_so h alike)
+
+  each_stays : Each (Alike t u) t → Each (λ h. Stays n t u a now later h h) t
+  each_stays alike = each_both (Alike t u) (Alike t u) (λ h. Stays n t u a now later h h) (λ h p q. stays_so h p) t alike alike
+
+  pub follows_so : Each (Alike t u) t → RegionsFollow (Stays n t u a now later) (shown_regions (regions t)) (shown_regions (regions t))
+  follows_so alike =
+      follows_itself (Stays n t u a now later) (shown_regions (regions t))
+      (each_shown (λ h. Stays n t u a now later h h) (regions t) (inside (λ h. Stays n t u a now later h h) t (each_stays alike)))
 
 mutual
   pub units : (t : Operation) → Each (λ h. Unit {0}) t
@@ -142,17 +136,18 @@ mutual
   units_among no_ops = tt
   units_among (next o os) = (units o, units_among os)
 
-pub follows_so : (t : Operation) (a now : Assignment) (later : ℕ → Bool) → ((v : Value) → refines (a v) (now v) ≡ true) → (rs : Regions) → RegionsFollow (Stays t a now later) rs rs
-follows_so t a now later f rs = follows_itself (Stays t a now later) rs (at rs)
-  where
-    at : (rs : Regions) → EachInRegions (λ h. Stays t a now later h h) rs
-    at rs = inside (λ h. Stays t a now later h h) (op root rs) (each_stays t a now later f (op root rs) (units (op root rs)))
-      where
-        root : Header
-        root = record { id = 0; name = []; operands = []; results = []; properties = []; attributes = [] }
+-- an operation that may be erased
+unmissed_at : (t : Operation) (x : ℕ) (here : Operation) → HasDistinctIds t → find x t ≡ Some here → is_unmissed here ≡ true → WholeInRegions (IsUnmissedAt x) (shown_regions (regions t))
+unmissed_at t x here d found unmissed =
+    unmissed_among_shown x (regions t) (whole_inside (IsUnmissedAt x) t (whole_stands (IsUnmissedAt x) [] t (λ s i e.
+    subst (λ o. is_unmissed o ≡ true) (same_Some _ _ (sym found ∙ ap (λ y. find y t) (sym (eqb-true (head s.here).id x e)) ∙ stand_found t d s i)) unmissed)))
 
 -- ---- an operation's result replaced by an existing or a new value
-module _ (x : ℕ) (v : Value) (t : Operation) (numbers : Each (IsNumberAt x) t) where
+-- the operation is arithmetic, or may be erased
+abbrev pub IsReplaceable : ℕ → Operation → Type 0
+IsReplaceable x t = (is_computed t (Result x 0) ≡ true) ⊎ ((here : Operation) × (find x t ≡ Some here) × (is_unmissed here ≡ true))
+
+module _ (x : ℕ) (v : Value) (t : Operation) where
   abbrev f : Header → Header
   f = put_values (Result x 0) v
 
@@ -175,14 +170,20 @@ module _ (x : ℕ) (v : Value) (t : Operation) (numbers : Each (IsNumberAt x) t)
   changed_shown : (u : Operation) → shown_regions (regions (each_head (put_values (Result x 0) v) u)) ≡ regions_each_head (put_values (Result x 0) v) (shown_regions (regions u))
   changed_shown (op h rs) = shown_changed (put_values (Result x 0) v) (λ h. refl) rs
 
-  pub rewritten_shown : (insertion : Place) (n : ℕ) (made : List Operation) → AllPut (λ h. is_arithmetic h ≡ true) n made
-      → shown_regions (regions (rewritten insertion n made x v t)) ≡ regions_each_head (put_values (Result x 0) v) (shown_regions (regions t))
-  rewritten_shown insertion n made s =
+  -- without the operation
+  dropped_shown : (insertion : Place) (n : ℕ) (made : List Operation) → AllPut (λ h. is_arithmetic h ≡ true) n made
+      → shown_regions (regions (rewritten insertion n made x v t)) ≡ regions_each_list (λ p r os. drop_op x os) (head (with_value_replaced (Result x 0) v (with_made insertion n made t))).id 0 (shown_regions (regions (each_head (put_values (Result x 0) v) t)))
+  dropped_shown insertion n made s =
       let u = with_made insertion n made t in
       let w = with_value_replaced (Result x 0) v u in
       let same : shown_regions (regions w) ≡ shown_regions (regions (each_head f t)) = changed_shown u ∙ ap (regions_each_head f) (shown_made insertion n made t s) ∙ sym (changed_shown t) in
       without_shown x w ∙ ap (regions_each_list (λ p r os. drop_op x os) (head w).id 0) same
-      ∙ shown_lacks x (head w).id 0 (regions (each_head f t)) (inside (IsNumberAt x) (each_head f t) (each_changed (IsNumberAt x) (IsNumberAt x) f (λ h p. p) t numbers))
+
+  rewritten_shown : Each (IsNumberAt x) t → (insertion : Place) (n : ℕ) (made : List Operation) → AllPut (λ h. is_arithmetic h ≡ true) n made
+      → shown_regions (regions (rewritten insertion n made x v t)) ≡ regions_each_head (put_values (Result x 0) v) (shown_regions (regions t))
+  rewritten_shown numbers insertion n made s =
+      dropped_shown insertion n made s
+      ∙ shown_lacks x (head (with_value_replaced (Result x 0) v (with_made insertion n made t))).id 0 (regions (each_head f t)) (inside (IsNumberAt x) (each_head f t) (each_changed (IsNumberAt x) (IsNumberAt x) f (λ h p. p) t numbers))
       ∙ changed_shown t
 
   head_made : (insertion : Place) (n : ℕ) (made : List Operation) (t : Operation) → head (with_made insertion n made t) ≡ head t
@@ -198,88 +199,108 @@ module _ (x : ℕ) (v : Value) (t : Operation) (numbers : Each (IsNumberAt x) t)
       one : (u : Operation) → head (without x (with_value_replaced (Result x 0) v u)) ≡ put_values (Result x 0) v (head u)
       one (op h rs) = refl
 
-  pub rewritten_follows : (a now : Assignment) (later : ℕ → Bool) (insertion : Place) (n : ℕ) (made : List Operation) → AllPut (λ h. is_arithmetic h ≡ true) n made
-      → Each (λ h. Stays t a now later h (put_values (Result x 0) v h)) t
-      → RegionsFollow (Stays t a now later) (shown_regions (regions t)) (shown_regions (regions (rewritten insertion n made x v t)))
-  rewritten_follows a now later insertion n made s e =
-      subst (RegionsFollow (Stays t a now later) (shown_regions (regions t))) (sym (rewritten_shown insertion n made s))
-      (follows_changed (Stays t a now later) f (shown_regions (regions t)) (each_shown (λ h. Stays t a now later h (put_values (Result x 0) v h)) (regions t) (inside (λ h. Stays t a now later h (put_values (Result x 0) v h)) t e)))
+  -- the operation is arithmetic
+  computed_follows : (R : Header → Header → Type 0) (insertion : Place) (n : ℕ) (made : List Operation) → AllPut (λ h. is_arithmetic h ≡ true) n made → Each (λ h. R h (put_values (Result x 0) v h)) t
+      → Each (IsNumberAt x) t → RegionsFollow R (shown_regions (regions t)) (shown_regions (regions (rewritten insertion n made x v t)))
+  computed_follows R insertion n made s e numbers =
+      subst (RegionsFollow R (shown_regions (regions t))) (sym (rewritten_shown numbers insertion n made s))
+      (follows_changed R f (shown_regions (regions t)) (each_shown (λ h. R h (put_values (Result x 0) v h)) (regions t) (inside (λ h. R h (put_values (Result x 0) v h)) t e)))
+
+  -- the operation is observable and may be erased
+  dead_follows : (R : Header → Header → Type 0) (insertion : Place) (n : ℕ) (made : List Operation) → AllPut (λ h. is_arithmetic h ≡ true) n made → Each (λ h. R h (put_values (Result x 0) v h)) t
+      → WholeInRegions (IsUnmissedAt x) (shown_regions (regions t)) → RegionsFollow R (shown_regions (regions t)) (shown_regions (regions (rewritten insertion n made x v t)))
+  dead_follows R insertion n made s e unmissed =
+      let y = (head (with_value_replaced (Result x 0) v (with_made insertion n made t))).id in
+      subst (RegionsFollow R (shown_regions (regions t))) (sym (dropped_shown insertion n made s ∙ ap (regions_each_list (λ p r os. drop_op x os) y 0) (changed_shown t)))
+      (follows_replaced R x v y 0 (shown_regions (regions t)) (each_shown (λ h. R h (put_values (Result x 0) v h)) (regions t) (inside (λ h. R h (put_values (Result x 0) v h)) t e)) unmissed)
+
+  pub rewritten_follows : (R : Header → Header → Type 0) (insertion : Place) (n : ℕ) (made : List Operation) → AllPut (λ h. is_arithmetic h ≡ true) n made → Each (λ h. R h (put_values (Result x 0) v h)) t
+      → HasDistinctIds t → IsReplaceable x t → RegionsFollow R (shown_regions (regions t)) (shown_regions (regions (rewritten insertion n made x v t)))
+  rewritten_follows R insertion n made s e d (inl root) = computed_follows R insertion n made s e (number_at x t d root)
+  rewritten_follows R insertion n made s e d (inr dead) = dead_follows R insertion n made s e (unmissed_at t x dead.0 d dead.1 dead.2)
+
+-- the tree shows what the module showed, if each operation is kept
+pub replaced_shows : (m : Module) (x : ℕ) (v : Value) (insertion : Place) (made : List Operation) (a now : Assignment) (later : ℕ → Bool) → HasDistinctIds m.tree → IsReplaceable x m.tree → AllBare made → AllPut (λ h. is_arithmetic h ≡ true) m.next made
+    → Each (λ h. IsKept m.next m.tree (rewritten insertion m.next made x v m.tree) a now later h (put_values (Result x 0) v h)) m.tree
+    → ((w : Value) → owner w < m.next → is_computed m.tree w ≡ false → is_computed (rewritten insertion m.next made x v m.tree) w ≡ false)
+    → Shows a now m later (rewritten insertion m.next made x v m.tree)
+replaced_shows m x v insertion made a now later distinct replaceable bare numbers kept plain =
+    let u = rewritten insertion m.next made x v m.tree in
+    let stays : Each (λ h. Stays m.next m.tree u a now later h (put_values (Result x 0) v h)) m.tree =
+    each_both (λ h. IsKept m.next m.tree u a now later h (put_values (Result x 0) v h)) (λ h. Unit {0}) (λ h. Stays m.next m.tree u a now later h (put_values (Result x 0) v h)) (λ h s q. kept_stays h (put_values (Result x 0) v h) s) m.tree kept (units m.tree) in
+    record {
+      root = λ i. subst (Stays m.next m.tree u a now later (head m.tree)) (sym (rewritten_head x v m.tree insertion m.next made)) (at_root (λ h. Stays m.next m.tree u a now later h (put_values (Result x 0) v h)) m.tree stays);
+      follows = rewritten_follows x v m.tree (Stays m.next m.tree u a now later) insertion m.next made numbers stays distinct replaceable;
+      plain = plain;
+      origins = rewritten_origins m.next x v m.tree insertion made a now later bare numbers kept plain;
+    }
 
 -- ---- an operation erased
-pub erased_follows : (t : Operation) (a now : Assignment) (later : ℕ → Bool) (x : ℕ) (here : Operation) → HasDistinctIds t → find x t ≡ Some here → is_unmissed here ≡ true → ((v : Value) → refines (a v) (now v) ≡ true)
-    → RegionsFollow (Stays t a now later) (shown_regions (regions t)) (shown_regions (regions (without x t)))
-erased_follows t a now later x here d found unmissed f =
-    subst (RegionsFollow (Stays t a now later) (shown_regions (regions t))) (sym (one t))
-    (follows_without (Stays t a now later) x (head t).id 0 (shown_regions (regions t))
-    (each_shown (λ h. Stays t a now later h h) (regions t) (inside (λ h. Stays t a now later h h) t (each_stays t a now later f t (units t))))
-    (unmissed_among_shown x (regions t) (whole_inside (IsUnmissedAt x) t (whole_stands (IsUnmissedAt x) [] t (λ s i e.
-    subst (λ o. is_unmissed o ≡ true) (same_Some _ _ (sym found ∙ ap (λ y. find y t) (sym (eqb-true (head s.here).id x e)) ∙ stand_found t d s i)) unmissed)))))
+pub erased_follows : (R : Header → Header → Type 0) (t : Operation) (x : ℕ) (here : Operation) → HasDistinctIds t → find x t ≡ Some here → is_unmissed here ≡ true → Each (λ h. R h h) t
+    → RegionsFollow R (shown_regions (regions t)) (shown_regions (regions (without x t)))
+erased_follows R t x here d found unmissed each =
+    subst (RegionsFollow R (shown_regions (regions t))) (sym (one t))
+    (follows_without R x (head t).id 0 (shown_regions (regions t)) (each_shown (λ h. R h h) (regions t) (inside (λ h. R h h) t each)) (unmissed_at t x here d found unmissed))
   where
     one : (t : Operation) → shown_regions (regions (without x t)) ≡ regions_each_list (λ p r os. drop_op x os) (head t).id 0 (shown_regions (regions t))
     one (op h rs) = shown_without x h.id 0 rs
 
 -- ---- composed in sequence
--- the operation and the owners of its operands have ids below n
-abbrev pub IsOld : ℕ → Header → Type 0
-IsOld n h = (h.id < n) × ((v : Value) → In v h.operands → owner v < n)
+module _ (a b c : Assignment) (m p w : Operation) (n r : ℕ) (before later : ℕ → Bool) (grows : n ≤ r) (same : (y : ℕ) → y < n → later y ≡ before y) (origins : (o : Origins) → AreOrigins n a o before m → AreOrigins n b o before p) where
+  back : (o : Origins) → AreOrigins n a o later m → AreOrigins n a o before m
+  back o are = origins_later n a o later before m (λ y l. sym (same y l)) are
 
-all_old : (m : Module) → IsWellFormed is_isolated m → Each (IsOld m.next) m.tree
-all_old m wellformed =
-    let below = is_below m.next m.tree wellformed.below in
-    each_both (λ h. h.id < m.next) (λ h. list_all (λ v. has_value v m.tree) h.operands ≡ true) (IsOld m.next)
-    (λ h l e. (l, (λ v i. value_below m.next m.tree below v (all_each (λ v. has_value v m.tree) h.operands e v i)))) m.tree below
-    (operands_stand is_isolated m.tree wellformed.distinct wellformed.wellformed.visible)
+  pub origins_between : (o : Origins) → AreOrigins n a o later m → AreOrigins r b o later p
+  origins_between o are = origins_grown n r b o later p grows (origins_later n b o before later p same (origins o (back o are)))
 
-module _ (a b c : Assignment) (m p : Operation) (n : ℕ) (before later : ℕ → Bool) (same : (y : ℕ) → y < n → later y ≡ before y) (plain : (v : Value) → owner v < n → is_computed m v ≡ false → is_computed p v ≡ false) where
-  values_through : (us vs ws : List Value) → ((v : Value) → In v us → owner v < n) → AreSameValues m us vs → AreSameValues p vs ws → AreSameValues m us ws
-  values_through [] [] [] l s r = tt
-  values_through [] [] (w ∷ ws) l s r = absurd r
-  values_through [] (v ∷ vs) ws l s r = absurd s
-  values_through (u ∷ us) [] ws l s r = absurd s
-  values_through (u ∷ us) (v ∷ vs) [] l s r = absurd r
-  values_through (u ∷ us) (v ∷ vs) (w ∷ ws) l s r = (one (l u (inl refl)) s.0 r.0, values_through us vs ws (λ v i. l v (inr i)) s.1 r.1)
-    where
-      one : owner u < n → IsSameValue m u v → IsSameValue p v w → IsSameValue m u w
-      one l (inr e) r = inr e
-      one l (inl e) (inl i) = inl (i ∙ e)
-      one l (inl e) (inr i) = elim (bool_cases (is_computed m u)) [
-        | inl j ↦ inr j
-        | inr j ↦ absurd (true≢false (sym (subst (λ v. is_computed p v ≡ true) e i) ∙ plain u l j))
-      ]
-
-  stays_through : (h k l : Header) → IsOld n h → Stays m a b before h k → Stays p b c later k l → Stays m a c later h l
-  stays_through h k l old s r =
+  pub stays_through : (h k l : Header) → h.id < n → Stays n m p a b before h k → Stays r p w b c later k l → Stays n m w a c later h l
+  stays_through h k l old s q =
       let own : h.id ≡ k.id = ap (λ (h : Header). h.id) s.same in
-      let last : k.id ≡ l.id = ap (λ (h : Header). h.id) r.same in
+      let last : k.id ≡ l.id = ap (λ (h : Header). h.id) q.same in
       record {
-        same = s.same ∙ r.same;
-        values = values_through h.operands k.operands l.operands old.1 s.values r.values;
-        better = λ i.
+        same = s.same ∙ q.same;
+        choice = λ e. q.choice (s.choice e);
+        still = λ e o are. all_still_through o h.operands k.operands l.operands (s.still e o (back o are)) (q.still (s.choice e) o (origins_between o are));
+        better = λ e i.
             all_through (map a h.operands) (map b k.operands) (map c l.operands)
-            (s.better (ap before (sym own) ∙ sym (same h.id old.0) ∙ ap later (own ∙ last) ∙ i)) (r.better i);
+            (s.better e (ap before (sym own) ∙ sym (same h.id old) ∙ ap later (own ∙ last) ∙ i)) (q.better (s.choice e) i);
       }
 
 -- a module shows what the first module showed, if each shows what the one before showed
 pub shows_through : (a b c : Assignment) (m p : Module) (t : Operation) (before later : ℕ → Bool) → IsWellFormed is_isolated m → m.next ≤ p.next → ((y : ℕ) → y < p.next → later y ≡ before y)
     → Shows a b m before p.tree → Shows b c p later t → Shows a c m later t
 shows_through a b c m p t before later wellformed grows same s r =
-    let old = all_old m wellformed in
-    let through = stays_through a b c m.tree p.tree m.next before later (λ y l. same y (omega (arith, l, grows))) s.plain in
+    let old = is_below m.next m.tree wellformed.below in
+    let less : (y : ℕ) → y < m.next → later y ≡ before y = (λ y l. same y (omega (arith, l, grows))) in
+    let through = stays_through a b c m.tree p.tree t m.next p.next before later grows less s.origins in
     record {
-      root = λ e. let first = s.root e in through (head m.tree) (head p.tree) (head t) (at_root (IsOld m.next) m.tree old) first (r.root (ap is_arithmetic (sym first.same) ∙ e));
+      root = λ e. let first = s.root e in through (head m.tree) (head p.tree) (head t) (at_root (λ h. h.id < m.next) m.tree old) first (r.root (ap is_arithmetic (sym first.same) ∙ e));
       follows =
-          follows_through (IsOld m.next) (Stays m.tree a b before) (Stays p.tree b c later) (Stays m.tree a c later) (λ h k s. ap (λ (h : Header). h.name) s.same) through
-          (shown_regions (regions m.tree)) (shown_regions (regions p.tree)) (shown_regions (regions t)) (each_shown (IsOld m.next) (regions m.tree) (inside (IsOld m.next) m.tree old)) s.follows r.follows;
+          follows_through (λ h. h.id < m.next) (Stays m.next m.tree p.tree a b before) (Stays p.next p.tree t b c later) (Stays m.next m.tree t a c later) (λ h k s. ap (λ (h : Header). h.name) s.same) through
+          (shown_regions (regions m.tree)) (shown_regions (regions p.tree)) (shown_regions (regions t)) (each_shown (λ h. h.id < m.next) (regions m.tree) (inside (λ h. h.id < m.next) m.tree old)) s.follows r.follows;
       plain = λ v l e. r.plain v (omega (arith, l, grows)) (s.plain v l e);
+      origins = λ o are. let last = r.origins o (origins_between a b c m.tree p.tree t m.next p.next before later grows less s.origins o are) in record { chosen = last.chosen; computed = last.computed; unused = are.unused };
     }
+
+-- operations that don't change choose what they chose
+pub same_origins : (n : ℕ) (t u : Operation) (a now : Assignment) (later : ℕ → Bool) → Each (λ h. IsKept n t u a now later h h) t → ((P : Header → Type 0) → Each P t → Each P u)
+    → ((v : Value) → owner v < n → is_computed t v ≡ false → is_computed u v ≡ false) → (o : Origins) → AreOrigins n a o later t → AreOrigins n now o later u
+same_origins n t u a now later kept carry plain o are =
+    origins_are n a now o later t u are plain
+    (carry (Chooses now o later u)
+    (each_both (λ h. IsKept n t u a now later h h) (Chooses a o later t) (Chooses now o later u) (λ h s c. kept_chooses h h s o are c) t kept are.chosen))
 
 -- a module shows what it shows, with refined outcomes
 pub shows_itself : (a now : Assignment) (m : Module) (later : ℕ → Bool) → ((v : Value) → refines (a v) (now v) ≡ true) → Shows a now m later m.tree
 shows_itself a now m later f = record {
-  root = λ e. stays_so m.tree a now later f (head m.tree);
-  follows = follows_so m.tree a now later f (shown_regions (regions m.tree));
+  root = λ e. stays_so m.next m.tree m.tree a now later f (head m.tree) (λ e. e);
+  follows = follows_so m.next m.tree m.tree a now later f (each_alike (Alike m.tree m.tree) (λ h e. e));
   plain = λ v l e. e;
+  origins = same_origins m.next m.tree m.tree a now later (each_alike (λ h. IsKept m.next m.tree m.tree a now later h h) (λ h. kept_so m.next m.tree m.tree a now later f h (λ e. e))) (λ P s. s) (λ v l e. e);
 }
+  where
+    each_alike : (P : Header → Type 0) → ((h : Header) → P h) → Each P m.tree
+    each_alike P p = each_both (λ h. Unit {0}) (λ h. Unit {0}) P (λ h s q. p h) m.tree (units m.tree) (units m.tree)
 
 -- ---- changes of an arithmetic operation in place, which aren't observable
 pub record IsUnseen (x : ℕ) (t u : Operation) : Type 0 where
@@ -312,13 +333,15 @@ unseen_through x t u w p q = record {
   root = λ e. q.root (ap is_arithmetic (p.root e) ∙ e) ∙ p.root e;
 }
 
-pub unseen_shows : (a now : Assignment) (m : Module) (later : ℕ → Bool) (x : ℕ) (u : Operation) → IsUnseen x m.tree u → ((v : Value) → refines (a v) (now v) ≡ true) → ((v : Value) → owner v < m.next → is_computed m.tree v ≡ false → is_computed u v ≡ false) → Shows a now m later u
-unseen_shows a now m later x u s f plain = record {
-  root = λ e. subst (Stays m.tree a now later (head m.tree)) (sym (s.root e)) (stays_so m.tree a now later f (head m.tree));
-  follows = subst (RegionsFollow (Stays m.tree a now later) (shown_regions (regions m.tree))) (sym s.shown) (follows_so m.tree a now later f (shown_regions (regions m.tree)));
+pub unseen_shows : (a now : Assignment) (m : Module) (later : ℕ → Bool) (x : ℕ) (u : Operation) → IsUnseen x m.tree u → ((v : Value) → refines (a v) (now v) ≡ true) → Each (Alike m.tree u) m.tree
+    → ((v : Value) → owner v < m.next → is_computed m.tree v ≡ false → is_computed u v ≡ false) → ((o : Origins) → AreOrigins m.next a o later m.tree → AreOrigins m.next now o later u) → Shows a now m later u
+unseen_shows a now m later x u s f alike plain origins = record {
+  root = λ e. subst (Stays m.next m.tree u a now later (head m.tree)) (sym (s.root e)) (stays_so m.next m.tree u a now later f (head m.tree) (at_root (Alike m.tree u) m.tree alike));
+  follows = subst (RegionsFollow (Stays m.next m.tree u a now later) (shown_regions (regions m.tree))) (sym s.shown) (follows_so m.next m.tree u a now later f alike);
   plain = plain;
+  origins = origins;
 }
 
 -- observable operations were there before
 pub shown_were_there : ShownWereThere
-shown_were_there a now m later t s = were_there (Stays m.tree a now later) (shown_regions (regions m.tree)) (shown_regions (regions t)) s.follows
+shown_were_there a now m later t s = were_there (Stays m.next m.tree t a now later) (shown_regions (regions m.tree)) (shown_regions (regions t)) s.follows

@@ -1,7 +1,7 @@
 -- A module that doesn't show what the module showed isn't an improvement.
 use Rattle.user_patterns_check.proofs.Keeping.{value_refined}
-use Rattle.std.proofs.Common.{◌≡◌, ℕ, refl, ap, sym, ◌∙◌, List, [], ◌∷◌, Bool, true, false, true≢false, eqb, Some, inl, inr, zero, suc, ◌<◌, slice_get, get_or, arith, subst}
-use Rattle.std.specs.Prelude.{codes}
+use Rattle.std.proofs.Common.{◌≡◌, ℕ, refl, ap, sym, ◌∙◌, List, [], ◌∷◌, Bool, true, false, true≢false, eqb, eqb-true, Some, None, inl, inr, zero, suc, ◌<◌, ◌≤◌, slice_get, get_or, arith, subst}
+use Rattle.std.specs.Prelude.{codes, if◌then◌else◌, ◌==◌}
 use Rattle.std.proofs.lemmas.Bool.{and_parts}
 use Rattle.std.proofs.lemmas.Option.{same_Some, none-some}
 use Rattle.ir_types.specs.declared.bits.BitsKind.TheVariants as kind
@@ -19,9 +19,12 @@ use Rattle.dialects_int.specs.Arithmetic.{sum_of}
 use Rattle.dialects_int.specs.Folds as folds
 use Rattle.user_patterns_check.specs.Checks.{refines}
 use Rattle.user_patterns_data.specs.Matching.{Header}
-use Rattle.patterns_refinement.specs.Meaning.{Assignment, Fits, makes, IsOfType, breaks_flags}
+use Rattle.patterns_refinement.specs.Meaning.{Assignment, Fits, makes, IsOfType, breaks_flags, owner}
+use Rattle.patterns_refinement.specs.Better.{gives}
+use Rattle.patterns_refinement.specs.Choices.{AreOrigins}
+use Rattle.patterns_refinement.specs.RefiningSamples.{arguments_of}
 use Rattle.patterns_refinement.specs.Observing.{OpsFollow, Stays, is_unmissed}
-use Rattle.patterns_refinement.specs.ObservingSamples.{AreRefused, ErasedStoreBreaks, ErasedUnknownBreaks, NewConstantBreaks, OtherArgumentBreaks, WipingBreaks, function_of, i8, plain_op, returning, storing, summing, unknown_then, AddedFlagBreaks, OverflowComputes, greatest_and_one, SumComputes, one_and_zero}
+use Rattle.patterns_refinement.specs.ObservingSamples.{AreRefused, ErasedStoreBreaks, ErasedUnknownBreaks, NewConstantBreaks, OtherArgumentBreaks, WipingBreaks, function_of, i8, numbering, plain_op, returning, storing, summing, unknown_then, AddedFlagBreaks, OverflowComputes, greatest_and_one, SumComputes, one_and_zero}
 use Rattle.std.proofs.lemmas.Map.Made.{IsDistinct-from_count}
 use Rattle.std.proofs.lemmas.Cmp.{nat_eq_equiv}
 use Rattle.ir_types.specs.Words.{is_isolated}
@@ -30,7 +33,7 @@ use Rattle.patterns_refinement.specs.Better.{AreKinded}
 use Rattle.patterns_refinement.specs.Keeping.{Computing}
 use Rattle.patterns_refinement.specs.Samples.{all_done}
 
-never : {A : Type 0} → false ≡ true → A
+pub never : {A : Type 0} → false ≡ true → A
 never e = absurd (true≢false (sym e))
 
 -- functions are kept
@@ -47,26 +50,47 @@ unfolding registry.row_of rows.rows
 store_stays = refl
 
 -- how the body of a function follows the body of a function
-module _ (a now : Assignment) (later : ℕ → Bool) (m : Operation) (os ps : OpsOf (List ℕ) TypeTerm AttrTerm) where
-  abbrev R : Header → Header → Type 0
-  R = Stays m a now later
-
+module _ (a now : Assignment) (later : ℕ → Bool) (m t : Operation) (os ps : OpsOf (List ℕ) TypeTerm AttrTerm) where
   abbrev function : OpsOf (List ℕ) TypeTerm AttrTerm → Operation
   function os = op (record { id = 1; name = codes "func.func"; operands = []; results = []; properties = []; attributes = [] }) (region (block (i8 ∷ i8 ∷ []) os) no_regions)
 
-  bodies : OpsFollow (Stays m a now later) (next (function os) no_ops) (next (function ps) no_ops) → OpsFollow (Stays m a now later) os ps
+  bodies : OpsFollow (Stays 5 m t a now later) (next (function os) no_ops) (next (function ps) no_ops) → OpsFollow (Stays 5 m t a now later) os ps
   bodies (inl f) = f.0.1.0.1
   bodies (inr f) = never (sym (function_stays os) ∙ f.0)
 
 -- how a return follows a return
-returned : (a now : Assignment) (later : ℕ → Bool) (m : Operation) (v w : Value) → OpsFollow (Stays m a now later) (returning v) (returning w)
-    → Stays m a now later (head (plain_op 4 (codes "func.return") (v ∷ []) [] [])) (head (plain_op 4 (codes "func.return") (w ∷ []) [] []))
-returned a now later m v w (inl f) = f.0.0
-returned a now later m v w (inr f) = never (sym (return_stays v) ∙ f.0)
+returned : (a now : Assignment) (later : ℕ → Bool) (m t : Operation) (v w : Value) → OpsFollow (Stays 5 m t a now later) (returning v) (returning w)
+    → Stays 5 m t a now later (head (plain_op 4 (codes "func.return") (v ∷ []) [] [])) (head (plain_op 4 (codes "func.return") (w ∷ []) [] []))
+returned a now later m t v w (inl f) = f.0.0
+returned a now later m t v w (inr f) = never (sym (return_stays v) ∙ f.0)
 
 wiping_breaks : WipingBreaks
 unfolding folds.rule_of folds.rules
 wiping_breaks a done later i = never (sym (function_stays (returning (Arg 1 0 0))) ∙ i.shows.follows.0.1.0)
+
+-- a function's arguments may stand for themselves
+pub arguments_unused : (y n : ℕ) → y < n → (v : Value) → n ≤ owner v → arguments_of y v ≡ None
+arguments_unused y n l (Result x k) h = refl
+arguments_unused y n l (Arg x r k) h = go (x == y) refl
+  where
+    less : (x y n : ℕ) → x ≡ y → y < n → n ≤ x → ⊥
+    less x y n e l h = omega (arith, e, l, h)
+
+    go : (b : Bool) → (x == y) ≡ b → (if b then Some (Arg x r k) else None) ≡ None
+    go true e = absurd (less x y n (eqb-true x y e) l h)
+    go false e = refl
+
+pub arguments_stand : (a : Assignment) (later : ℕ → Bool) → AreOrigins 5 a (arguments_of 1) later (function_of 5 (returning (Arg 1 0 0))).tree
+unfolding folds.rule_of folds.rules
+arguments_stand a later = record {
+  chosen = ((λ e. never e), ((((λ e. never e), ((((λ e. never e), tt), tt), tt)), tt), tt));
+  computed = computed;
+  unused = arguments_unused 1 5 (omega arith);
+}
+  where
+    computed : (v : Value) → gives (λ x. true) (function_of 5 (returning (Arg 1 0 0))).tree v ≡ true → arguments_of 1 v ≡ None
+    computed (Result x k) e = refl
+    computed (Arg x r k) e = never e
 
 abbrev which : Value → ℕ
 which (Result x k) = k
@@ -76,17 +100,15 @@ other_argument_breaks : OtherArgumentBreaks
 unfolding folds.rule_of folds.rules
 other_argument_breaks a done later i =
     let m = (function_of 5 (returning (Arg 1 0 0))).tree in
-    let s = returned a i.now later m (Arg 1 0 0) (Arg 1 0 1) (bodies a i.now later m (returning (Arg 1 0 0)) (returning (Arg 1 0 1)) i.shows.follows.0.1) in
-    elim s.values.0 [
-      | inl e ↦ never (ap (λ v. eqb (which v) 0) e)
-      | inr e ↦ never e
-    ]
+    let t = (function_of 5 (returning (Arg 1 0 1))).tree in
+    let s = returned a i.now later m t (Arg 1 0 0) (Arg 1 0 1) (bodies a i.now later m t (returning (Arg 1 0 0)) (returning (Arg 1 0 1)) i.shows.follows.0.1) in
+    never (ap (λ v. eqb (which v) 0) (same_Some (Arg 1 0 1) (Arg 1 0 0) (s.still refl (arguments_of 1) (arguments_stand a later)).0))
 
 erased_store_breaks : ErasedStoreBreaks
 unfolding folds.rule_of folds.rules
 erased_store_breaks a done later i =
     let m = (function_of 5 (summing (storing (returning (Result 2 0))))).tree in
-    elim (bodies a i.now later m (storing (returning (Result 2 0))) (returning (Result 2 0)) i.shows.follows.0.1) [
+    elim (bodies a i.now later m (function_of 5 (summing (returning (Result 2 0)))).tree (storing (returning (Result 2 0))) (returning (Result 2 0)) i.shows.follows.0.1) [
       | inl f ↦ never (sym (ap (λ (h : Header). eqb h.id 3) f.0.0.same))
       | inr f ↦ never (sym store_stays ∙ f.0)
     ]
@@ -99,7 +121,7 @@ erased_unknown_breaks : ErasedUnknownBreaks
 unfolding folds.rule_of folds.rules
 erased_unknown_breaks a done later i =
     let m = (function_of 5 (unknown_then (returning (Arg 1 0 0)))).tree in
-    elim (bodies a i.now later m (unknown_then (returning (Arg 1 0 0))) (returning (Arg 1 0 0)) i.shows.follows.0.1) [
+    elim (bodies a i.now later m (function_of 5 (returning (Arg 1 0 0))).tree (unknown_then (returning (Arg 1 0 0))) (returning (Arg 1 0 0)) i.shows.follows.0.1) [
       | inl f ↦ never (sym (ap (λ (h : Header). eqb h.id 3) f.0.0.same))
       | inr f ↦ never (sym unknown_stays ∙ f.0)
     ]
@@ -117,9 +139,10 @@ unfolding folds.rule_of folds.rules
 new_constant_breaks a done later known d i =
     let m = (function_of 5 (summing (returning (Result 2 0)))).tree in
     let now = i.now in
-    let s = returned a now later m (Result 2 0) (Result 5 0) (bodies a now later m (returning (Result 2 0)) (returning (Result 5 0)) i.shows.follows.0.1) in
+    let t = (function_of 6 (summing (numbering (returning (Result 5 0))))).tree in
+    let s = returned a now later m t (Result 2 0) (Result 5 0) (bodies a now later m t (returning (Result 2 0)) (returning (Result 5 0)) i.shows.follows.0.1) in
     let fed = (and_parts (later 5) true (i.computing.fed.1.0.0.1.0.1.1.0.0 d)).0 in
-    let b = (s.better d).0 in
+    let b = (s.better refl d).0 in
     let is : now (Result 5 0) ≡ Some (kind.Int 8, 42) = elim (i.computing.fits.1.0.0.1.0.1.0.0 fed refl) [
       | inl e ↦ constant_is now e.0
       | inr e ↦ never e.0

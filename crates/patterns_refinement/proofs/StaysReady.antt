@@ -43,7 +43,7 @@ before_replaced : (insertion : Place) (os : List Operation) (x next : ℕ) (v : 
 before_replaced insertion [] x next v m f = f.0
 before_replaced insertion (o ∷ os) x next v m f = before_replaced insertion os x next v (record { tree = put insertion (with_id m.next o) m.tree; next = m.next + 1 }) f.1
 
-same_types : (a b : Option TypeTerm) → is_some a ≡ true → is_some b ≡ true → option_eq same_type a b ≡ true → a ≡ b
+pub same_types : (a b : Option TypeTerm) → is_some a ≡ true → is_some b ≡ true → option_eq same_type a b ≡ true → a ≡ b
 same_types None b e f g = absurd (true≢false (sym e))
 same_types (Some a) None e f g = absurd (true≢false (sym f))
 same_types (Some a) (Some b) e f g = ap (λ z. Some z) (type_is a b g)

@@ -51,6 +51,8 @@ use Rattle.patterns_refinement.specs.Better.{IsSure, is_kind, is_kinded, is_pois
 use Rattle.patterns_refinement.proofs.Frees.{Was, free_still, was_old}
 use Rattle.patterns_refinement.specs.After.{OperandsStand}
 use Rattle.patterns_refinement.specs.Applied.{IsBelow}
+use Rattle.patterns_refinement.specs.Choices.{Chooses}
+use Rattle.patterns_refinement.specs.Observing.{is_computed}
 use Rattle.patterns_refinement.specs.Keeping.{IsFed, KeepsComputing, KeepsReady, done_after, is_there}
 use Rattle.patterns_refinement.proofs.Dropping.{of_two_is}
 use Rattle.patterns_refinement.proofs.Edited.{blocks_changed, each_both, each_changed}
@@ -65,7 +67,8 @@ use Rattle.patterns_refinement.proofs.Rewritten.{same_makes}
 use Rattle.patterns_refinement.proofs.Ruled.{Ruled, of_rule, rule_kinds, ruled, site_of, value_bits, root_has}
 use Rattle.patterns_refinement.proofs.Settling.{each_by_found}
 use Rattle.patterns_refinement.proofs.Trees.{ArgumentsAre, ResultsAre, each_found, value_below}
-use Rattle.patterns_refinement.proofs.Showing.{IsUnseen, at_unseen, number_at, unseen_shows, unseen_through}
+use Rattle.patterns_refinement.proofs.Showing.{IsUnseen, at_unseen, kept_so, number_at, unseen_shows, unseen_through}
+use Rattle.patterns_refinement.proofs.Origins.{Alike, IsOldKind, KeepsKinds, all_alike, kept_chooses, kinds_themselves, no_choice, origins_are}
 
 -- ---- the outcome for swapped operands
 number_there : (o : Arithmetic) → commutes o ≡ true → (w a b : ℕ) → (n : ℕ) × (value_of o w a b ≡ Some n)
@@ -400,8 +403,23 @@ module _ (accepted : AreAccepted) where
             let t = each_head (at x first) m.tree in
             let two = at_unseen x second (λ h. refl) t one.numbers in
             let unseen : IsUnseen x m.tree n.tree = subst (IsUnseen x m.tree) tree (unseen_through x m.tree t (each_head (at x second) t) one two) in
-            unseen_shows a a m later x n.tree unseen (λ v. itself (a v))
-            (free_still m.next (λ y. true) (λ y. true) m.tree n.tree
+            let plain : (v : Value) → owner v < m.next → is_computed m.tree v ≡ false → is_computed n.tree v ≡ false =
+            free_still m.next (λ y. true) (λ y. true) m.tree n.tree
             (subst (λ t. Each (Was m.next (λ y. true) (λ y. true) m.tree) t) tree
-            (swapped_each x w.first w.second q.here w.operands own (Was m.next (λ y. true) (λ y. true) m.tree) (Was m.next (λ y. true) (λ y. true) m.tree) (λ h p. p) (λ p. p) m.tree it (was_old m.next (λ y. true) (λ y. true) m.tree ready.wellformed.distinct (λ y l i. refl)))));
+            (swapped_each x w.first w.second q.here w.operands own (Was m.next (λ y. true) (λ y. true) m.tree) (Was m.next (λ y. true) (λ y. true) m.tree) (λ h p. p) (λ p. p) m.tree it (was_old m.next (λ y. true) (λ y. true) m.tree ready.wellformed.distinct (λ y l i. refl)))) in
+            let old = kinds_themselves m.next m.tree ready.wellformed.distinct below in
+            let kinds : KeepsKinds m.next m.tree n.tree =
+            subst (KeepsKinds m.next m.tree) tree
+            (record {
+              results = swapped_each x w.first w.second q.here w.operands own (ResultsAre (IsOldKind m.next m.tree)) (ResultsAre (IsOldKind m.next m.tree)) (λ h p. p) (λ p. p) m.tree it old.results;
+              arguments = swapped_blocks x w.first w.second q.here w.operands own (ArgumentsAre (IsOldKind m.next m.tree)) m.tree old.arguments;
+            }) in
+            let alike = all_alike m.next m.tree n.tree kinds below (operands_stand is_isolated m.tree ready.wellformed.distinct ready.wellformed.wellformed.visible) in
+            unseen_shows a a m later x n.tree unseen (λ v. itself (a v)) alike plain
+            (λ o are. origins_are m.next a a o later m.tree n.tree are plain
+            (subst (λ t. Each (Chooses a o later n.tree) t) tree
+            (swapped_each x w.first w.second q.here w.operands own (λ h. Alike m.tree n.tree h × Chooses a o later m.tree h) (Chooses a o later n.tree)
+            (λ h p. kept_chooses h h (kept_so m.next m.tree n.tree a a later (λ v. itself (a v)) h p.0) o are p.1)
+            (λ p i. absurd (true≢false (sym i ∙ no_choice n.tree (record h { operands = w.second ∷ w.first ∷ [] }) k.arithmetic)))
+            m.tree it (each_both (Alike m.tree n.tree) (Chooses a o later m.tree) (λ h. Alike m.tree n.tree h × Chooses a o later m.tree h) (λ h p q. (p, q)) m.tree alike are.chosen))));
       }

@@ -27,7 +27,6 @@ use Rattle.patterns_laws.specs.Keeps.{is_true_when_equal}
 use Rattle.patterns_laws.specs.Words.{named}
 use Rattle.patterns_laws.proofs.KnownFolds.{given_some}
 use Rattle.patterns_base.specs.declared.rule.Rule.{Rule}
-use Rattle.patterns_base.specs.RuleNames.{is_erasing}
 use Rattle.patterns_base.specs.declared.rule.Rule.TheVariants.{CompareItself, CompareZero}
 use Rattle.patterns_base.specs.Looks.{is_number, known, predicate, two, when}
 use Rattle.patterns_base.specs.Makes.{give_constant}
@@ -44,7 +43,7 @@ use Rattle.patterns_refinement.proofs.Firsts.{poison_refined}
 use Rattle.patterns_refinement.proofs.Forms.{named_is}
 use Rattle.patterns_refinement.proofs.MadeOf.{compares_kind}
 use Rattle.patterns_refinement.proofs.Monotone.{same_refined}
-use Rattle.patterns_refinement.proofs.Ruled.{Ruled, Site, gives_refined, of_rule, rule_kinds, ruled, site_of, root_has}
+use Rattle.patterns_refinement.proofs.Ruled.{may_lack, Ruled, Site, gives_refined, of_rule, rule_kinds, ruled, site_of, root_has}
 use Rattle.patterns_refinement.proofs.Trees.{each_found}
 
 pub by_compare : rule_of (codes "arith.cmpi") ≡ Some how.Compare
@@ -133,7 +132,7 @@ module _ (accepted : AreAccepted) where
         edits = same_Some _ _ h.1;
       }
 
-  truth_number : (r : Rule) (m n : Module) (x : ℕ) (q : Ruled r m n x) (what : ℕ → Value → Value → Bool) (truth_of : ℕ → ℕ) (c : OfComparison r m n x q what truth_of) → is_erasing r ≡ false → IsReady m → is_bits (kind.Int 1) (truth_of c.number) ≡ true → GivesNumber r m n x q
+  truth_number : (r : Rule) (m n : Module) (x : ℕ) (q : Ruled r m n x) (what : ℕ → Value → Value → Bool) (truth_of : ℕ → ℕ) (c : OfComparison r m n x q what truth_of) → may_lack r ≡ false → IsReady m → is_bits (kind.Int 1) (truth_of c.number) ≡ true → GivesNumber r m n x q
   truth_number r m n x q what truth_of c stays ready bits =
       let k = rule_kinds m.tree (head q.here) (each_found (λ h. is_kinded m.tree h ≡ true) x m.tree ready.kinded q.here q.found).0 (root_has q ready.wellformed ready.kinded stays) how.Compare c.name in
       let one = compares_kind k.kind (kind_in m.tree c.first) (kind_in m.tree c.second) (subst (λ vs. takes how.Compare (head q.here) k.kind (map (kind_in m.tree) vs) ≡ true) c.operands k.operands) in

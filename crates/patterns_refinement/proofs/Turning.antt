@@ -1,5 +1,5 @@
 -- Rules that change an operation in place keep modules ready and refine what they compute.
-use Rattle.std.proofs.Common.{◌≡◌, ℕ, ◌<◌, refl, ap, sym, ◌∙◌, subst, List, map, Bool, true, false, eqb, eqb-true, eq-eqb, Some, ◌⊎◌, inl, inr}
+use Rattle.std.proofs.Common.{◌≡◌, ℕ, ◌<◌, refl, ap, sym, ◌∙◌, subst, List, map, Bool, true, false, true≢false, eqb, eqb-true, eq-eqb, Some, ◌⊎◌, inl, inr}
 use Rattle.std.specs.Prelude.{if◌then◌else◌}
 use Rattle.std.specs.List.{list_all}
 use Rattle.std.proofs.lemmas.Option.{same_Some}
@@ -24,6 +24,7 @@ use Rattle.patterns_refinement.proofs.FlagsKept.{obeys_unbroken}
 use Rattle.patterns_refinement.specs.Meaning.{ArgumentsOfTypes, AreOfTypes, Assignment, Each, EachBlock, FitsDone, ResultsOfTypes, is_arithmetic, makes, owner, result_kind, Obeys, breaks_flags}
 use Rattle.patterns_refinement.specs.Applied.{IsBelow}
 use Rattle.patterns_refinement.specs.Better.{AllSure, AreKinded, GivesLess, GivesNoLess, IsSure, gives, is_arithmetic_there, is_kinded, kind_in, may_overflow, takes_its, KeepsFlags}
+use Rattle.patterns_refinement.specs.Choices.{AreOrigins, Chooses, Origins}
 use Rattle.patterns_refinement.specs.Keeping.{Computing, Improves, IsFed, IsReady, done_after, is_there}
 use Rattle.patterns_refinement.proofs.Edited.{blocks_changed, each_both, each_changed}
 use Rattle.patterns_refinement.proofs.Wellformed.{is_below, operands_stand}
@@ -32,7 +33,8 @@ use Rattle.patterns_refinement.proofs.Giving.{after_old}
 use Rattle.patterns_refinement.proofs.Monotone.{itself}
 use Rattle.patterns_refinement.proofs.Readied.{AreKinds, HasKind, Rises, Takes, all_rise, each_rises, kinds_are, kinds_found, same_kinds_of}
 use Rattle.patterns_refinement.proofs.Settling.{each_by_found, settles}
-use Rattle.patterns_refinement.proofs.Showing.{IsUnseen, at_unseen, number_at, unseen_shows, unseen_through}
+use Rattle.patterns_refinement.proofs.Origins.{Alike, IsOldKind, KeepsKinds, all_alike, kept_chooses, kinds_themselves, no_choice, origins_are}
+use Rattle.patterns_refinement.proofs.Showing.{IsUnseen, at_unseen, kept_so, number_at, unseen_shows, unseen_through}
 use Rattle.patterns_refinement.proofs.Swapping.{Low, fed_later, still_there}
 use Rattle.patterns_refinement.proofs.Trees.{ArgumentsAre, ResultsAre}
 
@@ -50,7 +52,7 @@ KeepsId f = (h : Header) → h.id ≡ (f h).id
 abbrev pub KeepsNumber : (Header → Header) → Type 0
 KeepsNumber f = (h : Header) → is_arithmetic (f h) ≡ is_arithmetic h
 
-same_id : (x : ℕ) (f : Header → Header) → KeepsId f → (h : Header) → h.id ≡ (at x f h).id
+pub same_id : (x : ℕ) (f : Header → Header) → KeepsId f → (h : Header) → h.id ≡ (at x f h).id
 same_id x f k h = go (eqb h.id x)
   where
     go : (b : Bool) → h.id ≡ (if b then f h else h).id
@@ -65,14 +67,14 @@ module _ (x : ℕ) (f g h : Header → Header) (own_f : KeepsId f) (own_g : Keep
   abbrev changed : Header → Header
   changed j = at x h (at x g (at x f j))
 
-  its_change : at x h (at x g (at x f (head o))) ≡ last
+  pub its_change : at x h (at x g (at x f (head o))) ≡ last
   its_change =
       let first = f (head o) in
       let at_first : eqb (f (head o)).id x ≡ true = ap (λ y. eqb y x) (sym (own_f (head o))) ∙ own in
       let at_second : eqb (g (f (head o))).id x ≡ true = ap (λ y. eqb y x) (sym (own_g (f (head o)))) ∙ at_first in
       ap (λ j. at x h (at x g j)) (at_it x f (head o) own) ∙ ap (at x h) (at_it x g (f (head o)) at_first) ∙ at_it x h (g (f (head o))) at_second ∙ is
 
-  other_change : (j : Header) → eqb j.id x ≡ false → at x h (at x g (at x f j)) ≡ j
+  pub other_change : (j : Header) → eqb j.id x ≡ false → at x h (at x g (at x f j)) ≡ j
   other_change j e = ap (λ j. at x h (at x g j)) (at_another x f j e) ∙ ap (at x h) (at_another x g j e) ∙ at_another x h j e
 
   abbrev IsIt : Header → Type 0
@@ -125,15 +127,15 @@ module _ (m n : Module) (x : ℕ) (o : Operation) (w : Turns m n x o) (ready : I
   abbrev last : Header
   last = record (head o) { operands = w.operands; properties = w.properties }
 
-  it : Each (λ j. eqb j.id x ≡ true → j ≡ head o) m.tree
+  pub it : Each (λ j. eqb j.id x ≡ true → j ≡ head o) m.tree
   it = each_by_found (λ j. eqb j.id x ≡ true → j ≡ head o) m.tree ready.wellformed.distinct (λ p e i. ap head (same_Some _ _ (sym (ap (λ y. find y m.tree) (sym (eqb-true (head p).id x i)) ∙ e) ∙ w.found)))
 
-  abbrev each : (P Q : Header → Type 0) → ((j : Header) → P j → Q j) → (P (head o) → Q (record (head o) { operands = w.operands; properties = w.properties })) → Each P m.tree → Each Q n.tree
+  abbrev pub each : (P Q : Header → Type 0) → ((j : Header) → P j → Q j) → (P (head o) → Q (record (head o) { operands = w.operands; properties = w.properties })) → Each P m.tree → Each Q n.tree
   each P Q other its s =
       subst (λ t. Each Q t) w.tree
       (turned_each x w.first w.second w.third w.own_first w.own_second w.own_third o (eq-eqb (head o).id x w.own) (record (head o) { operands = w.operands; properties = w.properties }) w.becomes P Q other its m.tree it s)
 
-  abbrev all_blocks : (Q : ℕ → ℕ → List TypeTerm → Type 0) → EachBlock Q m.tree → EachBlock Q n.tree
+  abbrev pub all_blocks : (Q : ℕ → ℕ → List TypeTerm → Type 0) → EachBlock Q m.tree → EachBlock Q n.tree
   all_blocks Q s =
       subst (λ t. EachBlock Q t) w.tree
       (turned_blocks x w.first w.second w.third w.own_first w.own_second w.own_third o (eq-eqb (head o).id x w.own) (record (head o) { operands = w.operands; properties = w.properties }) w.becomes Q m.tree s)
@@ -154,6 +156,15 @@ module _ (m n : Module) (x : ℕ) (o : Operation) (w : Turns m n x o) (ready : I
             (λ h p s. ap (takes_its (rule_of h.name) (result_kind h) h) (same_kinds_of (kind_in n.tree) value_types (λ v. has_value v n.tree) (kinds_found value_types n.tree are) h.operands s) ∙ p) n.tree
             (each (λ h. is_kinded m.tree h ≡ true) (Takes value_types) (λ h p. p) (λ p. taken) ready.kinded)
             (operands_stand is_isolated n.tree w.wellformed.distinct w.wellformed.wellformed.visible);
+      }
+
+  -- old values have the kinds that they had
+  pub turned_kinds : KeepsKinds m.next m.tree n.tree
+  turned_kinds =
+      let old = kinds_themselves m.next m.tree ready.wellformed.distinct (is_below m.next m.tree ready.wellformed.below) in
+      record {
+        results = each (ResultsAre (IsOldKind m.next m.tree)) (ResultsAre (IsOldKind m.next m.tree)) (λ h p. p) (λ p. p) old.results;
+        arguments = all_blocks (ArgumentsAre (IsOldKind m.next m.tree)) old.arguments;
       }
 
   -- the effect of the change
@@ -210,6 +221,18 @@ module _ (m n : Module) (x : ℕ) (o : Operation) (w : Turns m n x o) (ready : I
     all_plain : Each (Was m.next (λ y. true) (λ y. true) m.tree) n.tree
     all_plain = each (Was m.next (λ y. true) (λ y. true) m.tree) (Was m.next (λ y. true) (λ y. true) m.tree) (λ h p. p) (λ p i l j. p i l k.arithmetic) (was_old m.next (λ y. true) (λ y. true) m.tree ready.wellformed.distinct (λ y l i. refl))
 
+    alike : Each (Alike m.tree n.tree) m.tree
+    alike = all_alike m.next m.tree n.tree turned_kinds below (operands_stand is_isolated m.tree ready.wellformed.distinct ready.wellformed.wellformed.visible)
+
+    -- a changed arithmetic operation is no choice
+    turned_origins : (now : Assignment) → ((v : Value) → refines (a v) (now v) ≡ true) → (origin : Origins) → AreOrigins m.next a origin later m.tree → AreOrigins m.next now origin later n.tree
+    turned_origins now better origin are =
+        origins_are m.next a now origin later m.tree n.tree are (free_still m.next (λ y. true) (λ y. true) m.tree n.tree all_plain)
+        (each (λ h. Alike m.tree n.tree h × Chooses a origin later m.tree h) (Chooses now origin later n.tree)
+        (λ h p. kept_chooses h h (kept_so m.next m.tree n.tree a now later better h p.0) origin are p.1)
+        (λ p i. absurd (true≢false (sym i ∙ no_choice n.tree (record (head o) { operands = w.operands; properties = w.properties }) k.arithmetic)))
+        (each_both (Alike m.tree n.tree) (Chooses a origin later m.tree) (λ h. Alike m.tree n.tree h × Chooses a origin later m.tree h) (λ h p q. (p, q)) m.tree alike are.chosen))
+
     unseen : IsUnseen x m.tree n.tree
     unseen =
         let one = at_unseen x w.first w.number_first m.tree (number_at x m.tree ready.wellformed.distinct (ap is_arithmetic_there w.found ∙ k.arithmetic)) in
@@ -234,5 +257,5 @@ module _ (m n : Module) (x : ℕ) (o : Operation) (w : Turns m n x o) (ready : I
           stays = λ v l e. s.stays v (free v l e);
           free = free;
           computing = record { fits = s.fits; typed = s.typed; sure = s.sure; fed = all_fed };
-          shows = unseen_shows a s.now m (done_after m.next x done) x n.tree unseen s.better (free_still m.next (λ y. true) (λ y. true) m.tree n.tree all_plain);
+          shows = unseen_shows a s.now m (done_after m.next x done) x n.tree unseen s.better alike (free_still m.next (λ y. true) (λ y. true) m.tree n.tree all_plain) (turned_origins s.now s.better);
         }

@@ -56,7 +56,8 @@ use Rattle.patterns_laws.specs.Keeps.{Each as EachIn}
 use Rattle.user_patterns_check.specs.Outcomes.{given}
 use Rattle.user_patterns_data.specs.Matching.{Header}
 use Rattle.patterns_refinement.specs.Meaning.{result_kind}
-use Rattle.patterns_refinement.specs.Better.{are_its_bits, compares, has_no_condition, is_kind, is_kinded, kind_in, narrows, takes, takes_its}
+use Rattle.patterns_refinement.specs.Better.{are_its_bits, compares, is_kind, is_kinded, kind_in, narrows, takes, takes_its}
+use Rattle.patterns_refinement.specs.Choices.{is_select}
 use Rattle.patterns_refinement.specs.Verified.{VerifiedIsReady, has_width, is_covered, is_in_range, is_within, is_within_by}
 use Rattle.patterns_refinement.proofs.Wellformed.{each_stands}
 use Rattle.patterns_refinement.proofs.Trees.{each_found}
@@ -253,6 +254,11 @@ result_fits known a (u ∷ v ∷ us) e = absurd (more_than_none (length (there u
 abbrev kinds_of_types : List (Option TypeTerm) → List (Option BitsKind)
 kinds_of_types ts = map (λ t. given t kind_of) ts
 
+-- Returns whether the first kind is i1.
+abbrev pub is_by_truth : List (Option BitsKind) → Bool
+is_by_truth [] = false
+is_by_truth (c ∷ js) = is_kind (kind.Int 1) c
+
 record Verified (r : How) (name : List ℕ) (ts : List (Option TypeTerm)) (us : List TypeTerm) : Type 0 where
   known : Known
   number : known.number ≡ first_called type.Number (asks_of r).0.first ts
@@ -355,12 +361,12 @@ module _ (h : Header) (ts : List (Option TypeTerm)) (us : List TypeTerm) where
       some_kind None e = absurd (true≢false (sym e))
       some_kind (Some k) e = (k, refl)
 
-  selects_by_truth : (name : List ℕ) → Verified how.Select name ts us → has_no_condition (kinds_of_types ts) ≡ false
+  selects_by_truth : (name : List ℕ) → Verified how.Select name ts us → is_by_truth (kinds_of_types ts) ≡ true
   selects_by_truth name v =
       let w = three_fit v.known type.Boolean type.Any type.Same ts v.requested in
       let all : types_fit v.known (types (type.Boolean ∷ type.Any ∷ type.Same ∷ [])) (w.0 ∷ w.1 ∷ w.2 ∷ []) ≡ true = sym (ap (types_fit v.known (types (type.Boolean ∷ type.Any ∷ type.Same ∷ []))) w.3) ∙ v.requested in
       let c = there_is is_boolean w.0 (and_parts (is_there is_boolean w.0) _ all).0 in
-      ap (λ ts. has_no_condition (kinds_of_types ts)) w.3 ∙ ap not (its_kind (given w.0 kind_of) (kind.Int 1) (known_kind w.0 c.0 (kind.Int 1) c.1 (truth_kind c.0 c.2)))
+      ap (λ ts. is_by_truth (kinds_of_types ts)) w.3 ∙ its_kind (given w.0 kind_of) (kind.Int 1) (known_kind w.0 c.0 (kind.Int 1) c.1 (truth_kind c.0 c.2))
 
   narrows_so : (c : Cast) (v w : ℕ) → (c ≡ cuts.Truncate → nat_lt w v ≡ true) → narrows c (Some (kind.Int v)) (kind.Int w) ≡ true
   narrows_so cuts.Truncate v w less = less refl
@@ -484,29 +490,25 @@ module _ (t : Operation) (distinct : HasDistinctIds t) (s : OpWithPath) (here : 
       (sym (ap (λ o. breaks_none (option_map broken (option_map (surround t) o))) (stand_of_member t distinct s here))
       ∙ (and_parts (breaks_none (broken_at h.id t)) (has_own_properties h) e).0)
 
-  verified_here : is_verified t h ≡ true → is_kinded t h ≡ true → HasKind h
-  verified_here verified kinded asks = go (rule_of h.name) refl asks
+  verified_here : is_verified t h ≡ true → is_select (rule_of h.name) ≡ false → HasKind h
+  verified_here verified other asks = go (rule_of h.name) refl asks
     where
       none : broken around ≡ []
       none = verified_none verified
-
-      selected : rule_of h.name ≡ Some how.Select → (k : Option BitsKind) → result_kind h ≡ k → is_some k ≡ true
-      selected e None i =
-          absurd (true≢false (sym (
-          sym (selects_by_truth h (map (λ v. type_of_value v t) h.operands) h.results h.name (form_verified how.Select e none))
-          ∙ sym (ap has_no_condition (kinds_are t h.operands))
-          ∙ sym (ap (λ q. takes_its q (result_kind h) h (map (kind_in t) h.operands)) e ∙ ap (λ k. takes_its (Some how.Select) k h (map (kind_in t) h.operands)) i)
-          ∙ kinded)))
-      selected e (Some k) i = refl
 
       go : (q : Option How) → rule_of h.name ≡ q → asks_kind q ≡ true → is_some (result_kind h) ≡ true
       go None e asks = absurd (true≢false (sym asks))
       go (Some how.Constant) e asks = absurd (true≢false (sym asks))
       go (Some (how.Binary o)) e asks = ap is_some (takes_pair h (map (λ v. type_of_value v t) h.operands) h.results o h.name (form_verified (how.Binary o) e none)).is
       go (Some how.Compare) e asks = ap is_some (takes_compare h (map (λ v. type_of_value v t) h.operands) h.results h.name (form_verified how.Compare e none)).is
-      go (Some how.Select) e asks = selected e (result_kind h) refl
+      go (Some how.Select) e asks = absurd (true≢false (ap is_select (sym e) ∙ other))
       go (Some (how.IntegerCast c)) e asks = ap is_some (takes_resize h (map (λ v. type_of_value v t) h.operands) h.results c h.name (rule_fits h.name (how.IntegerCast c) e).1 (form_verified (how.IntegerCast c) e none)).is
       go (Some (how.IndexCast c)) e asks = ap is_some (takes_index_cast h (map (λ v. type_of_value v t) h.operands) h.results c h.name (rule_fits h.name (how.IndexCast c) e).1 (form_verified (how.IndexCast c) e none)).is
+
+  -- a verified `select` has a condition of i1
+  truth_here : is_verified t h ≡ true → rule_of h.name ≡ Some how.Select → is_by_truth (map (kind_in t) h.operands) ≡ true
+  truth_here verified e =
+      ap is_by_truth (kinds_are t h.operands) ∙ selects_by_truth h (map (λ v. type_of_value v t) h.operands) h.results h.name (form_verified how.Select e (verified_none verified))
 
   -- an operation without diagnostics has operands of the kinds that it needs
   module _ (silent : diagnostics_of t ≡ []) where
@@ -537,7 +539,7 @@ module _ (t : Operation) (distinct : HasDistinctIds t) (s : OpWithPath) (here : 
         go None e p = refl
         go (Some k) e p = both_true _ _ (width_is h.results k p.0 e) p.1
 
-    operation_kinded : is_in_range h ≡ true → is_within_by (rule_of h.name) (result_kind h) (map (kind_in t) h.operands) beyond ≡ true → is_kinded t h ≡ true
+    operation_kinded : is_in_range h ≡ true → is_within_by (rule_of h.name) (result_kind h) beyond ≡ true → is_kinded t h ≡ true
     operation_kinded right within = go (rule_of h.name) refl within
       where
         widths : list_all (λ ty. has_width (kind_of ty)) h.results ≡ true
@@ -547,11 +549,11 @@ module _ (t : Operation) (distinct : HasDistinctIds t) (s : OpWithPath) (here : 
         of_kind None b i w = inl i
         of_kind (Some k) b i w = inr w
 
-        selects : rule_of h.name ≡ Some how.Select → (k : Option BitsKind) → result_kind h ≡ k → is_within_by (Some how.Select) k (map (kind_in t) h.operands) beyond ≡ true → is_kinded t h ≡ true
-        selects e None i w = (λ j. takes_its (e j) (i j) h (map (kind_in t) h.operands)) ∙ w
-        selects e (Some k) i w = takes_within how.Select e (takes_select h (map (λ v. type_of_value v t) h.operands) h.results h.name (ap is_some i) (form_verified how.Select e (none_here w))) widths
+        selects : rule_of h.name ≡ Some how.Select → is_covered beyond ≡ true → (k : Option BitsKind) → result_kind h ≡ k → is_kinded t h ≡ true
+        selects e c None i = (λ j. takes_its (e j) (i j) h (map (kind_in t) h.operands))
+        selects e c (Some k) i = takes_within how.Select e (takes_select h (map (λ v. type_of_value v t) h.operands) h.results h.name (ap is_some i) (form_verified how.Select e (none_here c))) widths
 
-        go : (q : Option How) → rule_of h.name ≡ q → is_within_by q (result_kind h) (map (kind_in t) h.operands) beyond ≡ true → is_kinded t h ≡ true
+        go : (q : Option How) → rule_of h.name ≡ q → is_within_by q (result_kind h) beyond ≡ true → is_kinded t h ≡ true
         go None e w = ap (λ q. takes_its q (result_kind h) h (map (kind_in t) h.operands)) e
         go (Some how.Constant) e w = constant_kinded e right
         go (Some (how.Binary o)) e w = elim (of_kind (result_kind h) (is_covered beyond) refl w) [
@@ -562,7 +564,10 @@ module _ (t : Operation) (distinct : HasDistinctIds t) (s : OpWithPath) (here : 
           | inl i ↦ (λ j. takes_its (e j) (i j) h (map (kind_in t) h.operands))
           | inr c ↦ takes_within how.Compare e (takes_compare h (map (λ v. type_of_value v t) h.operands) h.results h.name (form_verified how.Compare e (none_here c))) widths
         ]
-        go (Some how.Select) e w = selects e (result_kind h) refl w
+        go (Some how.Select) e w = elim (of_kind (result_kind h) (is_covered beyond) refl w) [
+          | inl i ↦ (λ j. takes_its (e j) (i j) h (map (kind_in t) h.operands))
+          | inr c ↦ selects e c (result_kind h) refl
+        ]
         go (Some (how.IntegerCast c)) e w = elim (of_kind (result_kind h) (is_covered beyond) refl w) [
           | inl i ↦ (λ j. takes_its (e j) (i j) h (map (kind_in t) h.operands))
           | inr b ↦ takes_within (how.IntegerCast c) e (takes_resize h (map (λ v. type_of_value v t) h.operands) h.results c h.name (rule_fits h.name (how.IntegerCast c) e).1 (form_verified (how.IntegerCast c) e (none_here b))) widths
@@ -572,12 +577,19 @@ module _ (t : Operation) (distinct : HasDistinctIds t) (s : OpWithPath) (here : 
           | inr b ↦ takes_within (how.IndexCast c) e (takes_index_cast h (map (λ v. type_of_value v t) h.operands) h.results c h.name (rule_fits h.name (how.IndexCast c) e).1 (form_verified (how.IndexCast c) e (none_here b))) widths
         ]
 
--- a verified operation of a tree has a kind, if it needs one
-pub verified_has_kind : (t o : Operation) → HasDistinctIds t → find (head o).id t ≡ Some o → is_verified t (head o) ≡ true → is_kinded t (head o) ≡ true → HasKind (head o)
-verified_has_kind t o distinct e verified kinded =
+-- a verified operation of a tree has a kind, if it needs one and is no `select`
+pub verified_has_kind : (t o : Operation) → HasDistinctIds t → find (head o).id t ≡ Some o → is_verified t (head o) ≡ true → is_select (rule_of (head o).name) ≡ false → HasKind (head o)
+verified_has_kind t o distinct e verified other =
     let w = found_stands (head o).id t o e in
     subst (λ (z : Operation). HasKind (head z)) w.3
-    (verified_here t distinct w.0 w.1 (subst (λ (z : Operation). is_verified t (head z) ≡ true) (sym w.3) verified) (subst (λ (z : Operation). is_kinded t (head z) ≡ true) (sym w.3) kinded))
+    (verified_here t distinct w.0 w.1 (subst (λ (z : Operation). is_verified t (head z) ≡ true) (sym w.3) verified) (subst (λ (z : Operation). is_select (rule_of (head z).name) ≡ false) (sym w.3) other))
+
+-- a verified `select` of a tree has a condition of i1
+pub verified_by_truth : (t o : Operation) → HasDistinctIds t → find (head o).id t ≡ Some o → is_verified t (head o) ≡ true → rule_of (head o).name ≡ Some how.Select → is_by_truth (map (kind_in t) (head o).operands) ≡ true
+verified_by_truth t o distinct e verified name =
+    let w = found_stands (head o).id t o e in
+    subst (λ (z : Operation). is_by_truth (map (kind_in t) (head z).operands) ≡ true) w.3
+    (truth_here t distinct w.0 w.1 (subst (λ (z : Operation). is_verified t (head z) ≡ true) (sym w.3) verified) (subst (λ (z : Operation). rule_of (head z).name ≡ Some how.Select) (sym w.3) name))
 
 pub verified_is_ready : VerifiedIsReady
 verified_is_ready m v = record {

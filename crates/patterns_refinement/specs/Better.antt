@@ -1,6 +1,5 @@
 -- Refined outcomes, and the premises for an operation to be monotone in them.
-use Rattle.std.specs.Prelude.{◌≡◌, ◌<◌, ℕ, codes, ◌==◌, nat_lt, List, [], ◌∷◌, map, Bool, true, false, ◌&&◌, not, Option, Some, None, is_some}
-use Rattle.std.specs.Str.{bytes_eq}
+use Rattle.std.specs.Prelude.{◌≡◌, ◌<◌, ℕ, ◌==◌, nat_lt, List, [], ◌∷◌, map, Bool, true, false, ◌&&◌, Option, Some, None, is_some}
 use Rattle.ir_types.specs.declared.bits.BitsKind.{BitsKind}
 use Rattle.ir_types.specs.declared.bits.BitsKind.TheVariants as kind
 use Rattle.ir_types.specs.Bits.{is_bits, width_of}
@@ -73,20 +72,14 @@ takes (rule.IntegerCast c) h k _ = false
 takes (rule.IndexCast c) h k (j ∷ []) = narrows c j k
 takes (rule.IndexCast c) h k _ = false
 
--- Returns whether the condition of a select isn't of i1.
-abbrev pub has_no_condition : List (Option BitsKind) → Bool
-has_no_condition [] = true
-has_no_condition (c ∷ js) = not (is_kind (kind.Int 1) c)
-
 -- An arithmetic operation whose result has a kind has operands of the kinds that it needs, and a valid width. An
--- operation whose result has no kind, such as f32 or a vector, isn't arithmetic here and has no such premise. A
--- `select` by an i1 must have a kind, since rewrite rules apply to a `select` of any type.
+-- operation whose result has no kind, such as f32 or a vector, isn't arithmetic here and has no such premise.
 abbrev pub takes_its : Option Rule → Option BitsKind → Header → List (Option BitsKind) → Bool
 takes_its None k h js = true
 takes_its (Some rule.Constant) None h js = true
 takes_its (Some (rule.Binary o)) None h js = true
 takes_its (Some rule.Compare) None h js = true
-takes_its (Some rule.Select) None h js = has_no_condition js
+takes_its (Some rule.Select) None h js = true
 takes_its (Some (rule.IntegerCast c)) None h js = true
 takes_its (Some (rule.IndexCast c)) None h js = true
 takes_its (Some r) (Some k) h js = is_width (width_of k) && takes r h k js
@@ -98,10 +91,9 @@ is_kinded t h = takes_its (rule_of h.name) (result_kind h) h (map (kind_in t) h.
 abbrev pub AreKinded : Operation → Type 0
 AreKinded t = Each (λ h. is_kinded t h ≡ true) t
 
--- an operation whose result has no kind satisfies the premise, unless it is a `select`
+-- an operation whose result has no kind satisfies the premise
 abbrev pub OthersAreKinded : Type 0
-OthersAreKinded =
-    (t : Operation) (h : Header) → bytes_eq h.name (codes "arith.select") ≡ false → result_kind h ≡ None → is_kinded t h ≡ true
+OthersAreKinded = (t : Operation) (h : Header) → result_kind h ≡ None → is_kinded t h ≡ true
 
 -- ---- signed division of poison
 -- A signed division of poison by -1. The division of the least value by -1 is undefined, so the division of poison

@@ -5,6 +5,7 @@ pub mod Applying
 pub mod Better
 pub mod FlagSamples
 pub mod Improving
+pub mod Choices
 pub mod Observing
 pub mod Unique
 pub mod Keeping
@@ -17,6 +18,7 @@ pub mod Passing
 pub mod RuleListRuns
 pub mod Refining
 pub mod RefiningSamples
+pub mod ChoiceSamples
 pub mod UsedTypes
 pub mod Narrow
 pub mod ByForm

@@ -1,7 +1,7 @@
 -- Which operations of a module can be observed, and when a rewritten module shows the same. An arithmetic operation
 -- computes a result and does nothing else. All other operations are observable: returns, calls, stores, loops, and
 -- operations of unknown dialects.
-use Rattle.std.specs.Prelude.{◌≡◌, ◌⊎◌, ◌<◌, ℕ, List, [], ◌∷◌, map, Bool, true, false, ◌&&◌, not, if◌then◌else◌}
+use Rattle.std.specs.Prelude.{◌≡◌, ◌⊎◌, ◌<◌, ℕ, List, [], map, Bool, true, false, ◌&&◌, not, if◌then◌else◌}
 use Rattle.ir_types.specs.Terms.{TypeTerm, AttrTerm}
 use Rattle.ir_tree.specs.declared.value.Value.{Value}
 use Rattle.ir_tree.specs.Tree.{RegionsOf, RegionOf, OpsOf, op, no_regions, region, empty, block, no_ops, next, head, regions}
@@ -13,6 +13,7 @@ use Rattle.effects.specs.Effects.{effects}
 use Rattle.user_patterns_data.specs.Matching.{Header}
 use Rattle.patterns_refinement.specs.Meaning.{Assignment, EachInRegions, is_arithmetic, owner}
 use Rattle.patterns_refinement.specs.Better.{AllBetter, gives}
+use Rattle.patterns_refinement.specs.Choices.{AllStill, AreOrigins, Origins, is_choice}
 
 -- ---- observable operations
 -- Returns the tree without the arithmetic operations inside its root. An arithmetic operation is removed with its
@@ -70,36 +71,31 @@ abbrev mutual
 abbrev pub is_computed : Operation → Value → Bool
 is_computed t v = gives (λ x. true) t v
 
--- The new operand is the same value, or the old operand was the result of an arithmetic operation. An outcome says
--- nothing about a value that isn't a number, such as a memref, so such an operand must be the same value.
-abbrev pub IsSameValue : Operation → Value → Value → Type 0
-IsSameValue t v w = (w ≡ v) ⊎ (is_computed t v ≡ true)
-
-abbrev pub AreSameValues : Operation → List Value → List Value → Type 0
-AreSameValues t [] [] = Unit {0}
-AreSameValues t [] (w ∷ ws) = ⊥
-AreSameValues t (v ∷ vs) [] = ⊥
-AreSameValues t (v ∷ vs) (w ∷ ws) = IsSameValue t v w × AreSameValues t vs ws
-
 -- Returns a head without its operands.
 abbrev pub without_operands : Header → Header
 without_operands h = record h { operands = [] }
 
--- An operation of a tree is kept: its id, name, result types, properties and attributes are the same. If the
--- operation is executed, the outcome of each new operand refines the outcome of the old one.
-pub record Stays (t : Operation) (a now : Assignment) (later : ℕ → Bool) (h k : Header) : Type 0 where
+-- An operation of a tree t with ids below n is kept in a tree u: its id, name, result types, properties and attributes
+-- are the same. Each new operand stands for what the old operand stood for. In a tree without choices, a value that no
+-- arithmetic operation computes may stand for itself, so such an operand is the same value. If the operation is executed,
+-- the outcome of each new operand refines the outcome of the old one. A choice may get other operands: its result stands
+-- for the same (`origins` of `Shows`). No other operation becomes a choice.
+pub record Stays (n : ℕ) (t u : Operation) (a now : Assignment) (later : ℕ → Bool) (h k : Header) : Type 0 where
   pub same : without_operands h ≡ without_operands k
-  pub values : AreSameValues t h.operands k.operands
-  pub better : later k.id ≡ true → AllBetter (map a h.operands) (map now k.operands)
+  pub choice : is_choice t h ≡ false → is_choice u k ≡ false
+  pub still : is_choice t h ≡ false → (o : Origins) → AreOrigins n a o later t → AllStill o h.operands k.operands
+  pub better : is_choice t h ≡ false → later k.id ≡ true → AllBetter (map a h.operands) (map now k.operands)
 
 -- ---- a rewritten module
 -- A tree with outcomes `now` shows what a module with outcomes `a` showed: its observable operations are those of the
--- module, except some that may be erased. No old value becomes the result of an arithmetic operation. (A root that is
--- arithmetic, which no module has, isn't compared.)
+-- module, except some that may be erased. No old value becomes the result of an arithmetic operation. Whatever the
+-- values of the module stand for, they stand for the same in the tree. (A root that is arithmetic, which no module has,
+-- isn't compared.)
 pub record Shows (a now : Assignment) (m : Module) (later : ℕ → Bool) (t : Operation) : Type 0 where
-  pub root : is_arithmetic (head m.tree) ≡ false → Stays m.tree a now later (head m.tree) (head t)
-  pub follows : RegionsFollow (Stays m.tree a now later) (shown_regions (regions m.tree)) (shown_regions (regions t))
+  pub root : is_arithmetic (head m.tree) ≡ false → Stays m.next m.tree t a now later (head m.tree) (head t)
+  pub follows : RegionsFollow (Stays m.next m.tree t a now later) (shown_regions (regions m.tree)) (shown_regions (regions t))
   pub plain : (v : Value) → owner v < m.next → is_computed m.tree v ≡ false → is_computed t v ≡ false
+  pub origins : (o : Origins) → AreOrigins m.next a o later m.tree → AreOrigins m.next now o later t
 
 -- ---- a corollary
 -- P is true of the head of some operation.
@@ -124,4 +120,4 @@ abbrev mutual
 abbrev pub ShownWereThere : Type 0
 ShownWereThere =
     (a now : Assignment) (m : Module) (later : ℕ → Bool) (t : Operation) → Shows a now m later t
-    → EachInRegions (λ k. AnyInRegions (λ h. Stays m.tree a now later h k) (shown_regions (regions m.tree))) (shown_regions (regions t))
+    → EachInRegions (λ k. AnyInRegions (λ h. Stays m.next m.tree t a now later h k) (shown_regions (regions m.tree))) (shown_regions (regions t))

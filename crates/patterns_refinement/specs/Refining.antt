@@ -1,7 +1,7 @@
--- Refinement of modules. An observer sees the operations that can't be erased, in order, and the outcomes of their
--- operands. A module refines another if the observer sees the same operations with the same or refined operands, for
--- all outcomes of the values that the module doesn't compute: arguments, loads and results of calls.
-use Rattle.std.specs.Prelude.{◌≡◌, ◌<◌, ℕ, List, [], ◌∷◌, ◌++◌, map, Bool, true, false, if◌then◌else◌, Option, Some, None}
+-- Refinement of modules. An observer sees the operations that can't be erased, in order, the outcomes of their operands,
+-- and what the operands stand for. A module refines another if the observer sees the same operations with the same or
+-- refined operands, for all outcomes of the values that the module doesn't compute: arguments, loads and results of calls.
+use Rattle.std.specs.Prelude.{◌≡◌, ◌<◌, ℕ, List, [], ◌∷◌, ◌++◌, map, Bool, true, false, if◌then◌else◌, Option}
 use Rattle.std.specs.List.{filter}
 use Rattle.ir_types.specs.Terms.{TypeTerm, AttrTerm}
 use Rattle.ir_tree.specs.declared.value.Value.{Value}
@@ -18,7 +18,8 @@ use Rattle.greedy.specs.Rewriting.{rewriting_of}
 use Rattle.greedy.specs.PatternSet.{RuleOrPatternModel, rewrite_by_entry, pattern_set_from}
 use Rattle.patterns_refinement.specs.Meaning.{Assignment, owner}
 use Rattle.patterns_refinement.specs.Better.{gives}
-use Rattle.patterns_refinement.specs.Observing.{is_computed, is_unmissed, shown_regions, without_operands}
+use Rattle.patterns_refinement.specs.Choices.{AreOrigins, IsStill, Origins}
+use Rattle.patterns_refinement.specs.Observing.{is_unmissed, shown_regions, without_operands}
 use Rattle.patterns_refinement.specs.Keeping.{Computing, IsReady}
 use Rattle.patterns_refinement.specs.Canonical.{IsPlain}
 use Rattle.patterns_refinement.specs.RuleListRuns.{IsShown, KeptThrough}
@@ -42,33 +43,32 @@ abbrev mutual
   pub lasting_op : Operation → List Header
   lasting_op (op h rs) = if is_unmissed (op h rs) then [] else h ∷ lasting rs
 
--- An operand: the value itself, if no arithmetic operation computes it, and its outcome.
+-- An operand: what it stands for, and its outcome. A value that an arithmetic operation computes stands for nothing. The
+-- result of a `select` of memrefs or tensors stands for what its chosen operand stands for. Any other value may stand for
+-- itself.
 pub record Operand : Type 0 where
   pub value : Option Value
   pub outcome : Outcome
 
-abbrev pub operand : Assignment → Operation → Value → Operand
-operand a t v = record { value = if is_computed t v then None else Some v; outcome = a v }
+abbrev pub operand : Assignment → Origins → Value → Operand
+operand a o v = record { value = o v; outcome = a v }
 
 -- An observed operation, and its operands.
 pub record Observation : Type 0 where
   pub operation : Header
   pub operands : List Operand
 
-abbrev pub observation : Assignment → Operation → Header → Observation
-observation a t h = record { operation = without_operands h; operands = map (operand a t) h.operands }
+abbrev pub observation : Assignment → Origins → Header → Observation
+observation a o h = record { operation = without_operands h; operands = map (operand a o) h.operands }
 
--- Returns what an observer sees of a tree with outcomes: the executed operations inside it, in order. Arithmetic
--- operations, and operations that may be erased, aren't seen.
-abbrev pub observed : Assignment → (ℕ → Bool) → Operation → List Observation
-observed a done t = map (observation a t) (filter (λ (h : Header). done h.id) (lasting (shown_regions (regions t))))
+-- Returns what an observer sees of a tree with outcomes and origins: the executed operations inside it, in order.
+-- Arithmetic operations, and operations that may be erased, aren't seen.
+abbrev pub observed : Assignment → Origins → (ℕ → Bool) → Operation → List Observation
+observed a o done t = map (observation a o) (filter (λ (h : Header). done h.id) (lasting (shown_regions (regions t))))
 
 -- ---- refinement
--- The new value is the old value, or the old value was computed.
-abbrev pub IsStill : Option Value → Option Value → Type 0
-IsStill None w = Unit {0}
-IsStill (Some v) w = w ≡ Some v
-
+-- Each new operand stands for what the old one stood for, or the old one stood for nothing. Its outcome is the same or
+-- refined.
 abbrev pub OperandsRefine : List Operand → List Operand → Type 0
 OperandsRefine [] [] = Unit {0}
 OperandsRefine [] (q ∷ qs) = ⊥
@@ -83,18 +83,21 @@ ObservationsRefine (p ∷ ps) [] = ⊥
 ObservationsRefine (p ∷ ps) (q ∷ qs) = (p.operation ≡ q.operation) × OperandsRefine p.operands q.operands × ObservationsRefine ps qs
 
 -- Module n with outcomes `now` refines module m with outcomes a: the outcomes that m doesn't compute are the same,
--- the executed operations of m are executed and defined in n, and what is observed refines what was observed.
-pub record Refined (a : Assignment) (done : ℕ → Bool) (m n : Module) : Type 0 where
+-- the executed operations of m are executed and defined in n, what values stood for they stand for in n, and what is
+-- observed refines what was observed.
+pub record Refined (a : Assignment) (o : Origins) (done : ℕ → Bool) (m n : Module) : Type 0 where
   pub now : Assignment
   pub later : ℕ → Bool
   pub same : (y : ℕ) → y < m.next → later y ≡ done y
   pub inputs : (v : Value) → owner v < m.next → gives done m.tree v ≡ false → now v ≡ a v
   pub computing : Computing now later n.tree
-  pub refined : ObservationsRefine (observed a done m.tree) (observed now later n.tree)
+  pub origins : AreOrigins n.next now o later n.tree
+  pub refined : ObservationsRefine (observed a o done m.tree) (observed now o later n.tree)
 
--- Module n refines m for all outcomes with which m computes.
+-- Module n refines m for all outcomes with which m computes, whatever the values of m stand for.
 abbrev pub IsRefinedBy : Module → Module → Type 0
-IsRefinedBy m n = (a : Assignment) (done : ℕ → Bool) → Computing a done m.tree → Refined a done m n
+IsRefinedBy m n =
+    (a : Assignment) (o : Origins) (done : ℕ → Bool) → Computing a done m.tree → AreOrigins m.next a o done m.tree → Refined a o done m n
 
 -- ---- the laws
 -- `apply` of a listed rule, or of a pattern that `check` called `holds` without a width.

@@ -1,5 +1,5 @@
 -- A module with a store, a call and a return, before and after rewrites, and what an observer sees of it.
-use Rattle.std.specs.Prelude.{◌≡◌, ℕ, List, [], ◌∷◌, codes, get_or, Some, None}
+use Rattle.std.specs.Prelude.{◌≡◌, ◌==◌, ℕ, List, [], ◌∷◌, codes, get_or, if◌then◌else◌, Some, None}
 use Rattle.ir_types.specs.declared.bits.BitsKind.TheVariants as kind
 use Rattle.ir_types.specs.Terms.{AttrTerm, Function, IntegerOf, Memref, String, Symbol, TypeOf, TypeTerm, TypeTerms, next_type, no_types}
 use Rattle.ir_tree.specs.declared.value.Value.{Value}
@@ -12,6 +12,7 @@ use Rattle.patterns_base.specs.Canonicalization.{canonicalization_of, converged,
 use Rattle.patterns_base.specs.Rewrites.{becomes, rewrite_of}
 use Rattle.patterns_refinement.specs.Meaning.{Assignment}
 use Rattle.patterns_refinement.specs.Canonical.{IsPlain}
+use Rattle.patterns_refinement.specs.Choices.{AreOrigins, Origins}
 use Rattle.patterns_refinement.specs.Keeping.{Computing}
 use Rattle.patterns_refinement.specs.ObservingSamples.{function_of, i8, module_of, plain_op, returning, storing, summing}
 use Rattle.patterns_refinement.specs.Refining.{Observation, ObservationsRefine, Operand, Refined, observed}
@@ -78,6 +79,11 @@ abbrev pub five : Assignment
 five (Result x k) = get_or (None ∷ None ∷ None ∷ Some (kind.Int 8, 0) ∷ Some (kind.Int 8, 5) ∷ None ∷ Some (kind.Int 8, 9) ∷ []) x None
 five (Arg x r k) = get_or (Some (kind.Int 8, 5) ∷ []) k None
 
+-- The arguments of an operation stand for themselves, and other values for nothing.
+abbrev pub arguments_of : ℕ → Origins
+arguments_of y (Result x k) = None
+arguments_of y (Arg x r k) = if x == y then Some (Arg x r k) else None
+
 -- an operation and its operands
 abbrev pub seen : List ℕ → ℕ → List TypeTerm → List (List ℕ × AttrTerm) → List Operand → Observation
 seen name x results properties operands =
@@ -97,23 +103,26 @@ ending_observed v =
     ∷ seen (codes "func.return") 7 [] [] (v ∷ [])
     ∷ []
 
--- The module has no diagnostics and computes with these outcomes. `drop-zero` applies, and `canon` makes two
+-- The module has no diagnostics and computes with these outcomes and origins. `drop-zero` applies, and `canon` makes two
 -- rewrites. An observer of the module sees that 5 is stored, passed to @g and returned. After the rewrite, an
 -- observer sees that %a is, which is 5. So the second module refines the first.
 pub record SampleIsRefined : Type 0 where
   pub verified : IsVerified before
   pub computing : Computing five all_done before.tree
+  pub origins : AreOrigins before.next five (arguments_of 2) all_done before.tree
   pub applies : rewrite_of DropZero before 4 ≡ becomes after
   pub plain : IsPlain before
   pub canonicalizes : canonicalization_of 10 before ≡ ended canonical 2 converged
-  pub observed_before : observed five all_done before.tree ≡ functions_observed (ending_observed (record { value = None; outcome = Some (kind.Int 8, 5) }))
-  pub observed_after : observed five all_done after.tree ≡ functions_observed (ending_observed (record { value = Some (Arg 2 0 0); outcome = Some (kind.Int 8, 5) }))
-  pub observed_canonical : observed five all_done canonical.tree ≡ observed five all_done after.tree
-  pub refined : ObservationsRefine (observed five all_done before.tree) (observed five all_done after.tree)
+  pub observed_before : observed five (arguments_of 2) all_done before.tree ≡ functions_observed (ending_observed (record { value = None; outcome = Some (kind.Int 8, 5) }))
+  pub observed_after : observed five (arguments_of 2) all_done after.tree ≡ functions_observed (ending_observed (record { value = Some (Arg 2 0 0); outcome = Some (kind.Int 8, 5) }))
+  pub observed_canonical : observed five (arguments_of 2) all_done canonical.tree ≡ observed five (arguments_of 2) all_done after.tree
+  pub refined : ObservationsRefine (observed five (arguments_of 2) all_done before.tree) (observed five (arguments_of 2) all_done after.tree)
 
 -- These rewrites are no refinements, with all operations executed: erasing everything, returning another argument,
--- and erasing a store. An observer sees a difference.
+-- and erasing a store. An observer sees a difference. Two arguments may stand for the same value, so another argument is
+-- refused if the arguments stand for themselves, which they may (`origins`).
 pub record SamplesArentRefined : Type 0 where
-  pub wiping : (a : Assignment) → Refined a all_done (function_of 5 (returning (Arg 1 0 0))) (module_of 5 no_ops) → ⊥
-  pub other_argument : (a : Assignment) → Refined a all_done (function_of 5 (returning (Arg 1 0 0))) (function_of 5 (returning (Arg 1 0 1))) → ⊥
-  pub erased_store : (a : Assignment) → Refined a all_done (function_of 5 (summing (storing (returning (Result 2 0))))) (function_of 5 (summing (returning (Result 2 0)))) → ⊥
+  pub wiping : (a : Assignment) (o : Origins) → Refined a o all_done (function_of 5 (returning (Arg 1 0 0))) (module_of 5 no_ops) → ⊥
+  pub origins : (a : Assignment) → AreOrigins 5 a (arguments_of 1) all_done (function_of 5 (returning (Arg 1 0 0))).tree
+  pub other_argument : (a : Assignment) → Refined a (arguments_of 1) all_done (function_of 5 (returning (Arg 1 0 0))) (function_of 5 (returning (Arg 1 0 1))) → ⊥
+  pub erased_store : (a : Assignment) (o : Origins) → Refined a o all_done (function_of 5 (summing (storing (returning (Result 2 0))))) (function_of 5 (summing (returning (Result 2 0)))) → ⊥

@@ -1,5 +1,5 @@
 -- A module for which `report diagnostics` has no row is ready (`IsReady`).
-use Rattle.std.specs.Prelude.{◌≡◌, List, [], map, Bool, true, false, ◌&&◌, ◌||◌, not, Option, Some, None, is_some, option_map}
+use Rattle.std.specs.Prelude.{◌≡◌, [], Bool, true, false, ◌&&◌, ◌||◌, not, Option, Some, None, is_some, option_map}
 use Rattle.std.specs.List.{list_all}
 use Rattle.ir_types.specs.declared.bits.BitsKind.{BitsKind}
 use Rattle.ir_types.specs.Bits.{width_of}
@@ -17,7 +17,7 @@ use Rattle.patterns_base.specs.verify.Beyond.{is_beyond}
 use Rattle.patterns_base.specs.Diagnostics.{diagnostics_of}
 use Rattle.user_patterns_data.specs.Matching.{Header}
 use Rattle.patterns_refinement.specs.Meaning.{Each, result_kind}
-use Rattle.patterns_refinement.specs.Better.{are_its_bits, has_no_condition, kind_in}
+use Rattle.patterns_refinement.specs.Better.{are_its_bits}
 use Rattle.patterns_refinement.specs.Keeping.{IsReady}
 
 -- Returns whether the width of a type is in range, if the type is a signless integer or `index`. All types of a
@@ -36,20 +36,18 @@ abbrev pub is_covered : Option Bool → Bool
 is_covered None = false
 is_covered (Some beyond) = not beyond
 
--- Returns whether an operation isn't beyond the table, if it is arithmetic on integers or `index`, given the kinds of
--- its operands. A `select` by an i1 must select an integer or `index`: the table allows others.
-abbrev pub is_within_by : Option Rule → Option BitsKind → List (Option BitsKind) → Option Bool → Bool
-is_within_by None k js beyond = true
-is_within_by (Some rule.Constant) k js beyond = true
-is_within_by (Some (rule.Binary o)) k js beyond = not (is_some k) || is_covered beyond
-is_within_by (Some rule.Compare) k js beyond = not (is_some k) || is_covered beyond
-is_within_by (Some rule.Select) None js beyond = has_no_condition js
-is_within_by (Some rule.Select) (Some k) js beyond = is_covered beyond
-is_within_by (Some (rule.IntegerCast c)) k js beyond = not (is_some k) || is_covered beyond
-is_within_by (Some (rule.IndexCast c)) k js beyond = not (is_some k) || is_covered beyond
+-- Returns whether an operation isn't beyond the table, if it is arithmetic on integers or `index`.
+abbrev pub is_within_by : Option Rule → Option BitsKind → Option Bool → Bool
+is_within_by None k beyond = true
+is_within_by (Some rule.Constant) k beyond = true
+is_within_by (Some (rule.Binary o)) k beyond = not (is_some k) || is_covered beyond
+is_within_by (Some rule.Compare) k beyond = not (is_some k) || is_covered beyond
+is_within_by (Some rule.Select) k beyond = not (is_some k) || is_covered beyond
+is_within_by (Some (rule.IntegerCast c)) k beyond = not (is_some k) || is_covered beyond
+is_within_by (Some (rule.IndexCast c)) k beyond = not (is_some k) || is_covered beyond
 
 abbrev pub is_within : Operation → Header → Bool
-is_within t h = is_within_by (rule_of h.name) (result_kind h) (map (kind_in t) h.operands) (option_map is_beyond (surroundings h.id t))
+is_within t h = is_within_by (rule_of h.name) (result_kind h) (option_map is_beyond (surroundings h.id t))
 
 -- A module of a context, without diagnostics. The module may have an operation on vectors. Its operands and results
 -- are no integers.
