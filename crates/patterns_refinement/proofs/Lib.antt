@@ -94,3 +94,13 @@ pub mod TracedRuns
 pub mod RefiningSampled
 pub mod RunsRefined
 pub mod Sampled
+pub mod SemaSteps
+pub mod SemaTypes
+pub mod SemaShapes
+pub mod SemaNumbers
+pub mod SemaOlds
+pub mod SemaNews
+pub mod SemaForm
+pub mod SemaPlaces
+pub mod SemaKinded
+pub mod SoundForms
