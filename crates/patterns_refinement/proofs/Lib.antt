@@ -96,7 +96,7 @@ pub mod RunsRefined
 pub mod Sampled
 pub mod SemaSteps
 pub mod SemaTypes
-pub mod SemaShapes
+pub mod SemaOperands
 pub mod SemaNumbers
 pub mod SemaOlds
 pub mod SemaNews

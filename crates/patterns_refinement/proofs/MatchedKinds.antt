@@ -236,8 +236,8 @@ module _ (p : PatternModel) (m : Module) (x : ℕ) (proper : IsProper p) (ready 
       one (extra.SameAs i) h e = absurd (true≢false (sym e))
 
   -- the literals of a match are in range
-  literals_fit : list_all (extra_fits (map bound_type q.types)) p.extra ≡ true
-  literals_fit =
+  literals_in_range : list_all (extra_fits (map bound_type q.types)) p.extra ≡ true
+  literals_in_range =
       let a = and_parts (list_all (is_requested (map bound_type q.types)) p.type_constraints) (list_all (extra_fits (map bound_type q.types)) p.extra && list_all (number_fits (map bound_type q.types)) p.given) q.parts.widths in
       (and_parts (list_all (extra_fits (map bound_type q.types)) p.extra) (list_all (number_fits (map bound_type q.types)) p.given) a.1).0
 
@@ -245,7 +245,7 @@ module _ (p : PatternModel) (m : Module) (x : ℕ) (proper : IsProper p) (ready 
   had_wide : (t : ℕ) → is_had p t ≡ true → good t ≡ true
   had_wide t e = elim (or_cases (is_concrete (united.kind_in p.value_types t)) (list_any (is_literal_type t) p.extra || is_valued t) parts.1) [
     | inl i ↦ by_type (united.kind_in p.value_types t) refl i
-    | inr n ↦ elim (or_cases (list_any (is_literal_type t) p.extra) (is_valued t) n) [ inl i ↦ literal_wide t p.extra literals_fit i | inr i ↦ valued_wide t i ]
+    | inr n ↦ elim (or_cases (list_any (is_literal_type t) p.extra) (is_valued t) n) [ inl i ↦ literal_wide t p.extra literals_in_range i | inr i ↦ valued_wide t i ]
   ]
     where
       parts : (nat_lt t (length p.value_types) ≡ true) × ((is_concrete (united.kind_in p.value_types t) || (list_any (is_literal_type t) p.extra || is_valued t)) ≡ true)

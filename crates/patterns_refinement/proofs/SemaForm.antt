@@ -1,11 +1,10 @@
 -- The pattern that semantic analysis makes: its types are sound, and its places are those that the analysis assigned.
-use Rattle.std.proofs.Common.{◌≡◌, ℕ, zero, suc, ◌+◌, ◌-◌, ◌<◌, ◌≤◌, Bool, true, false, true≢false, if◌then◌else◌, List, [], ◌∷◌, ◌++◌, length, map, Option, Some, None, Ok, Err, refl, sym, ap, subst, ◌∙◌, ◌⊎◌, inl, inr, arith, slice_get}
+use Rattle.std.proofs.Common.{◌≡◌, ℕ, zero, suc, ◌+◌, ◌-◌, ◌<◌, ◌≤◌, Bool, true, false, if◌then◌else◌, List, [], ◌∷◌, ◌++◌, length, map, Some, Ok, Err, refl, sym, ap, subst, ◌∙◌, ◌⊎◌, inl, inr, arith, slice_get}
 use Rattle.std.specs.Prelude.{nat_lt}
 use Rattle.std.specs.List.{list_all, range_with_len}
-use Rattle.std.proofs.lemmas.List.{length-map}
 use Rattle.std.proofs.lemmas.List.FromFn.{length-map-range_with_len}
 use Rattle.std.proofs.lemmas.Option.{none-some, same_Some}
-use Rattle.ir_text_tokens.specs.declared.refusal.TextRefusal.TheVariants.{BadValue, TooMany, TypeMismatch, Unexpected}
+use Rattle.ir_text_tokens.specs.declared.refusal.TextRefusal.TheVariants.{TooMany, TypeMismatch, Unexpected}
 use Rattle.user_patterns_text.specs.Parts.{Pattern}
 use Rattle.user_patterns_text.specs.Refusing.{Outcome, ◌>>=◌, refused}
 use Rattle.user_patterns_data.specs.declared.pattern.PatternType.{PatternType}
@@ -25,9 +24,9 @@ use Rattle.user_patterns_sema_base.specs.Views.{Variable}
 use Rattle.user_patterns_sema.specs.declared.state.CastConstraint.{CastConstraint}
 use Rattle.user_patterns_sema.specs.declared.state.RequiredType.{RequiredType}
 use Rattle.user_patterns_sema.specs.declared.state.TermRef.{TermRef}
-use Rattle.user_patterns_sema.specs.Sema.{Places, Sema, State, all_cast, all_determined, all_fit, all_numbered, begins_with, cast_requested, checked, conditions_at, constants_of, count_constants, finished, finished_with, is_determined, kinds_found, old_depth, places_of, settled, sides_wellformed, term_at, unite, variables_found, wellformed, with_all, with_casts}
+use Rattle.user_patterns_sema.specs.Sema.{Places, Sema, State, all_cast, all_determined, all_fit, all_numbered, begins_with, cast_requested, conditions_at, constants_of, count_constants, finished, finished_with, is_determined, kinds_found, old_depth, places_of, settled, sides_wellformed, term_at, unite, variables_found, wellformed, with_all, with_casts}
 use Rattle.patterns_refinement.proofs.SemaSteps.{At, Holds, Parts, at_more, holds_itself, holds_more, holds_then}
-use Rattle.patterns_refinement.proofs.SemaTypes.{AllWide, Begun, Covered, Rest, Same, Sound, rest_of, sound_unified, unite_holds, wide_at}
+use Rattle.patterns_refinement.proofs.SemaTypes.{AllWide, Rest, Same, rest_of, sound_unified, unite_holds, wide_at}
 use Rattle.patterns_refinement.proofs.SemaNumbers.{weights}
 use Rattle.patterns_refinement.proofs.SemaOlds.{AllTaken, Justified, OldGood, Right, old_holds, right_of, taken_holds}
 use Rattle.patterns_refinement.proofs.SemaOlds as olds
@@ -160,9 +159,9 @@ pub record Settled (f g : Sema) : Type 0 where
 settled_holds : (f : Sema) → Holds (Settled f) (settled f)
 settled_holds f =
     holds_then (λ u. (r : RequiredType) → At f.new_types r → is_determined f.value_types f.old_types (kind_of r.slot f.value_types) ≡ true) (Settled f) (all_determined f.value_types f.old_types f.new_types)
-    (λ u. all_fit f.value_types f.literals >>= λ fit. with_casts f) (determined_holds f.value_types f.old_types f.new_types)
+    (λ u. all_fit f.value_types f.literals >>= λ v. with_casts f) (determined_holds f.value_types f.old_types f.new_types)
     (λ u d.
-    holds_then (λ u. all_fit f.value_types f.literals ≡ Ok u) (Settled f) (all_fit f.value_types f.literals) (λ fit. with_casts f) (holds_itself (all_fit f.value_types f.literals))
+    holds_then (λ u. all_fit f.value_types f.literals ≡ Ok u) (Settled f) (all_fit f.value_types f.literals) (λ v. with_casts f) (holds_itself (all_fit f.value_types f.literals))
     (λ v e. by d (all_cast f.value_types f.type_constraints f.casts) (cast_holds f.value_types f.casts f.type_constraints)))
   where
     by : ((r : RequiredType) → At f.new_types r → is_determined f.value_types f.old_types (kind_of r.slot f.value_types) ≡ true) → (o : Outcome (List TypeConstraint)) → Holds (λ list. (c : TypeConstraint) → At f.type_constraints c → At list c) o → Holds (Settled f) (with_all f o)

@@ -1,12 +1,12 @@
 -- The new operations of a pattern that semantic analysis made take operands of the types that they need.
-use Rattle.std.proofs.Common.{◌≡◌, ℕ, zero, suc, ◌+◌, ◌-◌, ◌<◌, ◌≤◌, Bool, true, false, true≢false, ◌&&◌, ◌||◌, eqb, eqb-true, if◌then◌else◌, List, [], ◌∷◌, ◌++◌, length, map, get_or, Option, Some, None, Ok, Err, refl, sym, ap, subst, ◌∙◌, ◌⊎◌, inl, inr, arith, slice_get}
-use Rattle.std.specs.Prelude.{is_some, nat_le, nat_lt, option_map}
+use Rattle.std.proofs.Common.{◌≡◌, ℕ, zero, suc, ◌+◌, ◌-◌, ◌<◌, ◌≤◌, Bool, true, false, true≢false, ◌&&◌, eqb, eqb-true, if◌then◌else◌, List, [], ◌∷◌, ◌++◌, length, map, get_or, Option, Some, None, refl, sym, ap, subst, ◌∙◌, ◌⊎◌, inl, inr, arith, slice_get}
+use Rattle.std.specs.Prelude.{is_some, nat_le, nat_lt}
 use Rattle.std.specs.List.{list_all, list_any, range_with_len}
-use Rattle.std.proofs.lemmas.Bool.{and_from, and_parts, eq-eqb, lt-ltb, ltb-true}
+use Rattle.std.proofs.lemmas.Bool.{and_from, and_parts, lt-ltb, ltb-true}
 use Rattle.std.proofs.lemmas.Bool.Decides.{nat_tests}
 use Rattle.std.proofs.lemmas.List.{length-map}
 use Rattle.std.proofs.lemmas.List.FromFn.{length-map-range_with_len}
-use Rattle.std.proofs.lemmas.Option.{get_or_from_slice_get, none-some, same_Some, slice_get-map}
+use Rattle.std.proofs.lemmas.Option.{get_or_from_slice_get, none-some, same_Some}
 use Rattle.ir_types.specs.declared.bits.BitsKind.{BitsKind}
 use Rattle.ir_types.specs.declared.bits.BitsKind.TheVariants as bits
 use Rattle.dialects_int.specs.declared.operations.Cast.TheVariants as cast
@@ -15,7 +15,6 @@ use Rattle.user_patterns_data.specs.declared.pattern.PatternType.{PatternType}
 use Rattle.user_patterns_data.specs.declared.pattern.PatternType.TheVariants as ty
 use Rattle.user_patterns_data.specs.declared.pattern.Expression.{Expression}
 use Rattle.user_patterns_data.specs.declared.pattern.Expression.TheVariants as form
-use Rattle.user_patterns_data.specs.declared.pattern.PatternOp.{PatternOp}
 use Rattle.user_patterns_data.specs.declared.pattern.ConstantExpression.{ConstantExpression}
 use Rattle.user_patterns_data.specs.declared.pattern.ConstantExpression.TheVariants as number
 use Rattle.user_patterns_data.specs.declared.pattern.NewValue.{NewValue}
@@ -25,7 +24,7 @@ use Rattle.user_patterns_data.specs.declared.pattern.TypeConstraint.TheVariants 
 use Rattle.user_patterns_data.specs.Planning.{old_place, places}
 use Rattle.user_patterns_data.specs.Shapes.{PatternModel}
 use Rattle.user_patterns_data.specs.WellFormed.{is_new, is_well_formed, new_begins, new_ends, news_are_valid, olds_are_valid}
-use Rattle.user_patterns_build.specs.CanBuild.{can_build, given_type, has_name, is_named, last_type, new_type, result_type, root_type, same_number, spares}
+use Rattle.user_patterns_build.specs.CanBuild.{can_build, given_type, is_named, new_type, result_type, root_type, same_number, spares}
 use Rattle.user_patterns_build.specs.Unified.{extra_in, given_in, is_same, kind_in, new_in, number_in, pattern_op_in, requested_in}
 use Rattle.user_patterns_sema_base.specs.Names as names
 use Rattle.user_patterns_sema_base.specs.Types.{kind_of}
@@ -33,12 +32,12 @@ use Rattle.user_patterns_sema.specs.declared.state.RequiredType.{RequiredType}
 use Rattle.user_patterns_sema.specs.Sema.{Places, Sema, count_constants, is_determined, places_of}
 use Rattle.user_patterns_sema.specs.Sema as sema
 use Rattle.patterns_refinement.specs.ForOutcomes.{has_width, numbered, numbered_type, numbered_types}
-use Rattle.patterns_refinement.specs.ByForm.{asks_narrower, casts, extra_sort, form_taken, is_kinded_by_form, is_less, is_wide, is_written_less, new_taken, news_taken, number_sort, pattern_op_sort, sort_at, sorts_after, sorts_matched}
+use Rattle.patterns_refinement.specs.ByForm.{asks_narrower, extra_sort, form_taken, is_kinded_by_form, is_wide, is_written_less, new_taken, news_taken, number_sort, pattern_op_sort, sort_at, sorts_after, sorts_matched}
 use Rattle.patterns_refinement.proofs.SemaSteps.{At, at_end, at_more, one_longer}
-use Rattle.patterns_refinement.proofs.SemaNumbers.{computed_slot, place_slot, slot_for, slots, slots_after, weights}
-use Rattle.patterns_refinement.proofs.SemaShapes.{FormTyped, IsOf, IsOne}
+use Rattle.patterns_refinement.proofs.SemaNumbers.{computed_slot, place_slot, slot_for, slots, slots_after}
+use Rattle.patterns_refinement.proofs.SemaOperands.{FormTyped, IsOf}
 use Rattle.patterns_refinement.proofs.SemaNews.{NewBegun, NewSlot, NewTyped}
-use Rattle.patterns_refinement.proofs.SemaForm.{Analyzed, Counted, pattern_from}
+use Rattle.patterns_refinement.proofs.SemaForm.{Analyzed, Counted}
 use Rattle.patterns_refinement.proofs.SemaPlaces.{any_of, mapped, number_kind, number_same, number_within, or_right, range_at, recorded_wide, same_type_itself, unified_pattern, vt, vt_at}
 
 -- ---- sorts of places
@@ -204,13 +203,13 @@ module _ (p : Pattern) (known : names.Names) (counts : Counted p known) (root re
         go (ty.Variable v) e = lt-ltb (number_in types s) (length types) (number_within (places_of known) p root result f a list determined s l)
 
     -- ---- the sorts of numbers
-    abbrev Slots : List (Option ℕ) → List PatternType → Type 0
-    Slots acc es = (i s : ℕ) → place_slot (places_of known) acc i ≡ Some s → slice_get es i ≡ Some (nsort s)
+    abbrev NumberSorts : List (Option ℕ) → List PatternType → Type 0
+    NumberSorts acc es = (i s : ℕ) → place_slot (places_of known) acc i ≡ Some s → slice_get es i ≡ Some (nsort s)
 
     at_sort : (es : List PatternType) (i : ℕ) (x : PatternType) → slice_get es i ≡ Some x → sort_at es i ≡ x
     at_sort es i x e = get_or_from_slice_get es i x (ty.Concrete (bits.Int 0)) e
 
-    number_sorts : (acc : List (Option ℕ)) (es : List PatternType) → Slots acc es → (c : ConstantExpression) (s : ℕ) → slot_for (places_of known) acc c ≡ Some s → number_sort ss es (given_in types c) ≡ nsort s
+    number_sorts : (acc : List (Option ℕ)) (es : List PatternType) → NumberSorts acc es → (c : ConstantExpression) (s : ℕ) → slot_for (places_of known) acc c ≡ Some s → number_sort ss es (given_in types c) ≡ nsort s
     number_sorts acc es h (number.Literal l) s e = ap nsort (same_Some l.ty s e)
     number_sorts acc es h (number.Width t) s e = ap nsort (same_Some t s e)
     number_sorts acc es h (number.Binary o i j) s e = at_sort es i (nsort s) (h i s e)
@@ -218,7 +217,7 @@ module _ (p : Pattern) (known : names.Names) (counts : Counted p known) (root re
     number_sorts acc es h (number.Log2 i) s e = at_sort es i (nsort s) (h i s e)
     number_sorts acc es h (number.Require i) s e = absurd (none-some s e)
 
-    slots_step : (acc : List (Option ℕ)) (es : List PatternType) (c : ConstantExpression) → length es ≡ (places_of known).given + length acc → Slots acc es → Slots (acc ++ (slot_for (places_of known) acc c ∷ [])) (es ++ (number_sort ss es (given_in types c) ∷ []))
+    slots_step : (acc : List (Option ℕ)) (es : List PatternType) (c : ConstantExpression) → length es ≡ (places_of known).given + length acc → NumberSorts acc es → NumberSorts (acc ++ (slot_for (places_of known) acc c ∷ [])) (es ++ (number_sort ss es (given_in types c) ∷ []))
     slots_step acc es c long h i s e = go (nat_lt i n) refl e
       where
         earlier : place_slot (places_of known) acc i ≡ Some s → slice_get (es ++ (number_sort ss es (given_in types c) ∷ [])) i ≡ Some (nsort s)
@@ -242,7 +241,7 @@ module _ (p : Pattern) (known : names.Names) (counts : Counted p known) (root re
         go true w e = earlier (ap (λ (t : Bool). if t then Some i else computed_slot (places_of known) acc i) w ∙ e)
         go false w e = by w (nat_lt i (places_of known).given) refl e
 
-    slots_sorts : (cs : List ConstantExpression) (acc : List (Option ℕ)) (es : List PatternType) → length es ≡ (places_of known).given + length acc → Slots acc es → Slots (slots_after (places_of known) acc cs) (sorts_after (number_sort ss) (map (given_in types) cs) es)
+    slots_sorts : (cs : List ConstantExpression) (acc : List (Option ℕ)) (es : List PatternType) → length es ≡ (places_of known).given + length acc → NumberSorts acc es → NumberSorts (slots_after (places_of known) acc cs) (sorts_after (number_sort ss) (map (given_in types) cs) es)
     slots_sorts [] acc es long h = h
     slots_sorts (c ∷ cs) acc es long h =
         let l = one_longer es (number_sort ss es (given_in types c)) in
@@ -251,7 +250,7 @@ module _ (p : Pattern) (known : names.Names) (counts : Counted p known) (root re
 
     -- ---- the sorts of new values
     record Lookup (k : ℕ) (es : List PatternType) : Type 0 where
-      pub slots_at : Slots (slots (places_of known) f.given) es
+      pub slots_at : NumberSorts (slots (places_of known) f.given) es
       pub news_at : (j : ℕ) (w : NewValue) → j < k → slice_get f.new j ≡ Some w → slice_get es ((places_of known).new + j) ≡ Some (nsort (new_type w))
       pub long : length es ≡ (places_of known).new + k
 
@@ -341,7 +340,7 @@ module _ (p : Pattern) (known : names.Names) (counts : Counted p known) (root re
     abbrev numbers : List PatternType
     numbers = sorts_after (number_sort ss) (map (given_in types) f.given) extras
 
-    firsts_slots : Slots [] extras
+    firsts_slots : NumberSorts [] extras
     firsts_slots i s e = go (nat_lt i n) refl e
       where
         none : (t : Bool) → (if t then None else get_or [] (i - (places_of known).given) None) ≡ Some s → slice_get extras i ≡ Some (nsort s)

@@ -1,12 +1,9 @@
 -- The right side and the conditions of a semantic analysis: each new value has operands of the types that it needs.
-use Rattle.std.proofs.Common.{◌≡◌, ℕ, zero, suc, ◌+◌, ◌<◌, ◌≤◌, Bool, true, false, true≢false, if◌then◌else◌, List, [], ◌∷◌, ◌++◌, length, Option, Some, None, Ok, Err, refl, sym, ap, subst, ◌∙◌, ◌⊎◌, inl, inr, arith, slice_get}
-use Rattle.std.specs.Prelude.{is_some}
-use Rattle.std.specs.Str.{bytes_eq}
-use Rattle.std.specs.List.{AllByRecursion, list_all}
+use Rattle.std.proofs.Common.{◌≡◌, ℕ, zero, suc, ◌+◌, ◌<◌, ◌≤◌, Bool, true, false, true≢false, if◌then◌else◌, List, [], ◌∷◌, ◌++◌, length, Option, Some, None, Ok, refl, sym, ap, subst, ◌∙◌, ◌⊎◌, inl, inr, arith, slice_get}
+use Rattle.std.specs.List.{AllByRecursion}
 use Rattle.std.proofs.lemmas.Bool.{eq-eqb}
-use Rattle.std.proofs.lemmas.Option.{none-some, same_Some, slice_get_within}
+use Rattle.std.proofs.lemmas.Option.{slice_get_within}
 use Rattle.ir_text_tokens.specs.declared.refusal.TextRefusal.TheVariants.{TypeMismatch}
-use Rattle.ir_types.specs.declared.bits.BitsKind.{BitsKind}
 use Rattle.dialects_int.specs.declared.operations.Predicate.{Predicate}
 use Rattle.user_patterns_text.specs.Parts.{Part, Placed, operation_part, value_part, literal_part, name_part, function_part, condition_part, type_part, end_part}
 use Rattle.user_patterns_text.specs.Refusing.{Outcome, ◌>>=◌, refused}
@@ -23,15 +20,15 @@ use Rattle.user_patterns_data.specs.declared.pattern.TypeConstraint.{TypeConstra
 use Rattle.user_patterns_build.specs.CanBuild.{has_name, new_type}
 use Rattle.user_patterns_sema_base.specs.declared.names.Count.TheVariants as count
 use Rattle.user_patterns_sema_base.specs.Names.{condition_weight, place_of, weight}
-use Rattle.user_patterns_sema_base.specs.Types.{and_variable, kind_of, same_kind, written}
+use Rattle.user_patterns_sema_base.specs.Types.{and_variable, kind_of, same_kind}
 use Rattle.user_patterns_sema_base.specs.Words.{is_narrower, is_power, is_truth, operation_named, predicate_named}
 use Rattle.user_patterns_sema.specs.declared.state.RequiredType.{RequiredType}
 use Rattle.user_patterns_sema.specs.declared.state.TermRef.{TermRef}
-use Rattle.user_patterns_sema.specs.Sema.{Places, Sema, State, a_power, and_number, begun, closed_at, comparing, condition_at, conditions_at, entry, gathered, headroom, is_bare, is_free, literal_of, made_at, named_at, narrowed, new_constant, next_new, next_number, next_type, number_at, number_depth, numbers_requested, operation_at, requested_predicate, required, shaped, term_at, trailing, type_at, typed, typed_constant, typed_entry, typed_operation, types_of, types_requested, value_at, value_from, visited_by, with_pattern_op, with_type, written_at}
+use Rattle.user_patterns_sema.specs.Sema.{Places, Sema, State, a_power, begun, closed_at, comparing, condition_at, conditions_at, entry, gathered, headroom, is_bare, is_free, literal_of, made_at, named_at, narrowed, new_constant, next_new, next_number, next_type, number_at, number_depth, numbers_requested, operation_at, requested_predicate, shaped, term_at, trailing, type_at, typed, typed_constant, typed_entry, typed_operation, types_of, types_requested, value_at, value_from, visited_by, with_pattern_op, with_type, written_at}
 use Rattle.patterns_refinement.proofs.SemaSteps.{At, Holds, Parts, Walk, at_either, at_end, at_more, gathered_holds, holds_more, holds_then, one_longer}
-use Rattle.patterns_refinement.proofs.SemaTypes.{AllWide, Begun, Covered, Grown, Rest, Sound, Typed, covered_grown, covered_same, grown_itself, grown_more, grown_through, kinds_equal, rest_of, still_same, typed_holds, wide_more, written_holds}
-use Rattle.patterns_refinement.proofs.SemaNumbers.{Loose, NumberHas, Numbered, begun_but_given, but_given, number_holds, numbered_through, numbers_hold, place_slot, place_within, pushed, slots, weights}
-use Rattle.patterns_refinement.proofs.SemaShapes.{Fitted, FormTyped, but_constraints, form_still, named_extends, shaped_holds}
+use Rattle.patterns_refinement.proofs.SemaTypes.{AllWide, Begun, Covered, Grown, Rest, Sound, Typed, covered_grown, grown_itself, grown_more, grown_through, rest_of, still_same, typed_holds, wide_more, written_holds}
+use Rattle.patterns_refinement.proofs.SemaNumbers.{NumberHas, Numbered, begun_but_given, number_holds, numbered_through, numbers_hold, place_slot, place_within, pushed, slots, weights}
+use Rattle.patterns_refinement.proofs.SemaOperands.{FormStep, FormTyped, form_still, named_extends, shaped_holds}
 
 -- ---- the types of new values
 -- the type number of an operand: a variable, or one of the first k new values
@@ -97,8 +94,8 @@ new_rest b f h g e = record {
   left = ap left_of e;
 }
 
-new_fitted : (b : Places) (n : ℕ) (f h : Sema) → Fitted n f h → NewMoved b f h
-new_fitted b n f h x = record {
+new_form_step : (b : Places) (n : ℕ) (f h : Sema) → FormStep n f h → NewMoved b f h
+new_form_step b n f h x = record {
   grown = x.grown;
   stays = λ i t p. subst (λ (r : Rest). place_slot b (slots b r.given) i ≡ Some t) (sym x.rest) p;
   news = λ k w p. subst (λ (r : Rest). slice_get r.new k ≡ Some w) (sym x.rest) p;
@@ -359,7 +356,7 @@ module _ (b : Places) (start : length b.variables ≤ b.given) where
       let f1 = begun false (next_type f) at (with_type f) in
       let s = next_type f in
       let first : s < length g.value_types = (let l = type_within f in omega (arith, l, step.0.grown.longer)) in
-      holds_then (λ (y : Expression × Sema). Fitted n g y.1 × (has_name y.0 ≡ true) × FormTyped (NewSlot b g.new (length g.new)) y.1.value_types y.1.type_constraints s y.0)
+      holds_then (λ (y : Expression × Sema). FormStep n g y.1 × (has_name y.0 ≡ true) × FormTyped (NewSlot b g.new (length g.new)) y.1.value_types y.1.type_constraints s y.0)
       (λ (e : TermRef × Sema). NewFound ((at, operation_part name asks) ∷ ps) f (e.0, (qs, e.1)))
       (shaped (operation_named name) (requested_predicate asks) es s at g)
       (λ y. Ok (with_pattern_op b false (record { form = y.0; bare = is_bare (operation_named name) asks; ty = s }) s at y.1))
@@ -369,12 +366,12 @@ module _ (b : Places) (start : length b.variables ≤ b.given) where
       let u = y.1 in
       let v = new.Operation o in
       let z = record u { new = u.new ++ (v ∷ []) } in
-      let fit = new_fitted b n g u x.0 in
+      let moved = new_form_step b n g u x.0 in
       let same : u.new ≡ g.new = ap (λ (r : Rest). r.new) x.0.rest in
       let given = ap (λ (r : Rest). length r.given) x.0.rest in
-      let good2 = good_same b g u fit same x.0.sound good in
+      let good2 = good_same b g u moved same x.0.sound good in
       let push : NewMoved b u z = record { grown = grown_itself u.value_types; stays = λ i t e. e; news = λ k w e. at_more u.new (v ∷ []) k w e; types = λ r i. i; more = λ c i. i; left = refl } in
-      let whole = new_through b g u z fit push in
+      let whole = new_through b g u z moved push in
       let begins : NewBegun z s = (let o = opened_begun at f in (o.0, whole.types o.0 (step.0.types o.0 o.1), o.2)) in
       let sound : Sound n z = record { wide = x.0.sound.wide; long = x.0.sound.long; covered = x.0.sound.covered } in
       let slot : s < length u.value_types = omega (arith, first, x.0.grown.longer) in
@@ -419,8 +416,8 @@ module _ (b : Places) (start : length b.variables ≤ b.given) where
 
   -- ---- conditions
   -- the state after a condition
-  abbrev Asked : ℕ → Parts → Sema → State → Type 0
-  Asked weight ps f y = NewGood b y.1 × NewMoved b f y.1 × (y.1.new ≡ f.new) × (length y.1.given + weights count.Numbers y.0 ≤ length f.given + (weight + weights count.Numbers ps))
+  abbrev AfterCondition : ℕ → Parts → Sema → State → Type 0
+  AfterCondition weight ps f y = NewGood b y.1 × NewMoved b f y.1 × (y.1.new ≡ f.new) × (length y.1.given + weights count.Numbers y.0 ≤ length f.given + (weight + weights count.Numbers ps))
 
   -- a type
   abbrev TypeStep : Parts → Sema → Parts → Sema → Type 0
@@ -478,13 +475,13 @@ module _ (b : Places) (start : length b.variables ≤ b.given) where
       let m : NewMoved b f _ = record { grown = grown_itself f.value_types; stays = λ i t e. e; news = λ k w e. e; types = λ t x. x; more = λ c x. (x.0, at_more f.type_constraints _ x.0 c x.1); left = refl } in
       (good_same b f _ m refl (record { wide = good.sound.wide; long = good.sound.long; covered = good.sound.covered }) good, m, refl, refl)
 
-  types_hold : (at : ℕ) (ps : Parts) (f : Sema) → NewGood b f → Holds (Asked 0 ps f) (types_requested at (ps, f))
+  types_hold : (at : ℕ) (ps : Parts) (f : Sema) → NewGood b f → Holds (AfterCondition 0 ps f) (types_requested at (ps, f))
   unfolding types_requested
   types_hold at ps f good =
-      holds_then (λ (y : List ℕ × State). NewGood b y.1.1 × TypeStep ps f y.1.0 y.1.1 × AllByRecursion (λ i. Unit {0}) y.0) (Asked 0 ps f) (gathered type_at headroom [] (ps, f)) (λ x. narrowed x.0 at x.1.1 >>= λ f. Ok (x.1.0, f))
+      holds_then (λ (y : List ℕ × State). NewGood b y.1.1 × TypeStep ps f y.1.0 y.1.1 × AllByRecursion (λ i. Unit {0}) y.0) (AfterCondition 0 ps f) (gathered type_at headroom [] (ps, f)) (λ x. narrowed x.0 at x.1.1 >>= λ f. Ok (x.1.0, f))
       (gathered_holds type_at (λ ps f. NewGood b f) TypeStep (λ i f. Unit {0}) type_walk headroom [] ps f good tt)
       (λ x h.
-      holds_then (λ z. NewGood b z × NewMoved b x.1.1 z × (z.new ≡ x.1.1.new) × (z.given ≡ x.1.1.given)) (Asked 0 ps f) (narrowed x.0 at x.1.1) (λ f. Ok (x.1.0, f)) (narrowed_holds x.0 at x.1.1 h.0)
+      holds_then (λ z. NewGood b z × NewMoved b x.1.1 z × (z.new ≡ x.1.1.new) × (z.given ≡ x.1.1.given)) (AfterCondition 0 ps f) (narrowed x.0 at x.1.1) (λ f. Ok (x.1.0, f)) (narrowed_holds x.0 at x.1.1 h.0)
       (λ z u. let g = ap length u.3 in (u.0, new_through b f x.1.1 z h.1.0.0 u.1, u.2 ∙ h.1.1, omega (arith, h.1.0.1, g))))
 
   -- numbers, and a condition on them
@@ -532,7 +529,7 @@ module _ (b : Places) (start : length b.variables ≤ b.given) where
       let long = x.long in
       let grown = grown_through f.value_types f1.value_types g.value_types (grown_more f.value_types (k ∷ [])) x.grown in
       let last : kind_of s f1.value_types ≡ ty.Variable s = last_kind f.value_types k in
-      let its : Covered n g.value_types (rest_of g) s = elim (x.loose (inl last)) [
+      let its : Covered n g.value_types (rest_of g) s = elim (x.free (inl last)) [
         | inl e ↦ absurd (true≢false (sym (ap (λ z. same_kind z (ty.Variable s)) e ∙ same_itself s) ∙ free))
         | inr c ↦ c
       ] in
@@ -545,24 +542,24 @@ module _ (b : Places) (start : length b.variables ≤ b.given) where
         ];
       }
 
-  requested_holds : (at : ℕ) (w : List ℕ) (ps : Parts) (f : Sema) → is_narrower w ≡ false → NewGood b f → Holds (Asked (condition_weight w) ps f) (numbers_requested b at w (ps, f))
+  requested_holds : (at : ℕ) (w : List ℕ) (ps : Parts) (f : Sema) → is_narrower w ≡ false → NewGood b f → Holds (AfterCondition (condition_weight w) ps f) (numbers_requested b at w (ps, f))
   unfolding numbers_requested
-  requested_holds at w ps f plain good =
+  requested_holds at w ps f other good =
       let s = next_type f in
       let f1 = with_type f in
       let one : length f1.value_types ≡ length f.value_types + 1 = one_longer f.value_types (ty.Variable (length f.value_types)) in
-      holds_then (λ (y : List ℕ × State). ((s < length y.1.1.value_types) × (n ≤ length y.1.1.value_types)) × (Numbered b s f1 y.1.1 × (length y.1.1.given + weights count.Numbers y.1.0 ≤ length f1.given + weights count.Numbers ps)) × AllByRecursion (λ i. NumberHas b s i y.1.1) y.0) (Asked (condition_weight w) ps f)
+      holds_then (λ (y : List ℕ × State). ((s < length y.1.1.value_types) × (n ≤ length y.1.1.value_types)) × (Numbered b s f1 y.1.1 × (length y.1.1.given + weights count.Numbers y.1.0 ≤ length f1.given + weights count.Numbers ps)) × AllByRecursion (λ i. NumberHas b s i y.1.1) y.0) (AfterCondition (condition_weight w) ps f)
       (gathered (number_at b number_depth s) headroom [] (ps, f1)) (λ x. visited_by b w x.0 at x.1.1 >>= λ f. named_at s at f >>= λ g. Ok (x.1.0, g))
       (numbers_hold b s start number_depth ps f1 (omega (arith, one), omega (arith, one, good.sound.long)))
       (λ x h.
-      holds_then (Visited s (condition_weight w) x.1.1) (Asked (condition_weight w) ps f) (visited_by b w x.0 at x.1.1) (λ f. named_at s at f >>= λ g. Ok (x.1.0, g)) (visited_holds s w x.0 at x.1.1 plain)
+      holds_then (Visited s (condition_weight w) x.1.1) (AfterCondition (condition_weight w) ps f) (visited_by b w x.0 at x.1.1) (λ f. named_at s at f >>= λ g. Ok (x.1.0, g)) (visited_holds s w x.0 at x.1.1 other)
       (λ u v. named x.1.0 x.1.1 u h.1 v))
     where
       named : (qs : Parts) (g u : Sema) → Numbered b (next_type f) (with_type f) g × (length g.given + weights count.Numbers qs ≤ length (with_type f).given + weights count.Numbers ps) → Visited (next_type f) (condition_weight w) g u
-          → Holds (Asked (condition_weight w) ps f) (named_at (next_type f) at u >>= λ g. Ok (qs, g))
+          → Holds (AfterCondition (condition_weight w) ps f) (named_at (next_type f) at u >>= λ g. Ok (qs, g))
       named qs g u x v = go (is_free (next_type f) u) refl
         where
-          go : (t : Bool) → is_free (next_type f) u ≡ t → Holds (Asked (condition_weight w) ps f) ((if t then refused TypeMismatch at else Ok u) >>= λ g. Ok (qs, g))
+          go : (t : Bool) → is_free (next_type f) u ≡ t → Holds (AfterCondition (condition_weight w) ps f) ((if t then refused TypeMismatch at else Ok u) >>= λ g. Ok (qs, g))
           go true e = tt
           go false e =
               let whole = numbered_through b (next_type f) (with_type f) g u x.0 v.0 in
@@ -571,12 +568,12 @@ module _ (b : Places) (start : length b.variables ≤ b.given) where
               let same = ap (λ (r : Rest). r.new) whole.rest in
               (good_same b f u m same (settled_sound f u good.sound whole e) good, m, same, omega (arith, x.1, v.1))
 
-  condition_holds : (at : ℕ) (w : List ℕ) (ps : Parts) (f : Sema) → NewGood b f → Holds (Asked (condition_weight w) ps f) (condition_at b at w (ps, f))
+  condition_holds : (at : ℕ) (w : List ℕ) (ps : Parts) (f : Sema) → NewGood b f → Holds (AfterCondition (condition_weight w) ps f) (condition_at b at w (ps, f))
   condition_holds at w ps f good = go (is_narrower w) refl
     where
-      go : (t : Bool) → is_narrower w ≡ t → Holds (Asked (condition_weight w) ps f) (if t then types_requested at (ps, f) else numbers_requested b at w (ps, f))
+      go : (t : Bool) → is_narrower w ≡ t → Holds (AfterCondition (condition_weight w) ps f) (if t then types_requested at (ps, f) else numbers_requested b at w (ps, f))
       go true e =
-          holds_more (Asked 0 ps f) (Asked (condition_weight w) ps f) (types_requested at (ps, f)) (types_hold at ps f good) (λ y h. (h.0, h.1, h.2, omega (arith, h.3)))
+          holds_more (AfterCondition 0 ps f) (AfterCondition (condition_weight w) ps f) (types_requested at (ps, f)) (types_hold at ps f good) (λ y h. (h.0, h.1, h.2, omega (arith, h.3)))
       go false e = requested_holds at w ps f e good
 
   pub conditions_hold : (k : ℕ) (ps : Parts) (f : Sema) → NewGood b f → Holds (λ h. NewGood b h × NewMoved b f h × (h.new ≡ f.new) × (length h.given ≤ length f.given + weights count.Numbers ps)) (conditions_at b k (ps, f))
@@ -584,7 +581,7 @@ module _ (b : Places) (start : length b.variables ≤ b.given) where
   conditions_hold zero ps f good = tt
   conditions_hold (suc k) [] f good = (good, new_still b f, refl, omega arith)
   conditions_hold (suc k) ((at, condition_part w) ∷ ps) f good =
-      holds_then (Asked (condition_weight w) ps f) (λ h. NewGood b h × NewMoved b f h × (h.new ≡ f.new) × (length h.given ≤ length f.given + weights count.Numbers ((at, condition_part w) ∷ ps))) (condition_at b at w (ps, f)) (conditions_at b k) (condition_holds at w ps f good)
+      holds_then (AfterCondition (condition_weight w) ps f) (λ h. NewGood b h × NewMoved b f h × (h.new ≡ f.new) × (length h.given ≤ length f.given + weights count.Numbers ((at, condition_part w) ∷ ps))) (condition_at b at w (ps, f)) (conditions_at b k) (condition_holds at w ps f good)
       (λ y a.
       holds_more (λ h. NewGood b h × NewMoved b y.1 h × (h.new ≡ y.1.new) × (length h.given ≤ length y.1.given + weights count.Numbers y.0)) (λ h. NewGood b h × NewMoved b f h × (h.new ≡ f.new) × (length h.given ≤ length f.given + weights count.Numbers ((at, condition_part w) ∷ ps))) (conditions_at b k (y.0, y.1)) (conditions_hold k y.0 y.1 a.0)
       (λ h c. (c.0, new_through b f y.1 h a.1 c.1, c.2 ∙ a.2, omega (arith, a.3, c.3))))

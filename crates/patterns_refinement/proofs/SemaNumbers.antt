@@ -1,15 +1,13 @@
 -- The numbers of a semantic analysis: each has the type that it is computed at.
-use Rattle.std.proofs.Common.{◌≡◌, ℕ, zero, suc, ◌+◌, ◌-◌, ◌<◌, ◌≤◌, Bool, true, false, true≢false, eqb, eqb-true, if◌then◌else◌, List, [], ◌∷◌, ◌++◌, length, map, get_or, Option, Some, None, Ok, Err, refl, sym, ap, subst, ◌∙◌, ◌⊎◌, inl, inr, arith, slice_get}
-use Rattle.std.specs.Prelude.{nat_lt, is_some, not, ◌&&◌}
-use Rattle.std.specs.Str.{bytes_eq}
-use Rattle.std.specs.List.{AllByRecursion, list_all}
+use Rattle.std.proofs.Common.{◌≡◌, ℕ, zero, suc, ◌+◌, ◌-◌, ◌<◌, ◌≤◌, Bool, true, false, if◌then◌else◌, List, [], ◌∷◌, ◌++◌, length, get_or, Option, Some, None, Ok, refl, sym, ap, subst, ◌∙◌, ◌⊎◌, inl, inr, arith}
+use Rattle.std.specs.Prelude.{nat_lt, is_some}
+use Rattle.std.specs.List.{AllByRecursion}
 use Rattle.std.proofs.lemmas.Bool.{lt-ltb, ltb-true}
 use Rattle.std.proofs.lemmas.Option.{none-some, same_Some}
-use Rattle.ir_types.specs.declared.bits.BitsKind.{BitsKind}
 use Rattle.ir_types.specs.declared.bits.BitsKind.TheVariants as bits
 use Rattle.dialects_int.specs.declared.operations.Arithmetic.TheVariants as op
-use Rattle.user_patterns_text.specs.Parts.{Part, Placed, operation_part, value_part, literal_part, name_part, function_part, condition_part, type_part, end_part}
-use Rattle.user_patterns_text.specs.Refusing.{Outcome, ◌>>=◌, refused}
+use Rattle.user_patterns_text.specs.Parts.{operation_part, value_part, literal_part, name_part, function_part, condition_part, type_part, end_part}
+use Rattle.user_patterns_text.specs.Refusing.{Outcome, ◌>>=◌}
 use Rattle.user_patterns_data.specs.declared.pattern.PatternType.{PatternType}
 use Rattle.user_patterns_data.specs.declared.pattern.PatternType.TheVariants as ty
 use Rattle.user_patterns_data.specs.declared.pattern.ConstantExpression.{ConstantExpression}
@@ -22,9 +20,9 @@ use Rattle.user_patterns_sema_base.specs.Names.{function_weight, is_variable, na
 use Rattle.user_patterns_sema_base.specs.Types.{kind_of}
 use Rattle.user_patterns_sema_base.specs.Views.{Variable}
 use Rattle.user_patterns_sema_base.specs.Words.{function_named, truth_named}
-use Rattle.user_patterns_sema.specs.Sema.{Places, Sema, State, and_literal, and_number, applied, function_at, gathered, headroom, literal_number, literal_with, name_from, next_number, number_at, trailing, unite, unite_with, word_from, written_number}
-use Rattle.patterns_refinement.proofs.SemaSteps.{At, Holds, Parts, Walk, gathered_holds, holds_more, holds_then, one_longer}
-use Rattle.patterns_refinement.proofs.SemaTypes.{AllWide, Begun, Covered, Grown, Rest, Same, covered_grown, grown_itself, grown_through, rest_of, still_concrete, still_same, unite_holds, unite_with_holds, wide_at}
+use Rattle.user_patterns_sema.specs.Sema.{Places, Sema, State, and_literal, and_number, applied, function_at, gathered, headroom, literal_number, literal_with, name_from, next_number, number_at, trailing, unite, unite_with, word_from}
+use Rattle.patterns_refinement.proofs.SemaSteps.{Holds, Parts, Walk, gathered_holds, holds_more, holds_then, one_longer}
+use Rattle.patterns_refinement.proofs.SemaTypes.{AllWide, Begun, Covered, Grown, Rest, Same, grown_itself, grown_through, rest_of, still_same, unite_holds, unite_with_holds, wide_at}
 
 -- the weights of all parts
 abbrev pub weights : Count → Parts → ℕ
@@ -98,16 +96,13 @@ place_slot_more b acc o i s e = go (nat_lt i (length b.variables)) e
     go true e = e
     go false e = by (nat_lt i b.given) e
 
-abbrev Slot : Places → Sema → ℕ → ℕ → Type 0
-Slot b f i s = place_slot b (slots b f.given) i ≡ Some s
-
 -- the number at a place has a type that equals the type with a number
 abbrev pub NumberHas : Places → ℕ → ℕ → Sema → Type 0
 NumberHas b s i f = (t : ℕ) × (place_slot b (slots b f.given) i ≡ Some t) × (t < length f.value_types) × (kind_of t f.value_types ≡ kind_of s f.value_types)
 
 -- the type is still its own variable, or is covered
-abbrev pub Loose : ℕ → ℕ → Sema → Type 0
-Loose n s f = (kind_of s f.value_types ≡ ty.Variable s) ⊎ Covered n f.value_types (rest_of f) s
+abbrev pub IsFreeOrCovered : ℕ → ℕ → Sema → Type 0
+IsFreeOrCovered n s f = (kind_of s f.value_types ≡ ty.Variable s) ⊎ Covered n f.value_types (rest_of f) s
 
 abbrev pub but_given : Rest → Rest
 but_given r = record r { given = [] }
@@ -119,7 +114,7 @@ pub record Numbered (b : Places) (s : ℕ) (f h : Sema) : Type 0 where
   pub wide : AllWide f.value_types → AllWide h.value_types
   pub rest : but_given (rest_of h) ≡ but_given (rest_of f)
   pub stays : (i t : ℕ) → place_slot b (slots b f.given) i ≡ Some t → place_slot b (slots b h.given) i ≡ Some t
-  pub loose : Loose (length b.variables) s f → Loose (length b.variables) s h
+  pub free : IsFreeOrCovered (length b.variables) s f → IsFreeOrCovered (length b.variables) s h
 
 -- what is recorded depends on the rest without the numbers
 pub begun_but_given : (n : ℕ) (r u : Rest) → but_given u ≡ but_given r → (j : ℕ) → Begun n r j → Begun n u j
@@ -132,7 +127,7 @@ numbered_through b s f g h x y = record {
   wide = λ w. y.wide (x.wide w);
   rest = y.rest ∙ x.rest;
   stays = λ i t e. y.stays i t (x.stays i t e);
-  loose = λ l. y.loose (x.loose l);
+  free = λ l. y.free (x.free l);
 }
 
 pub has_still : (b : Places) (s i : ℕ) (f h : Sema) → Numbered b s f h → s < length f.value_types → NumberHas b s i f → NumberHas b s i h
@@ -148,7 +143,7 @@ module _ (b : Places) (s : ℕ) (start : length b.variables ≤ b.given) where
   here_still f h x i = let long = x.long in (omega (arith, i.0, long), omega (arith, i.1, long))
 
   numbered_still : (f : Sema) → Numbered b s f f
-  numbered_still f = record { grown = grown_itself f.value_types; long = refl; wide = λ w. w; rest = refl; stays = λ i t e. e; loose = λ l. l }
+  numbered_still f = record { grown = grown_itself f.value_types; long = refl; wide = λ w. w; rest = refl; stays = λ i t e. e; free = λ l. l }
 
   -- one more number
   abbrev with_number : ConstantExpression → Sema → Sema
@@ -161,7 +156,7 @@ module _ (b : Places) (s : ℕ) (start : length b.variables ≤ b.given) where
     wide = λ w. w;
     rest = refl;
     stays = λ i t e. subst (λ acc. place_slot b acc i ≡ Some t) (sym (slots_more b f.given [] c)) (place_slot_more b (slots b f.given) (slot_for b (slots b f.given) c) i t e);
-    loose = λ l. l;
+    free = λ l. l;
   }
 
   -- and its type
@@ -189,14 +184,14 @@ module _ (b : Places) (s : ℕ) (start : length b.variables ≤ b.given) where
       go false e = by (nat_lt (b.given + length f.given) b.given) refl
 
   -- a step that unifies types
-  pub numbered_united : (x y : PatternType) (f h : Sema) → Same x y f h → (Loose (length b.variables) s f → Loose (length b.variables) s h) → (AllWide f.value_types → AllWide h.value_types) → Numbered b s f h
-  numbered_united x y f h u loose wide = record {
+  pub numbered_united : (x y : PatternType) (f h : Sema) → Same x y f h → (IsFreeOrCovered (length b.variables) s f → IsFreeOrCovered (length b.variables) s h) → (AllWide f.value_types → AllWide h.value_types) → Numbered b s f h
+  numbered_united x y f h u free wide = record {
     grown = u.kinds.grown;
     long = u.kinds.long;
     wide = wide;
     rest = ap but_given u.rest;
     stays = λ i t e. subst (λ (r : Rest). place_slot b (slots b r.given) i ≡ Some t) (sym u.rest) e;
-    loose = loose;
+    free = free;
   }
 
   -- ---- the number's step and its parts
@@ -313,7 +308,7 @@ module _ (b : Places) (s : ℕ) (start : length b.variables ≤ b.given) where
       let g = and_literal (literal_with negative magnitude s) at f in
       let l = longer_by c f in
       let x = pushed c g in
-      (i, (record { grown = x.grown; long = x.long; wide = x.wide; rest = x.rest; stays = x.stays; loose = x.loose }, omega (arith, l)), one_pushed c g s refl i.0 refl)
+      (i, (record { grown = x.grown; long = x.long; wide = x.wide; rest = x.rest; stays = x.stays; free = x.free }, omega (arith, l)), one_pushed c g s refl i.0 refl)
   number_holds (suc depth) ((at, name_part name) ∷ ps) f i =
       holds_then (Worded name f) (Found ((at, name_part name) ∷ ps) f) (word_from b (truth_named name) name s at f) (λ x. Ok (trailing ps x)) (word_holds name at f i)
       (λ y h. (here_still f y.1 h.0 i, (h.0, omega (arith, h.1)), h.2))

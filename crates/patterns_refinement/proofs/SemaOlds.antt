@@ -1,15 +1,12 @@
 -- The left side of a semantic analysis: its types are those of variables, literals and operations, and it adds at most
 -- one constant for each constant in the text that isn't the first use of a name.
 use Rattle.std.proofs.Common.{◌≡◌, ℕ, zero, suc, ◌+◌, ◌<◌, ◌≤◌, Bool, true, false, true≢false, eqb, eqb-true, if◌then◌else◌, List, [], ◌∷◌, ◌++◌, length, Option, Some, None, Ok, Err, refl, sym, ap, subst, ◌∙◌, ◌⊎◌, inl, inr, arith, slice_get}
-use Rattle.std.specs.Prelude.{is_some, nat_lt, not, ◌&&◌}
-use Rattle.std.specs.Str.{bytes_eq}
+use Rattle.std.specs.Prelude.{is_some, nat_lt}
 use Rattle.std.specs.List.{AllByRecursion, list_all, list_any}
 use Rattle.std.proofs.lemmas.Bool.{and_from, and_parts, or_cases}
-use Rattle.std.proofs.lemmas.List.{length-append}
 use Rattle.std.proofs.lemmas.Option.{none-some, same_Some}
 use Rattle.std.proofs.lemmas.Slice.Eq.{bytes_eq-Decides}
 use Rattle.ir_text_tokens.specs.declared.refusal.TextRefusal.TheVariants.{TooMany}
-use Rattle.ir_types.specs.declared.bits.BitsKind.{BitsKind}
 use Rattle.ir_types.specs.declared.bits.BitsKind.TheVariants as bits
 use Rattle.user_patterns_text.specs.Grammar.{most}
 use Rattle.user_patterns_text.specs.Parts.{Part, Placed, operation_part, value_part, literal_part, name_part, function_part, condition_part, type_part, end_part}
@@ -31,11 +28,11 @@ use Rattle.user_patterns_sema_base.specs.Views.{Variable}
 use Rattle.user_patterns_sema_base.specs.Words.{is_truth, operation_named, truth_named}
 use Rattle.user_patterns_sema.specs.declared.state.RequiredType.{RequiredType}
 use Rattle.user_patterns_sema.specs.declared.state.TermRef.{TermRef}
-use Rattle.user_patterns_sema.specs.Sema.{Places, Sema, State, begun, closed_at, count_constants, entry, gathered, headroom, is_bare, literal_of, literal_with, next_extra, next_type, old_constant, old_constant_of, old_literal, old_name_from, old_truth, old_word_from, operation_at, requested_predicate, shaped, term_at, trailing, typed, typed_constant, typed_entry, typed_operation, unite_with, value_at, value_from, visited_from, with_pattern_op, with_type}
+use Rattle.user_patterns_sema.specs.Sema.{Places, Sema, State, begun, closed_at, count_constants, entry, gathered, headroom, is_bare, literal_with, next_type, old_constant, old_constant_of, old_literal, old_name_from, old_truth, old_word_from, operation_at, requested_predicate, shaped, term_at, trailing, typed, typed_constant, typed_entry, typed_operation, unite_with, value_at, value_from, visited_from, with_pattern_op, with_type}
 use Rattle.patterns_refinement.proofs.SemaSteps.{At, Holds, Parts, Walk, at_either, at_end, at_more, gathered_holds, holds_more, holds_then, one_longer}
 use Rattle.patterns_refinement.proofs.SemaTypes.{AllWide, Begun, Covered, Grown, Rest, Same, Sound, Typed, covered_grown, grown_itself, grown_more, grown_through, rest_of, sound_unified, typed_holds, unite_with_holds, wide_at, wide_more}
 use Rattle.patterns_refinement.proofs.SemaNumbers.{place_within, weights}
-use Rattle.patterns_refinement.proofs.SemaShapes.{Extends, Fitted, FormTyped, but_constraints, named_extends, shaped_holds}
+use Rattle.patterns_refinement.proofs.SemaOperands.{FormStep, FormTyped, named_extends, shaped_holds}
 
 -- ---- names on the left
 -- the variables after a part: the same, or one more
@@ -45,13 +42,13 @@ Next t name vs ws = ((ws ≡ vs) × ((i : ℕ) × (place_of t name vs ≡ Some i
 variable_holds : (at : ℕ) (t : Bool) (name : List ℕ) (vs : List Variable) → Holds (Next t name vs) (with_variable at t name vs)
 variable_holds at t name vs = go (place_of t name vs) refl
   where
-    room : (s : Bool) → place_of t name vs ≡ None → Holds (Next t name vs) (if s then Ok (vs ++ ((t, name) ∷ [])) else refused TooMany at)
-    room true e = inr (refl, e)
-    room false e = tt
+    if_few : (s : Bool) → place_of t name vs ≡ None → Holds (Next t name vs) (if s then Ok (vs ++ ((t, name) ∷ [])) else refused TooMany at)
+    if_few true e = inr (refl, e)
+    if_few false e = tt
 
     go : (o : Option ℕ) → place_of t name vs ≡ o → Holds (Next t name vs) (if is_some o then Ok vs else if nat_lt (length vs) most then Ok (vs ++ ((t, name) ∷ [])) else refused TooMany at)
     go (Some i) e = inl (refl, (i, e))
-    go None e = room (nat_lt (length vs) most) e
+    go None e = if_few (nat_lt (length vs) most) e
 
 constants_more : (vs : List Variable) (v : Variable) → count_constants (vs ++ (v ∷ [])) ≡ count_constants vs + count_constants (v ∷ [])
 constants_more [] v = sym (no_more (count_constants (v ∷ [])))
@@ -241,12 +238,12 @@ module _ (b : Places) where
   n = length b.variables
 
   -- ---- a part that names no constant
-  plain_next : (at : ℕ) (p : Part) (ps : Parts) (f : Sema) (vs : List Variable) → taken vs ((at, p) ∷ ps) ≡ Ok b.variables → with_part vs (at, p) ≡ Ok vs → taken vs ps ≡ Ok b.variables
+  same_next : (at : ℕ) (p : Part) (ps : Parts) (f : Sema) (vs : List Variable) → taken vs ((at, p) ∷ ps) ≡ Ok b.variables → with_part vs (at, p) ≡ Ok vs → taken vs ps ≡ Ok b.variables
   unfolding taken
-  plain_next at p ps f vs e i = sym (ap (λ o. o >>= λ more. taken more ps) i) ∙ e
+  same_next at p ps f vs e i = sym (ap (λ o. o >>= λ more. taken more ps) i) ∙ e
 
   names_kept : (at : ℕ) (p : Part) (ps : Parts) (f : Sema) → ((vs : List Variable) → with_part vs (at, p) ≡ Ok vs) → Names b ((at, p) ∷ ps) f → Names b ps f
-  names_kept at p ps f same m = record { before = m.before; all = plain_next at p ps f m.before m.all (same m.before); below = m.below; counted = m.counted }
+  names_kept at p ps f same m = record { before = m.before; all = same_next at p ps f m.before m.all (same m.before); below = m.below; counted = m.counted }
 
   record Later (before : List Variable) (p : Placed) (ps : Parts) : Type 0 where
     pub after : List Variable
@@ -345,10 +342,6 @@ module _ (b : Places) where
               }
             ]
       ]
-
-  -- ---- one more recorded term
-  abbrev Kept : Parts → Sema → Parts → Sema → Type 0
-  Kept ps f qs h = OldGood b qs h × OldStep b ps f qs h
 
   -- a term's type, and whether its place is known
   abbrev Rooted : TermRef → Sema → Type 0
@@ -613,8 +606,8 @@ module _ (b : Places) where
   constant_holds depth at end_part ps f good = tt
 
   -- ---- operations
-  moved_fitted : (f h : Sema) → Fitted n f h → OldMoved b f h
-  moved_fitted f h x = record {
+  moved_form_step : (f h : Sema) → FormStep n f h → OldMoved b f h
+  moved_form_step f h x = record {
     grown = x.grown;
     begins = λ j i. subst (λ (r : Rest). At r.old_types j) (sym x.rest) i;
     just = λ j i. inl (subst (λ (r : Rest). At r.old_types j) x.rest i);
@@ -668,7 +661,7 @@ module _ (b : Places) where
   closed_found at name asks ps qs f g es good step all =
       let f1 = begun true (next_type f) at (with_type f) in
       let first : next_type f < length g.value_types = (let l = type_within f in omega (arith, l, step.0.grown.longer)) in
-      holds_then (λ (y : Expression × Sema). Fitted n g y.1 × (has_name y.0 ≡ true) × FormTyped AnyPlace y.1.value_types y.1.type_constraints (next_type f) y.0)
+      holds_then (λ (y : Expression × Sema). FormStep n g y.1 × (has_name y.0 ≡ true) × FormTyped AnyPlace y.1.value_types y.1.type_constraints (next_type f) y.0)
       (λ (e : TermRef × Sema). OldFound ((at, operation_part name asks) ∷ ps) f (e.0, (qs, e.1)))
       (shaped (operation_named name) (requested_predicate asks) es (next_type f) at g)
       (λ y. Ok (with_pattern_op b true (record { form = y.0; bare = is_bare (operation_named name) asks; ty = next_type f }) (next_type f) at y.1))
@@ -677,8 +670,8 @@ module _ (b : Places) where
       let o : PatternOp = record { form = y.0; bare = is_bare (operation_named name) asks; ty = next_type f } in
       let u = y.1 in
       let h = record u { old = u.old ++ (o ∷ []) } in
-      let fit = moved_fitted g u x.0 in
-      let whole = moved_through b f1 g u step.0 fit in
+      let moved = moved_form_step g u x.0 in
+      let whole = moved_through b f1 g u step.0 moved in
       let pushed : (p : PatternOp) → At u.old p → At h.old p = (λ p i. (i.0, at_more u.old (o ∷ []) i.0 p i.1)) in
       let ex = ap (λ (r : Rest). length r.extra) x.0.rest in
       let vi = ap (λ (r : Rest). length r.visited) x.0.rest in

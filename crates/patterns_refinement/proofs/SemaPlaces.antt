@@ -1,5 +1,5 @@
 -- The types of a pattern that semantic analysis made, by the numbers that equal types share.
-use Rattle.std.proofs.Common.{◌≡◌, ℕ, zero, suc, ◌+◌, ◌-◌, ◌<◌, ◌≤◌, Bool, true, false, true≢false, ◌&&◌, ◌||◌, not, eqb, if◌then◌else◌, List, [], ◌∷◌, ◌++◌, length, map, Option, Some, None, Ok, Err, refl, sym, ap, subst, ◌∙◌, ◌⊎◌, inl, inr, arith, slice_get}
+use Rattle.std.proofs.Common.{◌≡◌, ℕ, zero, suc, ◌+◌, ◌-◌, ◌<◌, Bool, true, false, true≢false, ◌&&◌, ◌||◌, not, eqb, if◌then◌else◌, List, [], ◌∷◌, ◌++◌, length, map, Option, Some, None, refl, sym, ap, subst, ◌∙◌, ◌⊎◌, inl, inr, arith, slice_get}
 use Rattle.std.specs.Prelude.{is_some, nat_lt, option_map}
 use Rattle.std.specs.List.{list_all, list_any, range_with_len}
 use Rattle.std.proofs.lemmas.Bool.{and_from, and_parts, eq-eqb, lt-ltb, ltb-true}
@@ -12,7 +12,6 @@ use Rattle.dialects_int.proofs.KnownOperands.{same_itself as kind_itself}
 use Rattle.user_patterns_data.specs.declared.pattern.PatternType.{PatternType}
 use Rattle.user_patterns_data.specs.declared.pattern.PatternType.TheVariants as ty
 use Rattle.user_patterns_data.specs.declared.pattern.PatternOp.{PatternOp}
-use Rattle.user_patterns_data.specs.declared.pattern.Literal.{Literal}
 use Rattle.user_patterns_data.specs.declared.pattern.ExtraConstant.{ExtraConstant}
 use Rattle.user_patterns_data.specs.declared.pattern.ExtraConstant.TheVariants as extra
 use Rattle.user_patterns_data.specs.declared.pattern.ConstantExpression.{ConstantExpression}
@@ -23,7 +22,7 @@ use Rattle.user_patterns_data.specs.declared.pattern.TypeConstraint.{TypeConstra
 use Rattle.user_patterns_data.specs.declared.pattern.TypeConstraint.TheVariants as constraint
 use Rattle.user_patterns_data.specs.Shapes.{PatternModel}
 use Rattle.user_patterns_data.specs.WellFormed.{constraint_is_valid, extra_is_valid, is_type, is_variable, is_well_formed, new_ends, news_are_valid, number_is_valid, numbers_are_valid, new_begins, new_is_valid, old_begins, old_is_valid, olds_are_valid, is_new, type_is_valid}
-use Rattle.user_patterns_build.specs.CanBuild.{has_name, new_type}
+use Rattle.user_patterns_build.specs.CanBuild.{new_type}
 use Rattle.user_patterns_build.specs.Unified.{extra_in, first_same, given_in, is_same, kind_in, new_in, number_in, pattern_op_in, requested_in, united}
 use Rattle.user_patterns_build.proofs.Numbered.{have_one_number, numbers_the_same}
 use Rattle.user_patterns_sema_base.specs.Types.{kind_of, same_kind}
@@ -33,7 +32,7 @@ use Rattle.user_patterns_sema.specs.Sema as sema
 use Rattle.patterns_refinement.specs.ForOutcomes.{has_width, has_widths, is_concrete, is_had, is_literal_type}
 use Rattle.patterns_refinement.specs.UsedTypes.{extra_uses, new_uses, number_uses, pattern_op_uses, requested_uses, uses_only}
 use Rattle.patterns_refinement.proofs.SemaSteps.{At}
-use Rattle.patterns_refinement.proofs.SemaTypes.{AllWide, Begun, Covered, Rest, kinds_equal, rest_of, wide_at}
+use Rattle.patterns_refinement.proofs.SemaTypes.{Covered, kinds_equal, rest_of, wide_at}
 use Rattle.patterns_refinement.proofs.SemaOlds.{Justified}
 use Rattle.patterns_refinement.proofs.SemaNews.{NewBegun}
 use Rattle.patterns_refinement.proofs.SemaForm.{Analyzed, pattern_from}

@@ -1,9 +1,9 @@
 -- Rules for outcomes of semantic analysis, and for lists that grow.
-use Rattle.std.proofs.Common.{◌≡◌, ℕ, zero, suc, ◌+◌, ◌<◌, ◌≤◌, Bool, true, false, true≢false, List, [], ◌∷◌, ◌++◌, length, Option, Some, None, Ok, Err, refl, sym, ap, subst, ◌∙◌, ◌⊎◌, inl, inr, arith, slice_get}
+use Rattle.std.proofs.Common.{◌≡◌, ℕ, zero, suc, ◌+◌, List, [], ◌∷◌, ◌++◌, length, Option, Some, None, Ok, Err, refl, sym, ap, subst, ◌∙◌, ◌⊎◌, inl, inr, arith, slice_get}
 use Rattle.std.specs.List.{AllByRecursion}
 use Rattle.std.proofs.lemmas.Option.{none-some, same_Some}
-use Rattle.user_patterns_text.specs.Parts.{Part, Placed, operation_part, value_part, literal_part, name_part, function_part, condition_part, type_part, end_part}
-use Rattle.user_patterns_text.specs.Refusing.{Outcome, ◌>>=◌, refused}
+use Rattle.user_patterns_text.specs.Parts.{Placed, operation_part, value_part, literal_part, name_part, function_part, condition_part, type_part, end_part}
+use Rattle.user_patterns_text.specs.Refusing.{Outcome, ◌>>=◌}
 use Rattle.user_patterns_sema.specs.Sema.{Sema, State, after_end, gathered, gathered_from}
 
 -- ---- outcomes

@@ -1,5 +1,5 @@
 -- The types of a semantic analysis: each step replaces types alike, and each type is that of a recorded term.
-use Rattle.std.proofs.Common.{◌≡◌, ℕ, zero, suc, ◌+◌, ◌<◌, ◌≤◌, Bool, true, false, true≢false, eqb, eqb-true, if◌then◌else◌, List, [], ◌∷◌, ◌++◌, length, map, get_or, Option, Some, None, Ok, Err, refl, sym, ap, subst, ◌∙◌, ◌⊎◌, inl, inr, arith, slice_get}
+use Rattle.std.proofs.Common.{◌≡◌, ℕ, zero, suc, ◌+◌, ◌<◌, ◌≤◌, Bool, true, false, true≢false, eqb-true, if◌then◌else◌, List, [], ◌∷◌, ◌++◌, length, map, Option, Some, None, Ok, Err, refl, sym, ap, subst, ◌∙◌, ◌⊎◌, inl, inr, arith}
 use Rattle.std.specs.Prelude.{not, ◌&&◌, option_map}
 use Rattle.std.specs.Str.{bytes_eq}
 use Rattle.std.specs.Char.{is_ascii_digit}
@@ -9,13 +9,12 @@ use Rattle.std.proofs.lemmas.Option.{none-some, same_Some}
 use Rattle.std.proofs.lemmas.List.{get_or-map, get_or_append_left, length-append, length-map}
 use Rattle.ir_types.specs.declared.bits.BitsKind.{BitsKind}
 use Rattle.ir_types.specs.declared.bits.BitsKind.TheVariants as bits
-use Rattle.ir_types.specs.Bits.{width_of}
 use Rattle.ir_types.specs.Reasons.{is_width}
 use Rattle.ir_text_tokens.specs.Numbers.{integer_of}
 use Rattle.ir_text_tokens.specs.declared.refusal.TextRefusal.TheVariants.{BadValue}
 use Rattle.ir_text_types.specs.Scalars as scalars
 use Rattle.user_patterns_text.specs.Heads.{Written, after_i, integer_type, index_type, is_integer_word, variable_type, type_word}
-use Rattle.user_patterns_text.specs.Parts.{Part, Placed, operation_part, value_part, literal_part, name_part, function_part, condition_part, type_part, end_part}
+use Rattle.user_patterns_text.specs.Parts.{operation_part, value_part, literal_part, name_part, function_part, condition_part, type_part, end_part}
 use Rattle.user_patterns_text.specs.Refusing.{Outcome, ◌>>=◌, refused}
 use Rattle.user_patterns_data.specs.declared.pattern.PatternType.{PatternType}
 use Rattle.user_patterns_data.specs.declared.pattern.PatternType.TheVariants as ty
@@ -24,12 +23,12 @@ use Rattle.user_patterns_data.specs.declared.pattern.ExtraConstant.{ExtraConstan
 use Rattle.user_patterns_data.specs.declared.pattern.ConstantExpression.{ConstantExpression}
 use Rattle.user_patterns_data.specs.declared.pattern.NewValue.{NewValue}
 use Rattle.user_patterns_data.specs.declared.pattern.TypeConstraint.{TypeConstraint}
-use Rattle.user_patterns_sema_base.specs.Types.{Named, Types, all_in_place, and_kind, and_variable, in_place, kind_of, named_from, one, one_with, same_bits, same_kind, slot_of, unified, united, written, written_from}
+use Rattle.user_patterns_sema_base.specs.Types.{Types, all_in_place, in_place, kind_of, named_from, one, one_with, same_bits, same_kind, slot_of, unified, united, written, written_from}
 use Rattle.user_patterns_sema.specs.declared.state.CastConstraint.{CastConstraint}
 use Rattle.user_patterns_sema.specs.declared.state.RequiredType.{RequiredType}
-use Rattle.user_patterns_sema.specs.Sema.{Sema, State, is_of, typed, typed_as, types_of, unite, unite_with, with_kinds, with_slot, with_types, written_at}
+use Rattle.user_patterns_sema.specs.Sema.{Sema, State, is_of, typed, types_of, unite, unite_with, with_kinds, written_at}
 use Rattle.patterns_refinement.specs.ForOutcomes.{has_width}
-use Rattle.patterns_refinement.proofs.SemaSteps.{At, Holds, Parts, at_end, held, holds_more, holds_then}
+use Rattle.patterns_refinement.proofs.SemaSteps.{At, Holds, Parts, holds_more, holds_then}
 
 abbrev pub AllWide : List PatternType → Type 0
 AllWide ks = list_all has_width ks ≡ true

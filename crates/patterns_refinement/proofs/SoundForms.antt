@@ -1,8 +1,7 @@
 -- The form of each pattern that a text defines passes the tests of the laws, except that on signed divisions.
-use Rattle.std.proofs.Common.{◌≡◌, ℕ, Bool, true, false, true≢false, ◌&&◌, if◌then◌else◌, List, [], ◌∷◌, length, map, Option, Some, None, Ok, Err, refl, sym, ap, subst, ◌∙◌}
+use Rattle.std.proofs.Common.{◌≡◌, true, List, [], ◌∷◌, map, Some, Ok, refl, sym, ap, subst, ◌∙◌}
 use Rattle.std.specs.List.{list_all}
 use Rattle.std.proofs.lemmas.Bool.{and_from, and_parts}
-use Rattle.std.proofs.lemmas.Option.{none-some, same_Some}
 use Rattle.user_patterns_text.specs.Parts as parts
 use Rattle.user_patterns_data.specs.declared.pattern.PatternType.{PatternType}
 use Rattle.user_patterns_data.specs.declared.pattern.PatternOp.{PatternOp}
@@ -15,9 +14,9 @@ use Rattle.user_patterns_sema.specs.Sema.{Sema, places_of, wellformed}
 use Rattle.patterns_refinement.specs.ForOutcomes.{has_widths, is_had, numbered}
 use Rattle.patterns_refinement.specs.ByForm.{is_kinded_by_form}
 use Rattle.patterns_refinement.specs.UsedTypes.{uses_only}
-use Rattle.patterns_refinement.proofs.SemaSteps.{Holds, held}
-use Rattle.patterns_refinement.proofs.SemaForm.{Analyzed, FromParts, pattern_from, wellformed_holds}
-use Rattle.patterns_refinement.proofs.SemaPlaces.{unified_pattern, uses, widths}
+use Rattle.patterns_refinement.proofs.SemaSteps.{held}
+use Rattle.patterns_refinement.proofs.SemaForm.{FromParts, pattern_from, wellformed_holds}
+use Rattle.patterns_refinement.proofs.SemaPlaces.{uses, widths}
 use Rattle.patterns_refinement.proofs.SemaKinded.{kinded}
 
 -- the tests on names and types
