@@ -1,7 +1,7 @@
 #!/usr/bin/env python3
 """How many patterns have a form that the laws of crates/patterns_refinement ask for (`is_sound_form`): a pattern
 creates no signed division, its new operations have operands of the required types, and each type variable in its
-conditions is the type of a variable, of a matched operation or of a new value.
+conditions is the type of a term. The last two are proved of each pattern that is read.
 
 usage: tests/compare/sound_forms.py [FILE..]
 
@@ -24,10 +24,9 @@ def named(line):
 
 
 def has_types(pattern):
-    """Whether each type variable of a condition is the type of a value on the left, or of a new value."""
+    """Whether each type variable of a condition is the type of a term."""
     terms = [it for side in (pattern.old, pattern.new) for it in patterns.walk(side)]
-    had = {pattern.typed(it) for it in terms if not (isinstance(it, patterns.Constant) and it.number.is_literal())}
-    had |= {pattern.typed(it) for it in patterns.walk(pattern.new)}
+    had = {pattern.typed(it) for it in terms}
     pairs = [pattern.types.found(it) for pair in pattern.narrower for it in pair]
     spoken = set(pairs) | {pattern.typed(it) for it in pattern.conditions if it in pattern.type_of}
     return {it for it in spoken if it in pattern.types.stands} <= had

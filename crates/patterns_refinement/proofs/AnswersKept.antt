@@ -1,8 +1,7 @@
 -- After a rewriter answered `rewrite` or `canon`, its module refines the module before.
 use Rattle.std.proofs.Common.{◌≡◌, ℕ, [], Result, Ok, Err, refl, sym, ap, subst, inl, inr, ◌⊎◌}
 use Rattle.ir_event.specs.Modules.{Module}
-use Rattle.rewriter_machine.specs.Machine as call
-use Rattle.rewriter_machine.specs.Machine.{Answer, Fault, Goes, Outcome, Reply, Shows, State, Transformation, due_change}
+use Rattle.rewriter_machine.specs.Machine.{Answer, Fault, Outcome, Reply, Shows, State, Transformation, due_change}
 use Rattle.patterns_base.specs.Canonicalization.{Canonical, End, canonicalization_of, ended, stopped}
 use Rattle.greedy.specs.Changes.{canonicalizing, rewriting}
 use Rattle.greedy.specs.Changes as changes

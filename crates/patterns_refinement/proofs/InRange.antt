@@ -26,7 +26,7 @@ use Rattle.user_patterns_data.specs.Fitting.{kind_at}
 use Rattle.user_patterns_data.specs.Planning.{bound_type}
 use Rattle.user_patterns_data.specs.Shapes.{PatternModel}
 use Rattle.user_patterns_build.specs.CanBuild.{new_type}
-use Rattle.user_patterns_widths.specs.Lasting.{HoldsAtAllWidths, PolynomialsKeep}
+use Rattle.user_patterns_widths.specs.Lasting.{PolynomialsKeep}
 use Rattle.user_patterns_apply.specs.Own.{UserPatternsAreAccepted, user_pattern_rewrite}
 use Rattle.greedy.specs.Rewriting.{IsOfItsRules}
 use Rattle.greedy.specs.PatternSet.{RuleOrPatternModel, OfUserPattern, OfRule, rewrite_by_entry}
@@ -37,14 +37,13 @@ use Rattle.patterns_refinement.specs.Keeping.{IsReady, done_after}
 use Rattle.patterns_refinement.specs.Runs.{KeptAreKept, kept_rules}
 use Rattle.patterns_refinement.specs.RuleListRuns.{KeptThrough}
 use Rattle.patterns_refinement.specs.Passing.{FoundAt, KeptAt, is_kinded_at}
-use Rattle.patterns_refinement.specs.Strict.{HoldingKeep}
 use Rattle.patterns_refinement.specs.UsedTypes.{uses_only}
 use Rattle.patterns_refinement.specs.ByForm.{is_kinded_by_form}
-use Rattle.patterns_refinement.specs.ForOutcomes.{CanonStaysInRange, IsInRange, IsProved, KeepsForOutcomes, OutcomesKeep, PatternsStayInRange, ProvedApplyRefines, ProvedRewriteRefines, RulesStayInRange, applied, has_width, is_had, is_sound_form, numbered}
+use Rattle.patterns_refinement.specs.ForOutcomes.{CanonStaysInRange, IsInRange, IsProved, KeepsForOutcomes, OutcomesKeep, PatternsStayInRange, ProvedApplyRefines, ProvedRewriteRefines, RulesStayInRange, applied, has_widths, is_had, is_sound_form, numbered}
 use Rattle.patterns_refinement.proofs.Canonical.{canonicalization_kinds}
 use Rattle.patterns_refinement.proofs.Giving.{after_old}
 use Rattle.patterns_refinement.proofs.Makings.{AllMade, MadeOne, with_all}
-use Rattle.patterns_refinement.proofs.MatchedKinds.{keeps_for, kinded_there}
+use Rattle.patterns_refinement.proofs.MatchedKinds.{keeps_for, kinded_there, widths_there}
 use Rattle.patterns_refinement.proofs.RuleListRunning.{led}
 use Rattle.patterns_refinement.proofs.NarrowRules.{rules_keep_kinds}
 use Rattle.patterns_refinement.proofs.OutcomesKept.{outcomes_keep_there}
@@ -52,7 +51,7 @@ use Rattle.patterns_refinement.proofs.PassingKept.{Site, its_made, one_way, pass
 use Rattle.patterns_refinement.proofs.Refining.{kept_is_refined}
 use Rattle.patterns_refinement.proofs.Running.{own_grows, own_of, rewrite_grows, runs_under}
 use Rattle.patterns_refinement.proofs.StrictKinded.{uniform_at}
-use Rattle.patterns_refinement.proofs.StrictLaws.{holding_uniform}
+use Rattle.patterns_refinement.proofs.StrictLaws.{refining_keep, refining_uniform}
 
 -- ---- new operations have results of valid widths
 made_wide : (f : Value → Option BitsKind) (os : List Operation) (ks : List BitsKind) → AllMade f os ks → list_all (λ k. is_width (width_of k)) ks ≡ true
@@ -104,7 +103,7 @@ module _ (accepted : UserPatternsAreAccepted) (p : PatternModel) (proper : IsPro
 pub record SoundForm (p : PatternModel) : Type 0 where
   pub named : all_named p ≡ true
   pub quotients : is_without_quotients p ≡ true
-  pub widths : list_all has_width p.value_types ≡ true
+  pub widths : has_widths p ≡ true
   pub uses : uses_only (is_had p) p ≡ true
   pub kinded : is_kinded_by_form (numbered p) ≡ true
 
@@ -112,7 +111,7 @@ pub sound_parts : (p : PatternModel) → is_sound_form p ≡ true → SoundForm 
 sound_parts p e =
     let a = and_parts (all_named p) _ e in
     let b = and_parts (is_without_quotients p) _ a.1 in
-    let c = and_parts (list_all has_width p.value_types) _ b.1 in
+    let c = and_parts (has_widths p) _ b.1 in
     let d = and_parts (uses_only (is_had p) p) (is_kinded_by_form (numbered p)) c.1 in
     record { named = a.0; quotients = b.0; widths = c.0; uses = d.0; kinded = d.1 }
 
@@ -122,8 +121,9 @@ outcomes_keep accepted p m n x h ready range e =
     let proper : IsProper p = record { wellformed = h.wellformed; buildable = h.buildable; named = f.named } in
     let s = site_of accepted p proper m n x ready e in
     let r = s.applied in
-    let kinded = kinded_there p m x proper ready range r.made r.value r.plan s.here f.widths f.uses f.kinded in
-    let keeps = keeps_for p m x proper ready range r.made r.value r.plan s.here f.widths f.uses h.holds in
+    let widths = widths_there p m x proper ready range r.made r.value r.plan s.here f.widths in
+    let kinded = kinded_there p m x proper ready range r.made r.value r.plan s.here widths f.uses f.kinded in
+    let keeps = keeps_for p m x proper ready range r.made r.value r.plan s.here widths f.uses h.holds in
     let here : FoundAt p m x = record { here = s.here.here; is_matched = s.here.is_matched; types = s.here.types; are_types = s.here.are_types } in (
       own_range accepted p proper m n x ready range e kinded,
       outcomes_keep_there accepted p m n x f.quotients proper ready e
@@ -131,16 +131,16 @@ outcomes_keep accepted p m n x h ready range e =
     )
 
 -- ---- patterns that hold by the form of both sides
-pub patterns_stay_in_range : UserPatternsAreAccepted → PolynomialsKeep → HoldsAtAllWidths → PatternsStayInRange
-patterns_stay_in_range accepted polynomials holds p m n x h ready range e =
-    let u = holding_uniform polynomials holds p h.for_all_widths h.proper h.most h.some h.holds in
+pub patterns_stay_in_range : UserPatternsAreAccepted → PolynomialsKeep → PatternsStayInRange
+patterns_stay_in_range accepted polynomials p m n x h ready range e =
+    let u = refining_uniform polynomials p h.for_all_widths h.proper h.refines in
     own_range accepted p h.proper m n x ready range e (uniform_at accepted p u h.proper m n x ready e (here_at accepted p h.proper m n x ready range e)).0
 
 pub rules_stay_in_range : AreAccepted → RulesStayInRange
 rules_stay_in_range accepted r i m n x ready range e = rules_keep_kinds accepted (λ k. is_width (width_of k)) refl r i m n x ready range e
 
 -- ---- rules and patterns, and runs of them
-module _ (rules : AreAccepted) (accepted : UserPatternsAreAccepted) (kept : KeptAreKept) (holding : HoldingKeep) (polynomials : PolynomialsKeep) (holds : HoldsAtAllWidths) where
+module _ (rules : AreAccepted) (accepted : UserPatternsAreAccepted) (kept : KeptAreKept) (polynomials : PolynomialsKeep) where
   pub applied_keeps : (t : RuleOrPatternModel) → IsProved t → (m n : Module) (x : ℕ) → IsInRange m → IsReady m → applied t m x ≡ becomes n → IsInRange n × KeptAt m n x
   applied_keeps (OfRule r) i m n x range ready e =
       let k = kept (r ∷ []) only r (inl refl) in
@@ -150,8 +150,8 @@ module _ (rules : AreAccepted) (accepted : UserPatternsAreAccepted) (kept : Kept
       only o (inl e) = subst (λ o. In o kept_rules) (sym e) i
       only o (inr n) = absurd n
   applied_keeps (OfUserPattern p) (inl h) m n x range ready e =
-      let k = holding p h.for_all_widths h.proper h.most h.some h.holds in
-      (patterns_stay_in_range accepted polynomials holds p m n x h ready range e, (k.0 m n x ready e, (λ a done c. k.1 m n x a done ready c e)))
+      let k = refining_keep accepted polynomials p h.for_all_widths h.proper h.refines in
+      (patterns_stay_in_range accepted polynomials p m n x h ready range e, (k.0 m n x ready e, (λ a done c. k.1 m n x a done ready c e)))
   applied_keeps (OfUserPattern p) (inr h) m n x range ready e = outcomes_keep accepted p m n x h ready range e
 
   applied_of : (t : RuleOrPatternModel) (m n : Module) (x : ℕ) → rewrite_by_entry t m x ≡ becomes n → applied t m x ≡ becomes n

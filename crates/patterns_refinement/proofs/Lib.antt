@@ -100,3 +100,13 @@ pub mod RefiningSampled
 pub mod ChoiceSampled
 pub mod RunsRefined
 pub mod Sampled
+pub mod SemaSteps
+pub mod SemaTypes
+pub mod SemaOperands
+pub mod SemaNumbers
+pub mod SemaOlds
+pub mod SemaNews
+pub mod SemaForm
+pub mod SemaPlaces
+pub mod SemaKinded
+pub mod SoundForms

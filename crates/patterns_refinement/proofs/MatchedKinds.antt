@@ -1,13 +1,14 @@
 -- A match in a module in range, of a pattern whose form passes the tests: its kinds are kinds of all types that the
 -- pattern uses, and the new values take their operands.
-use Rattle.std.proofs.Common.{◌≡◌, ℕ, zero, suc, ◌+◌, ◌<◌, refl, ap, sym, ◌∙◌, subst, List, [], ◌∷◌, length, map, Bool, true, false, true≢false, ◌||◌, eqb, Some, slice_get, inl, inr, arith}
-use Rattle.std.specs.Prelude.{if◌then◌else◌, nat_lt}
+use Rattle.std.proofs.Common.{◌≡◌, ℕ, zero, suc, ◌+◌, ◌<◌, refl, ap, sym, ◌∙◌, subst, List, [], ◌∷◌, length, map, Bool, true, false, true≢false, ◌&&◌, ◌||◌, not, eqb, eqb-true, Option, Some, None, slice_get, inl, inr, arith}
+use Rattle.std.specs.Prelude.{if◌then◌else◌, is_some, nat_lt}
 use Rattle.std.specs.List.{list_all, list_any}
 use Rattle.std.proofs.lemmas.Bool.{and_from, and_parts, ltb-true, or_cases}
 use Rattle.std.proofs.lemmas.Option.{none-some, same_Some, slice_get-get_or, slice_get_within}
 use Rattle.ir_types.specs.declared.bits.BitsKind.{BitsKind}
 use Rattle.ir_types.specs.declared.bits.BitsKind.TheVariants as kind
 use Rattle.ir_types.specs.Bits.{type_of, width_of}
+use Rattle.ir_types.specs.Readings.{literal_bits}
 use Rattle.ir_types.specs.Reasons.{is_width}
 use Rattle.ir_types.specs.Terms.{TypeTerm}
 use Rattle.ir_types.proofs.WordNumbers.{all_at}
@@ -21,12 +22,14 @@ use Rattle.patterns_laws.proofs.KnownFolds.{given_some, kind_back}
 use Rattle.patterns_base.specs.Looks.{is_verified}
 use Rattle.user_patterns_check.specs.Outcomes.{Outcome, given}
 use Rattle.user_patterns_claims.specs.Outcomes.{AreKindsOf, AreOutcomes, HoldsAtAllWidths, IsOutcome, are_kinds, keeps_outcomes}
+use Rattle.user_patterns_data.specs.declared.pattern.ExtraConstant.{ExtraConstant}
+use Rattle.user_patterns_data.specs.declared.pattern.ExtraConstant.TheVariants as extra
 use Rattle.user_patterns_data.specs.declared.pattern.PatternType.{PatternType}
 use Rattle.user_patterns_data.specs.declared.pattern.PatternType.TheVariants as sort
 use Rattle.user_patterns_data.specs.declared.pattern.NewValue.{NewValue}
 use Rattle.user_patterns_data.specs.declared.pattern.NewValue.TheVariants as new
 use Rattle.user_patterns_data.specs.declared.pattern.PatternOp.{PatternOp}
-use Rattle.user_patterns_data.specs.Fitting.{kind_at}
+use Rattle.user_patterns_data.specs.Fitting.{extra_fits, is_requested, kind_at, number_fits}
 use Rattle.user_patterns_data.specs.Matching.{BoundValues, binding_at, types_at, written}
 use Rattle.user_patterns_data.specs.Planning.{bound_type, new_place, old_place, planned}
 use Rattle.user_patterns_data.specs.Shapes.{PatternModel}
@@ -37,7 +40,7 @@ use Rattle.patterns_refinement.specs.Keeping.{IsReady}
 use Rattle.patterns_refinement.specs.Passing.{is_kinded_at}
 use Rattle.patterns_refinement.specs.UsedTypes.{uses_only}
 use Rattle.patterns_refinement.specs.ByForm.{is_kinded_by_form}
-use Rattle.patterns_refinement.specs.ForOutcomes.{IsInRange, KeepsForOutcomes, has_width, is_concrete, is_had, numbered, numbered_type, numbered_types}
+use Rattle.patterns_refinement.specs.ForOutcomes.{IsInRange, KeepsForOutcomes, has_width, has_widths, is_concrete, is_had, is_literal_type, numbered, numbered_type, numbered_types}
 use Rattle.patterns_refinement.proofs.ByForm.{kind_by, kinded_by_kinds}
 use Rattle.patterns_refinement.proofs.Forms.{kind_is}
 use Rattle.patterns_refinement.proofs.Going.{typed_at, typed_parts}
@@ -108,6 +111,50 @@ module _ (ts : BoundValues TypeTerm) (env : List Outcome) (d : BoundValues Value
       one (new.Constant j v ∷ ws) (o ∷ os) built zero t s = its (new.Constant j v) o built.0.1 built.0.3 t s
       one (w ∷ ws) (o ∷ os) built (suc i) t s = one ws os built.1 i t s
 
+-- ---- the widths of variables
+-- a type that isn't wide is one of the list
+unwide_within : (ss : List PatternType) (t : ℕ) → has_width (united.kind_in ss t) ≡ false → t < length ss
+unwide_within [] t e = absurd (true≢false e)
+unwide_within (s ∷ ss) zero e = omega arith
+unwide_within (s ∷ ss) (suc t) e = let l = unwide_within ss t e in omega (arith, l)
+
+not_false : (b : Bool) → not b ≡ true → b ≡ false
+not_false true e = absurd (true≢false (sym e))
+not_false false e = refl
+
+any_where : (f : ℕ → Bool) (xs : List ℕ) → list_any f xs ≡ true → (i : ℕ) × (t : ℕ) × (slice_get xs i ≡ Some t) × (f t ≡ true)
+any_where f [] e = absurd (true≢false (sym e))
+any_where f (x ∷ xs) e = elim (or_cases (f x) (list_any f xs) e) [
+  | inl h ↦ (0, x, refl, h)
+  | inr h ↦ let r = any_where f xs h in (suc r.0, r.1, r.2, r.3)
+]
+
+-- in a module in range, a pattern with a variable of a type that isn't valid matches nothing
+module _ (p : PatternModel) (m : Module) (x : ℕ) (proper : IsProper p) (ready : IsReady m) (range : IsInRange m) (os : List Operation) (value : Value) (plan : planned m.tree (is_verified m.tree) m.next p x ≡ Some (os, value))
+    (q : Here m p x proper ready os value plan) where
+  variable_wide : (i t : ℕ) → slice_get p.values i ≡ Some t → is_width (width_of (kind_at (map bound_type q.types) t)) ≡ true
+  variable_wide i t e =
+      let are = typed_parts m.tree (is_verified m.tree) m.next p q.here q.types q.are_types in
+      let a = typed_at m.tree (is_verified m.tree) 0 p.values q.here q.types are.variables i (slice_get_within p.values i t e) in
+      let w = a.2 in
+      let k = some_there (kind_of w.term) (q.value_types a.0 w.term (stands_standing a.0 w.term q.types w.type_stands)) in
+      let wide : is_width (width_of k.0) ≡ true = range w.value k.0 (ap (λ o. given o kind_of) w.of_value ∙ k.1) in
+      let kind : kind_at (map bound_type q.types) a.0 ≡ k.0 = kind_is q.types a.0 w.term k.0 w.type_stands k.1 in
+      subst (λ t. is_width (width_of (kind_at (map bound_type q.types) t)) ≡ true) (same_Some a.0 t (sym a.1 ∙ e)) (subst (λ k. is_width (width_of k) ≡ true) (sym kind) wide)
+
+  no_match : list_any (λ t. not (has_width (united.kind_in p.value_types t))) p.values ≡ true → ⊥
+  no_match e =
+      let r = any_where (λ t. not (has_width (united.kind_in p.value_types t))) p.values e in
+      let flat = not_false (has_width (united.kind_in p.value_types r.1)) r.3 in
+      go r.1 (unwide_within p.value_types r.1 flat) (variable_wide r.0 r.1 r.2) (united.kind_in p.value_types r.1) refl flat
+    where
+      go : (t : ℕ) → t < length p.value_types → is_width (width_of (kind_at (map bound_type q.types) t)) ≡ true → (s : PatternType) → united.kind_in p.value_types t ≡ s → has_width (united.kind_in p.value_types t) ≡ false → ⊥
+      go t l wide (sort.Concrete k) i flat = true≢false (sym (subst (λ k. is_width (width_of k) ≡ true) (written_is p m x proper ready os value plan q t k l i) wide) ∙ sym (ap has_width i) ∙ flat)
+      go t l wide (sort.Variable v) i flat = true≢false (sym (ap has_width i) ∙ flat)
+
+  pub widths_there : has_widths p ≡ true → list_all has_width p.value_types ≡ true
+  widths_there e = elim (or_cases (list_all has_width p.value_types) (list_any (λ t. not (has_width (united.kind_in p.value_types t))) p.values) e) [ inl i ↦ i | inr i ↦ absurd (no_match i) ]
+
 -- ---- a match
 module _ (p : PatternModel) (m : Module) (x : ℕ) (proper : IsProper p) (ready : IsReady m) (range : IsInRange m) (os : List Operation) (value : Value) (plan : planned m.tree (is_verified m.tree) m.next p x ≡ Some (os, value))
     (q : Here m p x proper ready os value plan) (widths : list_all has_width p.value_types ≡ true) where
@@ -171,11 +218,37 @@ module _ (p : PatternModel) (m : Module) (x : ℕ) (proper : IsProper p) (ready 
         ]
       ]
 
-  -- a type that the pattern has is concrete, or bound
-  had_wide : (t : ℕ) → is_had p t ≡ true → good t ≡ true
-  had_wide t e = elim (or_cases (is_concrete (united.kind_in p.value_types t)) (is_valued t) parts.1) [ inl i ↦ by_type (united.kind_in p.value_types t) refl i | inr i ↦ valued_wide t i ]
+  -- a literal is in the range of its type, so the type has a valid width
+  literal_wide : (t : ℕ) (xs : List ExtraConstant) → list_all (extra_fits (map bound_type q.types)) xs ≡ true → list_any (is_literal_type t) xs ≡ true → good t ≡ true
+  literal_wide t [] h e = absurd (true≢false (sym e))
+  literal_wide t (x ∷ xs) h e =
+      let r = and_parts (extra_fits (map bound_type q.types) x) (list_all (extra_fits (map bound_type q.types)) xs) h in
+      elim (or_cases (is_literal_type t x) (list_any (is_literal_type t) xs) e) [ inl i ↦ one x r.0 i | inr i ↦ literal_wide t xs r.1 i ]
     where
-      parts : (nat_lt t (length p.value_types) ≡ true) × ((is_concrete (united.kind_in p.value_types t) || is_valued t) ≡ true)
+      in_range : (c : Bool) (o : Option ℕ) → is_some (if c then o else None) ≡ true → c ≡ true
+      in_range true o e = refl
+      in_range false o e = absurd (true≢false (sym e))
+
+      one : (x : ExtraConstant) → extra_fits (map bound_type q.types) x ≡ true → is_literal_type t x ≡ true → good t ≡ true
+      one (extra.Literal l) h e =
+          subst (λ t. good t ≡ true) (sym (eqb-true t l.ty e))
+          (in_range (is_width (width_of (kind_at (map bound_type q.types) l.ty))) (literal_bits (type_of (kind_at (map bound_type q.types) l.ty)) l.negative l.magnitude) h)
+      one (extra.SameAs i) h e = absurd (true≢false (sym e))
+
+  -- the literals of a match are in range
+  literals_in_range : list_all (extra_fits (map bound_type q.types)) p.extra ≡ true
+  literals_in_range =
+      let a = and_parts (list_all (is_requested (map bound_type q.types)) p.type_constraints) (list_all (extra_fits (map bound_type q.types)) p.extra && list_all (number_fits (map bound_type q.types)) p.given) q.parts.widths in
+      (and_parts (list_all (extra_fits (map bound_type q.types)) p.extra) (list_all (number_fits (map bound_type q.types)) p.given) a.1).0
+
+  -- a type that the pattern has is concrete, that of a literal, or bound
+  had_wide : (t : ℕ) → is_had p t ≡ true → good t ≡ true
+  had_wide t e = elim (or_cases (is_concrete (united.kind_in p.value_types t)) (list_any (is_literal_type t) p.extra || is_valued t) parts.1) [
+    | inl i ↦ by_type (united.kind_in p.value_types t) refl i
+    | inr n ↦ elim (or_cases (list_any (is_literal_type t) p.extra) (is_valued t) n) [ inl i ↦ literal_wide t p.extra literals_in_range i | inr i ↦ valued_wide t i ]
+  ]
+    where
+      parts : (nat_lt t (length p.value_types) ≡ true) × ((is_concrete (united.kind_in p.value_types t) || (list_any (is_literal_type t) p.extra || is_valued t)) ≡ true)
       parts = and_parts (nat_lt t (length p.value_types)) _ e
 
       within : t < length p.value_types

@@ -1,5 +1,5 @@
 -- Lists of rules of canonicalization and of proved patterns, in modules without unrealized casts and `scf`.
-use Rattle.std.proofs.Common.{◌≡◌, ℕ, refl, ap, sym, ◌∙◌, subst, List, [], ◌∷◌, ◌++◌, map, Bool, true, false, true≢false, Option, inl, inr, ◌⊎◌}
+use Rattle.std.proofs.Common.{◌≡◌, ℕ, refl, ap, sym, ◌∙◌, subst, List, [], ◌∷◌, ◌++◌, map, Bool, true, true≢false, Option, inl, inr, ◌⊎◌}
 use Rattle.std.specs.Prelude.{is_some}
 use Rattle.std.specs.List.{list_all}
 use Rattle.std.proofs.lemmas.Bool.{and_parts}
@@ -23,22 +23,20 @@ use Rattle.patterns_base.proofs.Dispatch.{next_to_or}
 use Rattle.patterns_soundness.specs.Accepted.{AreAccepted}
 use Rattle.user_patterns_data.specs.Planning.{bound_type}
 use Rattle.user_patterns_data.specs.Shapes.{PatternModel}
-use Rattle.user_patterns_widths.specs.Lasting.{HoldsAtAllWidths, PolynomialsKeep}
+use Rattle.user_patterns_widths.specs.Lasting.{PolynomialsKeep}
 use Rattle.user_patterns_apply.specs.Own.{UserPatternsAreAccepted, user_pattern_rewrite}
 use Rattle.greedy.specs.PatternSet.{RuleOrPatternModel, OfUserPattern, OfRule, rewrite_by_entry}
 use Rattle.patterns_refinement.specs.Applied.{IsProper}
 use Rattle.patterns_refinement.specs.Keeping.{IsReady}
 use Rattle.patterns_refinement.specs.Runs.{KeptAreKept}
-use Rattle.patterns_refinement.specs.RuleListRuns.{HoldsForAllWidths}
 use Rattle.patterns_refinement.specs.Canonical.{IsPlain, is_plain}
 use Rattle.patterns_refinement.specs.Passing.{FoundAt, KeptAt, is_kinded_at}
-use Rattle.patterns_refinement.specs.Strict.{HoldingKeep}
-use Rattle.patterns_refinement.specs.ForOutcomes.{HoldsForOutcomes, IsInRange}
+use Rattle.patterns_refinement.specs.ForOutcomes.{HoldsByForm, HoldsForOutcomes, IsInRange}
 use Rattle.patterns_refinement.specs.CanonLists.{CanonListsRefine, IsProvedOrCanonical}
 use Rattle.patterns_refinement.proofs.Canonical.{kinds_step, one_step, plain_after}
 use Rattle.patterns_refinement.proofs.InRange.{applied_keeps, sound_parts}
 use Rattle.patterns_refinement.proofs.Makings.{AllMade, all_bare}
-use Rattle.patterns_refinement.proofs.MatchedKinds.{kinded_there}
+use Rattle.patterns_refinement.proofs.MatchedKinds.{kinded_there, widths_there}
 use Rattle.patterns_refinement.proofs.NarrowRules.{kept_fine}
 use Rattle.patterns_refinement.proofs.PassingKept.{Site, its_made, site_of}
 use Rattle.patterns_refinement.proofs.PlainRules.{all_plain}
@@ -47,7 +45,7 @@ use Rattle.patterns_refinement.proofs.Rewritten.{AllBare, all_put}
 use Rattle.patterns_refinement.proofs.RuleListRunning.{led}
 use Rattle.patterns_refinement.proofs.Running.{own_of, runs_under}
 use Rattle.patterns_refinement.proofs.StrictKinded.{uniform_at}
-use Rattle.patterns_refinement.proofs.StrictLaws.{holding_uniform}
+use Rattle.patterns_refinement.proofs.StrictLaws.{refining_uniform}
 
 -- ---- arithmetic operations have plain names
 abbrev IsPlainIfNumeric : List ℕ → Type 0
@@ -97,28 +95,29 @@ module _ (accepted : UserPatternsAreAccepted) (p : PatternModel) (proper : IsPro
       (made_plain its_site.applied.insertion its_site.applied.made x its_site.applied.value m (all_named_plain _ its_site.applied.made _ made) (all_bare _ its_site.applied.made _ made) plain)
 
 -- ---- rules and patterns, and runs of them
-module _ (rewrites : AreAccepted) (accepted : UserPatternsAreAccepted) (kept : KeptAreKept) (holding : HoldingKeep) (polynomials : PolynomialsKeep) (holds : HoldsAtAllWidths) (only : OnlyListed) where
-  proved_plain : (p : PatternModel) → HoldsForAllWidths p ⊎ HoldsForOutcomes p → (m n : Module) (x : ℕ) → IsReady m → IsInRange m → user_pattern_rewrite p m x ≡ becomes n → IsPlain m → IsPlain n
+module _ (rewrites : AreAccepted) (accepted : UserPatternsAreAccepted) (kept : KeptAreKept) (polynomials : PolynomialsKeep) (only : OnlyListed) where
+  proved_plain : (p : PatternModel) → HoldsByForm p ⊎ HoldsForOutcomes p → (m n : Module) (x : ℕ) → IsReady m → IsInRange m → user_pattern_rewrite p m x ≡ becomes n → IsPlain m → IsPlain n
   proved_plain p (inl h) m n x ready range e plain =
-      let u = holding_uniform polynomials holds p h.for_all_widths h.proper h.most h.some h.holds in
+      let u = refining_uniform polynomials p h.for_all_widths h.proper h.refines in
       own_plain accepted p h.proper m n x ready e (uniform_at accepted p u h.proper m n x ready e (its_match accepted p h.proper m n x ready e)).0 plain
   proved_plain p (inr h) m n x ready range e plain =
       let f = sound_parts p h.form in
       let proper : IsProper p = record { wellformed = h.wellformed; buildable = h.buildable; named = f.named } in
       let s = site_of accepted p proper m n x ready e in
       let r = s.applied in
-      own_plain accepted p proper m n x ready e (kinded_there p m x proper ready range r.made r.value r.plan s.here f.widths f.uses f.kinded) plain
+      let widths = widths_there p m x proper ready range r.made r.value r.plan s.here f.widths in
+      own_plain accepted p proper m n x ready e (kinded_there p m x proper ready range r.made r.value r.plan s.here widths f.uses f.kinded) plain
 
   step : (t : RuleOrPatternModel) → IsProvedOrCanonical t → (m n : Module) (x : ℕ) → IsPlain m × IsInRange m → IsReady m → rewrite_by_entry t m x ≡ becomes n → (IsPlain n × IsInRange n) × KeptAt m n x
   step (OfRule r) (inl i) m n x s ready e =
-      let k = applied_keeps rewrites accepted kept holding polynomials holds (OfRule r) i m n x s.1 ready e in
+      let k = applied_keeps rewrites accepted kept polynomials (OfRule r) i m n x s.1 ready e in
       ((plain_after rewrites only m n x r (kept_fine r i) ready s.0 e, k.0), k.1)
   step (OfRule r) (inr i) m n x s ready e =
       let o = one_step rewrites only m n x r i ready s.0 e in
       ((o.0, kinds_step rewrites only (λ k. is_width (width_of k)) refl m n x r i ready s.0 s.1 e), o.1)
   step (OfUserPattern p) h m n x s ready e =
       let own = own_of p m n x e in
-      let k = applied_keeps rewrites accepted kept holding polynomials holds (OfUserPattern p) h m n x s.1 ready own in
+      let k = applied_keeps rewrites accepted kept polynomials (OfUserPattern p) h m n x s.1 ready own in
       ((proved_plain p h m n x ready s.1 own s.0, k.0), k.1)
 
   pub canon_lists_refine : CanonListsRefine

@@ -23,7 +23,7 @@ use Rattle.user_patterns_widths.specs.Lasting.{HoldsAtAllWidths, RefinesAtAllWid
 use Rattle.user_patterns_build.specs.CanBuild.{can_build, has_name}
 use Rattle.user_patterns_apply.specs.Own.{UserPatternsAreAccepted}
 use Rattle.patterns_refinement.specs.Applied.{IsProper, extra_kind, is_typed, kinds_after, kinds_given, kinds_matched}
-use Rattle.patterns_refinement.specs.Strict.{RegisteredKeep, HoldingKeep, StrictKeep, is_requested_of, is_strict, is_strict_at, is_strict_form, new_is_total, pattern_op_is_strict}
+use Rattle.patterns_refinement.specs.Strict.{RegisteredKeep, HoldingKeep, KeepsComputingUserPattern, KeepsReadyUserPattern, StrictKeep, is_requested_of, is_strict, is_strict_at, is_strict_form, new_is_total, pattern_op_is_strict}
 use Rattle.patterns_refinement.proofs.Going.{wellformed_parts}
 use Rattle.patterns_refinement.proofs.StrictForms.{Uniform, has_parts, keeps_by_type, keeps_of_type, unasked}
 use Rattle.patterns_refinement.proofs.StrictKinded.{uniform_keeps}
@@ -155,6 +155,17 @@ holding_uniform polynomials holds p e proper most low right =
       | inl i ↦ uniform_polynomial p i (polynomials (unasked p) i)
       | inr i ↦ uniform_bits p i proper (holds p e most low right)
     ]
+
+-- the same for a pattern that refines for all values at all widths
+pub refining_uniform : PolynomialsKeep → (p : PatternModel) → holds_at_all_widths p ≡ true → IsProper p → RefinesAtAllWidths p → Uniform p
+refining_uniform polynomials p e proper keeps =
+    elim (or_cases (is_one_polynomial p) (is_bit_by_bit p) e) [
+      | inl i ↦ uniform_polynomial p i (polynomials (unasked p) i)
+      | inr i ↦ uniform_bits p i proper keeps
+    ]
+
+pub refining_keep : UserPatternsAreAccepted → PolynomialsKeep → (p : PatternModel) → holds_at_all_widths p ≡ true → IsProper p → RefinesAtAllWidths p → KeepsReadyUserPattern p × KeepsComputingUserPattern p
+refining_keep accepted polynomials p e proper keeps = uniform_keeps accepted p (refining_uniform polynomials p e proper keeps) proper
 
 pub holding_keep : UserPatternsAreAccepted → PolynomialsKeep → HoldsAtAllWidths → HoldingKeep
 holding_keep accepted polynomials holds p e proper most low right = uniform_keeps accepted p (holding_uniform polynomials holds p e proper most low right) proper

@@ -1,12 +1,14 @@
 -- The notes of a registry that changes of a session made are true, so the laws of proved patterns cover its patterns.
-use Rattle.std.proofs.Common.{◌≡◌, ◌∙◌, ℕ, zero, suc, ◌≤◌, Bool, true, true≢false, false, cond, not, if◌then◌else◌, List, [], ◌∷◌, ◌++◌, Option, Some, None, Ok, Err, refl, sym, ap, subst, arith, inl, inr, ◌⊎◌}
+use Rattle.std.proofs.Common.{◌≡◌, ◌∙◌, ℕ, zero, suc, Bool, true, true≢false, false, ◌&&◌, cond, not, if◌then◌else◌, List, [], ◌∷◌, ◌++◌, Option, Some, None, Ok, Err, refl, sym, ap, subst, inl, inr, ◌⊎◌}
 use Rattle.std.specs.Prelude.{slice_set}
 use Rattle.std.specs.List.{AllByRecursion}
-use Rattle.std.proofs.lemmas.Bool.{or_cases}
+use Rattle.std.proofs.lemmas.Bool.{and_from}
 use Rattle.std.proofs.lemmas.List.Elements.{recursion_from_All}
 use Rattle.std.proofs.lemmas.Option.{none-some, same_Some}
 use Rattle.std.proofs.lemmas.Slice.Eq.{bytes_eq-Decides}
 use Rattle.user_patterns_data.specs.Shapes.{PatternModel}
+use Rattle.user_patterns_build.specs.Unified.{ready}
+use Rattle.user_patterns_sema.specs.Sema.{wellformed}
 use Rattle.user_patterns_text.specs.Parts as parts
 use Rattle.user_patterns_text.specs.Refusing.{Outcome, ◌>>=◌, begins}
 use Rattle.user_patterns_text.specs.Rendered.{whole_at}
@@ -14,21 +16,25 @@ use Rattle.user_patterns_widths.specs.AllWidths.{holds_at_all_widths}
 use Rattle.user_patterns_widths.specs.Lasting.{PolynomialsKeep}
 use Rattle.user_patterns_claims.specs.Outcomes.{HoldsAtAllWidths}
 use Rattle.user_patterns_registry.specs.Changes.{Changes, ChangesTo, Defines, IsFoundToHold, IsReached, Records, Removes, Replaces}
-use Rattle.user_patterns_registry.specs.CheckResult.{default_most, is_small, requested_width, widest}
 use Rattle.user_patterns_registry.specs.declared.check_result.CheckSummary.{CheckSummary}
 use Rattle.user_patterns_registry.specs.declared.check_result.CheckSummary.TheVariants as summary
-use Rattle.user_patterns_registry.specs.Registry.{AreApart, ForgettingKeepsARegistry, IsReady, IsRegistry, Kept, NotingKeepsARegistry, RegistryModel, ReplacingKeepsARegistry, StaysARegistry, added, and_kept, defined, forgotten, found, headroom_for, is_named, kept_as, kept_of, noted, noted_one, model_of_parts, variables_of, with_said}
+use Rattle.user_patterns_registry.specs.Registry.{AreApart, ForgettingKeepsARegistry, IsReady, IsRegistry, Kept, NotingKeepsARegistry, RegistryModel, ReplacingKeepsARegistry, StaysARegistry, added, and_kept, defined, forgotten, found, headroom_for, is_named, kept_as, kept_of, made_ready, noted, noted_one, model_of_parts, variables_of, with_said}
 use Rattle.greedy.specs.PatternSet.{RuleOrPatternModel, OfUserPattern, OfRule}
-use Rattle.patterns_refinement.specs.RuleListRuns.{HoldsForAllWidths}
-use Rattle.patterns_refinement.specs.ForOutcomes.{HoldsForOutcomes, ProvedApplyRefines, ProvedRewriteRefines, is_sound_form}
+use Rattle.patterns_refinement.specs.Applied.{all_named}
+use Rattle.patterns_refinement.specs.Improving.{is_without_quotients}
+use Rattle.patterns_refinement.specs.UsedTypes.{uses_only}
+use Rattle.patterns_refinement.specs.ByForm.{is_kinded_by_form}
+use Rattle.patterns_refinement.specs.ForOutcomes.{HoldsByForm, HoldsForOutcomes, ProvedApplyRefines, ProvedRewriteRefines, has_widths, is_had, numbered}
 use Rattle.patterns_refinement.specs.ForOutcomesSamples.{PoisonRefutes}
 use Rattle.patterns_refinement.specs.CanonLists.{CanonListsRefine, IsNotedOrCanonical, IsProvedOrCanonical, NotedCanonListsRefine}
-use Rattle.patterns_refinement.specs.Noted.{IsTrulyNoted, NotedApplyRefines, NotedAreProved, NotedRewriteRefines, NotesAreTrue, WrongIsNeverNoted, HasNoCounterexample, is_covered}
+use Rattle.patterns_refinement.specs.Noted.{FormsAreSound, IsTrulyNoted, NotedApplyRefines, NotedAreProved, NotedRewriteRefines, NotesAreTrue, WrongIsNeverNoted}
+use Rattle.patterns_refinement.proofs.SoundForms.{SoundTypes, ready_sound}
 use Rattle.patterns_refinement.proofs.StrictLaws.{registered_proper}
 
 -- ---- the patterns of a registry
+-- the note `holds` is true, and the pattern's names and types pass the tests of the laws
 abbrev IsTrue : Kept → Type 0
-IsTrue k = k.said ≡ Some summary.AllWidths → IsFoundToHold k
+IsTrue k = (k.said ≡ Some summary.AllWidths → IsFoundToHold k) × SoundTypes k.shape
 
 abbrev AllTrue : RegistryModel → Type 0
 AllTrue ks = AllByRecursion IsTrue ks
@@ -54,6 +60,7 @@ record Fresh (b new : RegistryModel) : Type 0 where
   pub last : Kept
   pub is : b ++ (last ∷ []) ≡ new
   pub unsaid : last.said ≡ None
+  pub sound : SoundTypes last.shape
 
 -- the entry of a parsed pattern has no summary
 kept_unsaid : (p : parts.Pattern) (k : Kept) → kept_of p ≡ Ok k → k.said ≡ None
@@ -62,6 +69,24 @@ kept_unsaid p k h =
     let vs = bound_ok (variables_of p) (λ vs. model_of_parts p >>= λ t. Ok (kept_as p vs t)) k h in
     let t = bound_ok (model_of_parts p) (λ t. Ok (kept_as p vs.0 t)) k vs.2 in
     sym (ap (λ (k : Kept). k.said) (ok_same (kept_as p vs.0 t.0) k (Ok (kept_as p vs.0 t.0)) (Ok k) refl refl t.2))
+
+-- its pattern is that of a text, with one number for equal types
+made_ready_is : (o : Option PatternModel) (q : PatternModel) → made_ready o ≡ Ok q → o ≡ Some q
+made_ready_is None q h = absurd cc
+made_ready_is (Some s) q h = ap (λ z. Some z) (ok_same s q (Ok s) (Ok q) refl refl h)
+
+model_sound : (p : parts.Pattern) (q : PatternModel) → model_of_parts p ≡ Ok q → SoundTypes q
+unfolding model_of_parts
+model_sound p q h =
+    let s = bound_ok (wellformed p) (λ s. made_ready (ready s)) q h in
+    ready_sound p s.0 q s.1 (made_ready_is (ready s.0) q s.2)
+
+kept_sound : (p : parts.Pattern) (k : Kept) → kept_of p ≡ Ok k → SoundTypes k.shape
+unfolding kept_of
+kept_sound p k h =
+    let vs = bound_ok (variables_of p) (λ vs. model_of_parts p >>= λ t. Ok (kept_as p vs t)) k h in
+    let t = bound_ok (model_of_parts p) (λ t. Ok (kept_as p vs.0 t)) k vs.2 in
+    subst (λ (k : Kept). SoundTypes k.shape) (ok_same (kept_as p vs.0 t.0) k (Ok (kept_as p vs.0 t.0)) (Ok k) refl refl t.2) (model_sound p t.0 t.1)
 
 defined_fresh : (b new : RegistryModel) (text : List ℕ) → defined b text ≡ Ok new → Fresh b new
 unfolding defined
@@ -73,11 +98,16 @@ defined_fresh b new text h =
       last = k.0;
       is = ok_same (and_kept b k.0) new (Ok (and_kept b k.0)) (Ok new) refl refl k.2;
       unsaid = kept_unsaid p.0 k.0 k.1;
+      sound = kept_sound p.0 k.0 k.1;
     }
 
-added_true : (ks : RegistryModel) (k : Kept) → AllTrue ks → k.said ≡ None → AllTrue (ks ++ (k ∷ []))
-added_true [] k all e = ((λ f. absurd (none-some summary.AllWidths (sym e ∙ f))), tt)
-added_true (j ∷ ks) k all e = (all.0, added_true ks k all.1 e)
+-- without a summary, the note isn't `holds`
+unsaid_true : (k : Kept) → k.said ≡ None → SoundTypes k.shape → IsTrue k
+unsaid_true k e sound = ((λ f. absurd (none-some summary.AllWidths (sym e ∙ f))), sound)
+
+added_true : (ks : RegistryModel) (k : Kept) → AllTrue ks → k.said ≡ None → SoundTypes k.shape → AllTrue (ks ++ (k ∷ []))
+added_true [] k all e sound = (unsaid_true k e sound, tt)
+added_true (j ∷ ks) k all e sound = (all.0, added_true ks k all.1 e sound)
 
 -- ---- a recorded check
 module _ (name : List ℕ) (said : CheckSummary) where
@@ -104,7 +134,7 @@ module _ (name : List ℕ) (said : CheckSummary) where
           let same : with_said said j ≡ noted_one name said j = ap (λ b. if b then with_said said j else j) (sym i) in
           let is : j ≡ k = same_Some _ _ e in
           let its : j.name ≡ name = (bytes_eq-Decides j.name name).0 i in
-          let one : IsTrue (with_said said j) = (λ f. subst IsFoundToHold (sym is) (right (same_Some _ _ f))) in
+          let one : IsTrue (with_said said j) = ((λ f. subst IsFoundToHold (sym is) (right (same_Some _ _ f))), all.0.1) in
           (subst IsTrue same one, others (ap (λ n. found n ks) (sym its) ∙ apart.0))
       go others more false i e = (subst IsTrue (ap (λ b. if b then with_said said j else j) (sym i)) all.0, more e)
 
@@ -118,10 +148,10 @@ forgotten_true name (k ∷ ks) all = go (not (is_named name k)) (forgotten_true 
     go false more = more
 
 -- ---- a replaced pattern
-set_true : (ks : RegistryModel) (i : ℕ) (k : Kept) → AllTrue ks → k.said ≡ None → AllTrue (slice_set ks i k)
-set_true [] i k all e = tt
-set_true (j ∷ ks) zero k all e = ((λ f. absurd (none-some summary.AllWidths (sym e ∙ f))), all.1)
-set_true (j ∷ ks) (suc i) k all e = (all.0, set_true ks i k all.1 e)
+set_true : (ks : RegistryModel) (i : ℕ) (k : Kept) → AllTrue ks → k.said ≡ None → SoundTypes k.shape → AllTrue (slice_set ks i k)
+set_true [] i k all e sound = tt
+set_true (j ∷ ks) zero k all e sound = (unsaid_true k e sound, all.1)
+set_true (j ∷ ks) (suc i) k all e sound = (all.0, set_true ks i k all.1 e sound)
 
 -- ---- changes
 module _ (stays : StaysARegistry) (noting : NotingKeepsARegistry) (forgetting : ForgettingKeepsARegistry) (replacing : ReplacingKeepsARegistry) where
@@ -131,7 +161,7 @@ module _ (stays : StaysARegistry) (noting : NotingKeepsARegistry) (forgetting : 
   defined_good : (b c : RegistryModel) → Good b → Defines b c → Good c
   defined_good b c g d =
       let f = defined_fresh b c d.0 d.1 in
-      (stays b c d.0 g.0 d.1, subst AllTrue f.is (added_true b f.last g.1 f.unsaid))
+      (stays b c d.0 g.0 d.1, subst AllTrue f.is (added_true b f.last g.1 f.unsaid f.sound))
 
   removed_good : (b c : RegistryModel) → Good b → Removes b c → Good c
   removed_good b c g r = subst Good (sym r.1) (forgetting b r.0 g.0, forgotten_true r.0 b g.1)
@@ -141,7 +171,7 @@ module _ (stays : StaysARegistry) (noting : NotingKeepsARegistry) (forgetting : 
 
   replaced_good : (b c : RegistryModel) → Good b → Replaces b c → Good c
   replaced_good b c g r =
-      subst Good (sym r.7) (replacing b r.1 r.2 r.3 g.0 r.5 r.6, set_true b r.2 r.3 g.1 (kept_unsaid r.1 r.3 r.5))
+      subst Good (sym r.7) (replacing b r.1 r.2 r.3 g.0 r.5 r.6, set_true b r.2 r.3 g.1 (kept_unsaid r.1 r.3 r.5) (kept_sound r.1 r.3 r.5))
 
   one_good : (b c : RegistryModel) → Good b → Changes b c → Good c
   one_good b c g (inl d) = defined_good b c g d
@@ -156,44 +186,33 @@ module _ (stays : StaysARegistry) (noting : NotingKeepsARegistry) (forgetting : 
   pub notes_are_true : IsRegistry [] → NotesAreTrue
   notes_are_true empty b reached name k e f =
       let g = all_good reached.0 [] b (empty, tt) reached.1 in
-      record { applies = found_is IsReady b (recursion_from_All IsReady b (IsRegistry.ready g.0)) name k e; checked = found_is IsTrue b g.1 name k e f }
+      record { applies = found_is IsReady b (recursion_from_All IsReady b (IsRegistry.ready g.0)) name k e; checked = (found_is IsTrue b g.1 name k e).0 f }
+
+  pub forms_are_sound : IsRegistry [] → FormsAreSound
+  forms_are_sound empty b reached name k e none =
+      let g = all_good reached.0 [] b (empty, tt) reached.1 in
+      let s = (found_is IsTrue b g.1 name k e).1 in
+      let p = k.shape in
+      and_from (all_named p) (is_without_quotients p && (has_widths p && (uses_only (is_had p) p && is_kinded_by_form (numbered p)))) s.named
+      (and_from (is_without_quotients p) (has_widths p && (uses_only (is_had p) p && is_kinded_by_form (numbered p))) none
+      (and_from (has_widths p) (uses_only (is_had p) p && is_kinded_by_form (numbered p)) s.widths (and_from (uses_only (is_had p) p) (is_kinded_by_form (numbered p)) s.uses s.kinded)))
 
 -- ---- the premises of the laws of proved patterns
-some_width : (p : PatternModel) (n : ℕ) → 1 ≤ widest p n
-unfolding widest
-some_width p zero = omega arith
-some_width p (suc w) = go (is_small p (suc w)) (some_width p w)
-  where
-    go : (b : Bool) → 1 ≤ widest p w → 1 ≤ (if b then suc w else widest p w)
-    go true h = omega arith
-    go false h = h
-
--- a pattern that holds by its form
-by_form : PolynomialsKeep → (k : Kept) → IsTrulyNoted k → HasNoCounterexample k.shape → holds_at_all_widths k.shape ≡ true → HoldsForAllWidths k.shape
-by_form polynomials k h v e = record {
-  proper = registered_proper polynomials k.shape (IsReady.stands h.applies) (IsReady.buildable h.applies) e;
-  for_all_widths = e;
-  most = requested_width k.shape None;
-  some = some_width k.shape default_most;
-  holds = v;
-}
-
-covered : PolynomialsKeep → (k : Kept) → IsTrulyNoted k → HasNoCounterexample k.shape → is_covered k.shape ≡ true → HoldsForAllWidths k.shape ⊎ HoldsForOutcomes k.shape
-covered polynomials k h v e = elim (or_cases (holds_at_all_widths k.shape) (is_sound_form k.shape) e) [
-  | inl i ↦ inl (by_form polynomials k h v i)
-  | inr i ↦ elim h.checked.3 [
-    | inl f ↦ inl (by_form polynomials k h v f.0)
-    | inr o ↦ inr (record { wellformed = IsReady.stands h.applies; buildable = IsReady.buildable h.applies; form = i; holds = o })
-  ]
+-- a pattern holds by the form of both sides, or for all outcomes
+proved_pattern : PolynomialsKeep → FormsAreSound → (b : RegistryModel) → IsReached b → (name : List ℕ) (k : Kept) → found name b ≡ Some k → IsTrulyNoted k → is_without_quotients k.shape ≡ true
+    → HoldsByForm k.shape ⊎ HoldsForOutcomes k.shape
+proved_pattern polynomials forms b reached name k e h none = elim h.checked.3 [
+  | inl f ↦ inl (record { proper = registered_proper polynomials k.shape (IsReady.stands h.applies) (IsReady.buildable h.applies) f.0; for_all_widths = f.0; refines = f.1 })
+  | inr o ↦ inr (record { wellformed = IsReady.stands h.applies; buildable = IsReady.buildable h.applies; form = forms b reached name k e none; holds = o })
 ]
 
-pub noted_are_proved : PolynomialsKeep → NotesAreTrue → NotedAreProved
-noted_are_proved polynomials notes b reached (OfRule r) is = is
-noted_are_proved polynomials notes b reached (OfUserPattern p) is =
+pub noted_are_proved : PolynomialsKeep → NotesAreTrue → FormsAreSound → NotedAreProved
+noted_are_proved polynomials notes forms b reached (OfRule r) is = is
+noted_are_proved polynomials notes forms b reached (OfUserPattern p) is =
     let k = is.1 in
     let same : k.shape ≡ p = is.4 in
-    let c = covered polynomials k (notes b reached is.0 k is.2 is.3) (subst HasNoCounterexample (sym same) is.6) (ap is_covered same ∙ is.5) in
-    subst (λ (p : PatternModel). HoldsForAllWidths p ⊎ HoldsForOutcomes p) same c
+    let none : is_without_quotients k.shape ≡ true = ap is_without_quotients same ∙ is.5 in
+    subst (λ (p : PatternModel). HoldsByForm p ⊎ HoldsForOutcomes p) same (proved_pattern polynomials forms b reached is.0 k is.2 (notes b reached is.0 k is.2 is.3) none)
 
 pub noted_apply_refines : NotedAreProved → ProvedApplyRefines → NotedApplyRefines
 noted_apply_refines proved refines b reached t is m n x ready range e = refines t (proved b reached t is) m n x ready range e

@@ -1,7 +1,7 @@
 -- Patterns that hold at all widths for all outcomes of their variables, poison included (`HoldsAtAllWidths` of
 -- `user_patterns_claims`). Such a pattern refines what a module computes, also if it matches a `select`, creates a
 -- division, or a value is poison.
-use Rattle.std.specs.Prelude.{◌≡◌, ◌⊎◌, ℕ, ◌+◌, List, [], ◌∷◌, length, map, Bool, true, false, ◌&&◌, ◌||◌, eqb, nat_lt}
+use Rattle.std.specs.Prelude.{◌≡◌, ◌⊎◌, ℕ, ◌+◌, List, [], ◌∷◌, length, map, Bool, true, false, not, ◌&&◌, ◌||◌, eqb, nat_lt}
 use Rattle.std.specs.List.{list_all, list_any}
 use Rattle.ir_types.specs.declared.bits.BitsKind.{BitsKind}
 use Rattle.ir_types.specs.Bits.{width_of}
@@ -12,6 +12,8 @@ use Rattle.patterns_base.specs.declared.rule.Rule.{Rule}
 use Rattle.patterns_base.specs.Rewrites.{Rewrite, becomes, rewrite_of}
 use Rattle.patterns_base.specs.Canonicalization.{End, canonicalization_of, ended}
 use Rattle.user_patterns_check.specs.Outcomes.{Outcome}
+use Rattle.user_patterns_data.specs.declared.pattern.ExtraConstant.{ExtraConstant}
+use Rattle.user_patterns_data.specs.declared.pattern.ExtraConstant.TheVariants as extra
 use Rattle.user_patterns_data.specs.declared.pattern.PatternType.{PatternType}
 use Rattle.user_patterns_data.specs.declared.pattern.PatternType.TheVariants as sort
 use Rattle.user_patterns_data.specs.declared.pattern.PatternOp.{PatternOp}
@@ -20,6 +22,8 @@ use Rattle.user_patterns_data.specs.Shapes.{PatternModel}
 use Rattle.user_patterns_data.specs.WellFormed.{is_well_formed}
 use Rattle.user_patterns_build.specs.CanBuild.{can_build, new_type}
 use Rattle.user_patterns_build.specs.Unified.{kind_in}
+use Rattle.user_patterns_widths.specs.AllWidths.{holds_at_all_widths}
+use Rattle.user_patterns_widths.specs.Lasting.{RefinesAtAllWidths}
 use Rattle.user_patterns_claims.specs.Outcomes.{AreOutcomes, HoldsAtAllWidths, keeps_outcomes}
 use Rattle.user_patterns_apply.specs.Own.{user_pattern_rewrite}
 use Rattle.greedy.specs.Rewriting.{rewriting_of}
@@ -30,7 +34,6 @@ use Rattle.patterns_refinement.specs.Keeping.{IsReady}
 use Rattle.patterns_refinement.specs.Runs.{kept_rules}
 use Rattle.patterns_refinement.specs.Canonical.{IsPlain}
 use Rattle.patterns_refinement.specs.Passing.{FoundAt, KeptAt, is_kinded_at, kinds_there}
-use Rattle.patterns_refinement.specs.RuleListRuns.{HoldsForAllWidths}
 use Rattle.patterns_refinement.specs.Refining.{IsRefinedBy}
 use Rattle.patterns_refinement.specs.UsedTypes.{uses_only}
 use Rattle.patterns_refinement.specs.Narrow.{HaveKinds}
@@ -78,22 +81,39 @@ abbrev pub has_width : PatternType → Bool
 has_width (sort.Concrete k) = is_width (width_of k)
 has_width (sort.Variable v) = true
 
+-- each concrete type has 1 to 128 bits, or the pattern has a variable of another type, so it matches nothing
+abbrev pub has_widths : PatternModel → Bool
+has_widths p = list_all has_width p.value_types || list_any (λ t. not (has_width (kind_in p.value_types t))) p.values
+
 abbrev pub is_concrete : PatternType → Bool
 is_concrete (sort.Concrete k) = true
 is_concrete (sort.Variable v) = false
 
--- a type of the pattern that is concrete, or that a variable, a matched operation or a new value has
+-- the type is that of a literal on the left
+abbrev pub is_literal_type : ℕ → ExtraConstant → Bool
+is_literal_type t (extra.Literal l) = eqb t l.ty
+is_literal_type t (extra.SameAs i) = false
+
+-- a type of the pattern that is concrete, or that a literal, a variable, a matched operation or a new value has
 abbrev pub is_had : PatternModel → ℕ → Bool
 is_had p t =
     nat_lt t (length p.value_types)
-    && (is_concrete (kind_in p.value_types t) || (list_any (eqb t) p.values || (list_any (eqb t) (map PatternOp.ty p.old) || list_any (eqb t) (map new_type p.new))))
+    && (is_concrete (kind_in p.value_types t)
+    || (list_any (is_literal_type t) p.extra || (list_any (eqb t) p.values || (list_any (eqb t) (map PatternOp.ty p.old) || list_any (eqb t) (map new_type p.new)))))
 
 -- Tests of a pattern's form. Its matched operations have names, and it creates no signed division, which may be
 -- undefined for poison by -1. Its concrete types are valid, it asks and uses widths only of types that it has, and its
--- new operations take operands of the types that they need.
+-- new operations take operands of the types that they need. Each pattern that a text defines passes all tests but the
+-- one on signed divisions.
 abbrev pub is_sound_form : PatternModel → Bool
 is_sound_form p =
-    all_named p && (is_without_quotients p && (list_all has_width p.value_types && (uses_only (is_had p) p && is_kinded_by_form (numbered p))))
+    all_named p && (is_without_quotients p && (has_widths p && (uses_only (is_had p) p && is_kinded_by_form (numbered p))))
+
+-- a pattern whose sides are one polynomial or are computed bit by bit, and that refines for all values at all widths
+pub record HoldsByForm (p : PatternModel) : Type 0 where
+  pub proper : IsProper p
+  pub for_all_widths : holds_at_all_widths p ≡ true
+  pub refines : RefinesAtAllWidths p
 
 -- a pattern that holds at all widths for all outcomes
 pub record HoldsForOutcomes (p : PatternModel) : Type 0 where
@@ -117,12 +137,12 @@ RulesStayInRange = (r : Rule) → In r kept_rules → (m n : Module) (x : ℕ) �
 -- and so do patterns that hold by the form of both sides
 abbrev pub PatternsStayInRange : Type 0
 PatternsStayInRange =
-    (p : PatternModel) (m n : Module) (x : ℕ) → HoldsForAllWidths p → IsReady m → IsInRange m → user_pattern_rewrite p m x ≡ becomes n → IsInRange n
+    (p : PatternModel) (m n : Module) (x : ℕ) → HoldsByForm p → IsReady m → IsInRange m → user_pattern_rewrite p m x ≡ becomes n → IsInRange n
 
 -- a listed rule, or a pattern that holds at all widths by its form or for all outcomes
 abbrev pub IsProved : RuleOrPatternModel → Type 0
 IsProved (OfRule r) = In r kept_rules
-IsProved (OfUserPattern p) = HoldsForAllWidths p ⊎ HoldsForOutcomes p
+IsProved (OfUserPattern p) = HoldsByForm p ⊎ HoldsForOutcomes p
 
 -- the rewrite that `apply` makes at an operation
 abbrev pub applied : RuleOrPatternModel → Module → ℕ → Rewrite

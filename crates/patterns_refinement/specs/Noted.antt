@@ -1,20 +1,15 @@
 -- The notes of a pattern registry, and the modules after `apply` and `rewrite` by patterns that it notes as `holds`.
-use Rattle.std.specs.Prelude.{◌≡◌, ℕ, List, Bool, true, ◌||◌, Some, None}
+use Rattle.std.specs.Prelude.{◌≡◌, ℕ, List, true, Some}
 use Rattle.ir_event.specs.Modules.{Module}
 use Rattle.ir_tree_laws.specs.Members.{In}
 use Rattle.patterns_base.specs.Rewrites.{becomes}
 use Rattle.patterns_base.specs.Canonicalization.{End, ended}
-use Rattle.user_patterns_check.specs.declared.verdict.Verdict.TheVariants as verdict
-use Rattle.user_patterns_check.specs.Families.{IsVerdict}
-use Rattle.user_patterns_data.specs.Fitting.{content_at}
-use Rattle.user_patterns_data.specs.Shapes.{PatternModel}
-use Rattle.user_patterns_widths.specs.AllWidths.{holds_at_all_widths}
 use Rattle.user_patterns_registry.specs.Changes.{IsFoundToHold, IsReached}
-use Rattle.user_patterns_registry.specs.CheckResult.{requested_width}
 use Rattle.user_patterns_registry.specs.declared.check_result.CheckSummary.TheVariants as summary
 use Rattle.user_patterns_registry.specs.Registry.{IsReady as CanBeApplied, Kept, RegistryModel, found}
 use Rattle.greedy.specs.Rewriting.{rewriting_of}
 use Rattle.greedy.specs.PatternSet.{RuleOrPatternModel, OfUserPattern, OfRule, pattern_set_from}
+use Rattle.patterns_refinement.specs.Improving.{is_without_quotients}
 use Rattle.patterns_refinement.specs.Keeping.{IsReady}
 use Rattle.patterns_refinement.specs.Runs.{kept_rules}
 use Rattle.patterns_refinement.specs.Refining.{IsRefinedBy}
@@ -33,22 +28,20 @@ pub record IsTrulyNoted (k : Kept) : Type 0 where
 abbrev pub NotesAreTrue : Type 0
 NotesAreTrue = (b : RegistryModel) → IsReached b → (name : List ℕ) (k : Kept) → found name b ≡ Some k → k.said ≡ Some summary.AllWidths → IsTrulyNoted k
 
+-- the form of each pattern whose new side makes no `divsi` passes the tests of the laws
+abbrev pub FormsAreSound : Type 0
+FormsAreSound =
+    (b : RegistryModel) → IsReached b → (name : List ℕ) (k : Kept) → found name b ≡ Some k → is_without_quotients k.shape ≡ true
+    → is_sound_form k.shape ≡ true
+
 -- ---- rules and patterns of a command
 
--- the laws cover a pattern that holds by its form, or whose form passes their tests
-abbrev pub is_covered : PatternModel → Bool
-is_covered p = holds_at_all_widths p || is_sound_form p
-
--- no value up to the default width refutes the pattern, and its old side is defined for some value there
-abbrev pub HasNoCounterexample : PatternModel → Type 0
-HasNoCounterexample p = IsVerdict (content_at p) p.types (requested_width p None) verdict.Holds
-
--- a listed rule, or such a pattern that the registry notes as `holds` without a width. The laws don't cover a pattern
--- whose old side is defined at wider types alone.
+-- A listed rule, or a pattern that the registry notes as `holds` without a width, and whose new side makes no `divsi`.
+-- A `divsi` by -1 of poison may be undefined, and no check decides that.
 abbrev pub IsNotedIn : RegistryModel → RuleOrPatternModel → Type 0
 IsNotedIn b (OfRule r) = In r kept_rules
 IsNotedIn b (OfUserPattern p) =
-    (name : List ℕ) × (k : Kept) × (found name b ≡ Some k) × (k.said ≡ Some summary.AllWidths) × (k.shape ≡ p) × (is_covered p ≡ true) × HasNoCounterexample p
+    (name : List ℕ) × (k : Kept) × (found name b ≡ Some k) × (k.said ≡ Some summary.AllWidths) × (k.shape ≡ p) × (is_without_quotients p ≡ true)
 
 abbrev pub NotedAreProved : Type 0
 NotedAreProved = (b : RegistryModel) → IsReached b → (t : RuleOrPatternModel) → IsNotedIn b t → IsProved t

@@ -1,8 +1,8 @@
 //! From the reply to a check to the module: laws of patterns that a session's registry notes as `holds` without a width.
 ghost use Rattle.patterns_refinement.specs.Answered.{CanonAnswerRefines, CanonListAnswerRefines, RewriteAnswerRefines};
 ghost use Rattle.patterns_refinement.specs.CanonLists.{NotedCanonListsRefine};
-ghost use Rattle.patterns_refinement.specs.Noted.{NotedApplyRefines, NotedAreProved, NotedRewriteRefines};
-ghost use Rattle.patterns_refinement.specs.Noted.{NotesAreTrue, WrongIsNeverNoted};
+ghost use Rattle.patterns_refinement.specs.Noted.{FormsAreSound, NotedApplyRefines, NotedAreProved};
+ghost use Rattle.patterns_refinement.specs.Noted.{NotedRewriteRefines, NotesAreTrue, WrongIsNeverNoted};
 
 use crate::proved::{
     lists_with_canon_refine, modules_stay_in_range, proved_patterns_refine,
@@ -16,10 +16,11 @@ use user_patterns_registry::laws::{
 use user_patterns_widths::laws::polynomials_keep;
 
 /// In the registry of a session, a pattern that is noted as `holds` without a width can be applied, and a check found
-/// that it holds at all widths (`notes`). So the laws of proved patterns cover it, if it holds by its form, or its form
-/// passes their tests (`proved`).
+/// that it holds at all widths (`notes`). The form of each pattern whose new side makes no `divsi` passes the tests of
+/// the laws (`forms`). So the laws of proved patterns cover each such pattern that is noted as `holds` (`proved`).
 pub fn noted_patterns_are_proved()
     ensures notes { NotesAreTrue }
+    ensures forms { FormsAreSound }
     ensures proved { NotedAreProved }
 {
     what_is_defined_is_ready();
@@ -28,9 +29,10 @@ pub fn noted_patterns_are_proved()
     polynomials_keep();
 }
 
-/// `apply` of such a pattern, and `rewrite` by a list of such patterns and listed rules, refine what a module computes,
-/// as an observer sees it, if the module is ready and in range. `rewrite` by a list that also has `canon`, or any of the
-/// rules 1 to 24, does so if the module has no unrealized casts, and no loops and conditionals of `scf` (`canon`).
+/// A pattern that a session's registry notes as `holds` without a width is sound, if its new side makes no `divsi`:
+/// `apply` of it, and `rewrite` by a list of such patterns and listed rules, refine what a module computes, as an
+/// observer sees it, if the module is ready and in range. `rewrite` by a list that also has `canon`, or any of the rules
+/// 1 to 24, does so if the module has no unrealized casts, and no loops and conditionals of `scf` (`canon`).
 pub fn noted_patterns_refine()
     ensures apply { NotedApplyRefines }
     ensures rewrite { NotedRewriteRefines }

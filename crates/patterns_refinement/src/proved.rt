@@ -7,12 +7,11 @@ ghost use Rattle.patterns_refinement.specs.ForOutcomes.{ProvedRewriteRefines, Ru
 ghost use Rattle.patterns_refinement.specs.ForOutcomesSamples.{PoisonRefutes, SampleHolds};
 
 use crate::rule_refinement::listed_rules_keep_what_is_computed;
-use crate::strict::strict_patterns_keep_what_is_computed;
 use greedy::laws::rewriting_by_its_rules_is_canonicalization;
 use patterns_base::laws::only_listed_rules_apply;
 use patterns_soundness::laws::no_edit_is_refused;
 use user_patterns_apply::laws::pattern_edits_are_accepted;
-use user_patterns_widths::laws::{check_holds_at_all_widths, polynomials_keep};
+use user_patterns_widths::laws::polynomials_keep;
 
 /// A pattern that refines for all outcomes of its variables, at the kinds of a match, refines what a ready module
 /// computes (`there`). A pattern that does so at all widths refines each ready module in range, and keeps it in range
@@ -34,7 +33,6 @@ pub fn modules_stay_in_range()
     no_edit_is_refused();
     pattern_edits_are_accepted();
     polynomials_keep();
-    check_holds_at_all_widths();
     only_listed_rules_apply();
     rewriting_by_its_rules_is_canonicalization();
 }
@@ -48,9 +46,7 @@ pub fn proved_patterns_refine()
     no_edit_is_refused();
     pattern_edits_are_accepted();
     polynomials_keep();
-    check_holds_at_all_widths();
     listed_rules_keep_what_is_computed();
-    strict_patterns_keep_what_is_computed();
 }
 
 /// After `rewrite` by a list of such rules and patterns and of rules 1 to 24, as `canon` in a list means, an observer sees
@@ -62,10 +58,8 @@ pub fn lists_with_canon_refine()
     no_edit_is_refused();
     pattern_edits_are_accepted();
     polynomials_keep();
-    check_holds_at_all_widths();
     only_listed_rules_apply();
     listed_rules_keep_what_is_computed();
-    strict_patterns_keep_what_is_computed();
 }
 
 /// `select(c, a, a) => a` holds for all outcomes. `select(c, a, false) => andi(c, a)` holds for all known values, and
