@@ -19,6 +19,7 @@ pub mod numbers;
 pub mod operations;
 mod places;
 pub mod queries;
+pub mod records;
 pub mod rows;
 pub mod texts;
 pub mod uses;
