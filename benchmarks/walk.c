@@ -79,16 +79,20 @@ static void records(const uint32_t *all, size_t count) {
   static mlir_work_item items[16 * PAGE];
   for (size_t k = 0; k < count;) {
     const size_t some = count - k < PAGE ? count - k : PAGE;
-    const size_t written = mlir_work_records(&s, all + k, some, items, 16 * PAGE);
-    for (size_t at = 0, end; (end = mlir_work_record_end(items, written, at)) != 0; at = end, k++) {
-      const mlir_work_item *item = items + at;
+    const size_t written = mlir_work_records(&s, all + k, some, items, 16 * PAGE), begun = k;
+    const mlir_work_item *item = items, *const last = items + written;
+    for (; item != last && (written < 16 * PAGE || mlir_work_record_end(items, written, (size_t)(item - items))); k++) {
+      uint32_t results = item->operation.results;
       names += item->operation.name;
       operands += item->operation.operands;
-      for (item += 1 + item->operation.operands; item < items + end; item += 1 + item->result.uses) {
+      for (item += 1 + item->operation.operands; results > 0; results--) {
         types += item->result.type;
         uses += item->result.uses;
+        item += 1 + item->result.uses;
       }
     }
+    if (k == begun)
+      exit(1); /* a record is longer than the space for a page */
   }
 }
 

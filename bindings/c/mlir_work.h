@@ -467,8 +467,9 @@ typedef union mlir_work_item {
 
 /* Writes the records of operations, one operation after the other. A record is the operation; its operands; and for
    each result the result and then its uses, each once and in any order. This is the fastest way to read the names,
-   operands, types and uses of many operations. Returns how many items it wrote. If there isn't space for all, the last
-   record may be cut off. */
+   operands, types and uses of many operations. Returns how many items it wrote. If these are fewer than the capacity,
+   all records are whole. Otherwise the last one may be cut off: mlir_work_record_end says so, and the next call begins
+   with its operation. */
 size_t mlir_work_records(mlir_work_session *session, const uint32_t *operations, size_t count, mlir_work_item *items,
                          size_t capacity);
 

@@ -9,26 +9,18 @@ use Rattle.mlir_work_c_read.specs.declared.numbers.RecordItem.{RecordItem}
 use Rattle.mlir_work_c_read.specs.Bulk.{WritesFirst, operands_in}
 use Rattle.mlir_work_c_read.specs.Numbers.{no_region}
 
--- a count in 32 bits
+-- a count in 32 bits: no module has as many uses
 abbrev pub few : ℕ → ℕ
 few n = min n 4294967295
-
--- the limit of results of an operation
-abbrev pub most_results : ℕ
-most_results = 256
 
 -- the item of an operation that isn't in the module
 abbrev pub no_operation : RecordItem
 no_operation = record { first = 4294967295; second = 0; third = 0 }
 
--- a name, and how many operands and results an operation has
-abbrev pub head_item : ℕ → ℕ → ℕ → RecordItem
-head_item name operands results = record { first = name; second = few operands; third = few results }
-
 -- the name of an operation, and how many operands and results it has
 abbrev pub operation_item : Option Op → RecordItem
 operation_item None = no_operation
-operation_item (Some o) = head_item (head o).name (length (head o).operands) (length (head o).results)
+operation_item (Some o) = record { first = (head o).name; second = length (head o).operands; third = length (head o).results }
 
 -- an operand
 abbrev pub operand_item : Value → RecordItem

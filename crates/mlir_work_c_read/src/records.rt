@@ -1,10 +1,11 @@
 //! Reads of operations, each with its operands and with the types and the uses of its results, by one call for many
 //! operations.
 ghost use Rattle.std.specs.Prelude.{◌≡◌, ◌≤◌, ◌∷◌, [], ℕ, List, length, map, min};
+ghost use Rattle.ir_event.specs.trees.Limits.{most_items};
 ghost use Rattle.mlir_work_c_read.specs.Filled.{over};
 ghost use Rattle.mlir_work_c_read.specs.Operations.{tree_in};
 ghost use Rattle.mlir_work_c_read.specs.Bulk.{WritesFirst};
-ghost use Rattle.mlir_work_c_read.specs.Records.{WritesRecord, WritesRecords, WritesResults, few, head_item, most_results, no_operation, operand_item, result_item, use_item};
+ghost use Rattle.mlir_work_c_read.specs.Records.{WritesRecord, WritesRecords, WritesResults, few, no_operation, operand_item, result_item, use_item};
 
 use crate::numbers::RecordItem;
 use ir_event::store::uses::UsesOf;
@@ -53,12 +54,14 @@ fn absent() -> RecordItem
 
 /// Returns the item of an operation with this name and these counts.
 fn item_of(name: NameId, operands: usize, results: usize) -> RecordItem
-    ensures { result ≡ head_item name operands results }
+    requires operands { operands ≤ most_items }
+    requires results { results ≤ most_items }
+    ensures { result ≡ record { first = name; second = operands; third = results } }
 {
     RecordItem {
         first: name.number(),
-        second: count_of(operands),
-        third: count_of(results),
+        second: operands as u32,
+        third: results as u32,
     }
 }
 
@@ -122,8 +125,9 @@ fn operand_item(operand: Value) -> RecordItem
 }
 
 /// Writes the results of an operation by their types: each result, and then its uses.
+#[inline(never)]
 fn write_results(world: &World, op: OpId, types: &[TypeId], into: &mut [RecordItem]) -> usize
-    requires { length types.now ≤ most_results }
+    requires { length types.now ≤ most_items }
     ensures { WritesResults op types.now (tree_in world.now) into.old into.new result }
 {
     let mut at = 0;
@@ -142,16 +146,16 @@ fn write_results(world: &World, op: OpId, types: &[TypeId], into: &mut [RecordIt
 fn write_result(uses: UsesOf<'_>, ty: TypeId, into: &mut [RecordItem]) -> usize
     ensures { WritesFirst (result_item ty (length uses.entry) ∷ map use_item uses.entry) into.old into.new result }
 {
-    let [first, rest @ ..] = into else {
+    if into.is_empty() {
         return 0;
-    };
-    let count = write_uses(uses, rest);
-    *first = RecordItem {
+    }
+    let count = write_uses(uses, &mut into[1..]);
+    into[0] = RecordItem {
         first: ty.number(),
         second: count_of(count),
         third: 0,
     };
-    1 + count.min(rest.len())
+    1 + count.min(into.len() - 1)
 }
 
 /// Writes uses, as many as there is space for. Returns how many there are, or 2^64 - 1 if there are more.
