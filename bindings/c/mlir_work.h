@@ -230,14 +230,14 @@ static inline void mlir_work_patterns(mlir_work_session *session, const uint8_t 
 /* Says whether a run is to stop. It must not call the library. */
 typedef bool mlir_work_stop(void *context);
 
-/* Runs `canon limit LIMIT`, or `rewrite RULES limit LIMIT`, in parts of at most `slice` rewrites, and asks `stop` before
-   each part. `command`: `canon` or `rewrite RULES`, without a limit. If `stop` never says yes, the module and the answer
-   are those of the command: each rewrite is the first that applies from the root on, so a run is the sum of its parts.
-   If `stop` says yes, the outcome is MLIR_WORK_STOPPED, number: how many rewrites are undone. Then, as after a refusal,
-   the module, its ids and its marks are those before the call. A part searches the module from the root on, so a small
-   `slice` stops soon, and a large one costs less: 1000 is a good number. `stop` may read a flag that a signal handler or
-   another thread sets, or a clock. The run opens a mark: if 16 are open, the call is refused (34 TooManyMarks). It shows
-   nothing. (This function is part of the header, not of the library, and isn't proved.) */
+/* Runs `canon limit LIMIT`, or `rewrite RULES limit LIMIT`, in parts of at most `slice` rewrites, and asks `stop`
+   before each part. `command`: `canon` or `rewrite RULES`, without a limit. If `stop` never says yes, the module and
+   the answer are those of the command: each rewrite is the first that applies from the root on, so a run is the sum of
+   its parts. If `stop` says yes, the outcome is MLIR_WORK_STOPPED, and number: how many rewrites were undone. Then, as
+   after a refusal, the module, its ids and its marks are those before the call. A part searches the module from the
+   root on: a small `slice` stops soon, and a large one costs less. 1000 is a good number. `stop` may read a flag that a
+   signal handler or another thread sets, or a clock. The run opens a mark: if 16 are open, the call is refused (34
+   TooManyMarks). It shows nothing. (This function is part of the header, not of the library, and isn't proved.) */
 static inline void mlir_work_rewrite_unless(mlir_work_session *session, const uint8_t *command, size_t command_length,
                                             uint32_t limit, uint32_t slice, mlir_work_stop *stop, void *context,
                                             mlir_work_answer *answer) {
