@@ -7,6 +7,8 @@ from .values import Argument, Result, Value
 
 _NONE, _NO_MEMORY, _RESULT = 2**64 - 1, 2**64 - 2, 2**32 - 1
 _NEAR_USES, _NEAR_BYTES = 16, 256
+# (what makes a named tuple without a call of Python)
+_tuple: Any = tuple.__new__
 # How many operations a table reads by one call, and how many items it has space for at first.
 _PAGE, _ITEMS = 512, 8192
 
@@ -141,18 +143,20 @@ class Reader:
             if at == size:
                 break
             name, operand_count, result_count = words[at:at + 3]
-            end = at + 3 + 3 * operand_count
-            operands = tuple([Result(words[it], words[it + 2]) if words[it + 1] == _RESULT
-                              else Argument(*words[it:it + 3]) for it in range(at + 3, min(end, size), 3)])
+            begin, end = at + 3, at + 3 + 3 * operand_count
+            operands = tuple([_tuple(Result, (it, place)) if region == _RESULT else Argument(it, region, place)
+                              for it, region, place in
+                              zip(words[begin:end:3], words[begin + 1:end:3], words[begin + 2:end:3])])
             results: List[TableResult] = []
             while len(results) < result_count and end < size:
-                begin, end = end, end + 3 + 3 * words[end + 1]
-                uses = tuple([(words[it], words[it + 1]) for it in range(begin + 3, min(end, size), 3)])
-                results.append(TableResult(known(types, "type", words[begin]), uses))
+                begin, number = end + 3, words[end]
+                end = begin + 3 * words[end + 1]
+                text = types.get(number) or known(types, "type", number)
+                results.append(_tuple(TableResult, (text, tuple(zip(words[begin:end:3], words[begin + 1:end:3])))))
             if end > size or len(results) < result_count:
                 break
-            text = known(names, "name", name) if name != _RESULT else ""  # (one that was erased meanwhile)
-            found.append(TableRow(operation, text, operands, tuple(results)))
+            text = names.get(name) or (known(names, "name", name) if name != _RESULT else "")  # (erased meanwhile)
+            found.append(_tuple(TableRow, (operation, text, operands, tuple(results))))
             at = end
         return found
 
