@@ -5,7 +5,7 @@ use Rattle.std.proofs.lemmas.List.{drop_all}
 use borrow.Rule.Slice.PartMut.{mid_of, put_mid}
 use Rattle.ir_event.specs.store.Using.{AreUses}
 use Rattle.ir_event.specs.trees.declared.value.Value.TheVariants.{Result}
-use Rattle.ir_event.specs.trees.Tree.{Op, op, head, region_count}
+use Rattle.ir_event.specs.trees.Tree.{Op, op, region_count}
 use Rattle.ir_event.specs.trees.Ids.{find}
 use Rattle.ir_event.specs.trees.Limits.{most_items, most_regions, items_fit, head_fits, all_arguments_pass, op_fits}
 use Rattle.ir_event.specs.trees.WellFormed.{IsValidTree}

@@ -1,4 +1,4 @@
-use Rattle.std.proofs.Common.{rules, ap, sym, subst, ◌≡◌, ◌≤◌, ◌∙◌, [], ◌∷◌, ◌++◌, length, map}
+use Rattle.std.proofs.Common.{ap, sym, subst, ◌≤◌, ◌∙◌, [], ◌∷◌, ◌++◌, length, map}
 use Rattle.ir_event.specs.trees.Limits.{most_items}
 use Rattle.mlir_work_c_read.specs.Operations.{tree_in}
 use Rattle.mlir_work_c_read.specs.Records.{AreResults, IsRecord, operand_item}

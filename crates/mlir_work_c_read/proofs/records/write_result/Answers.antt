@@ -1,4 +1,4 @@
-use Rattle.std.proofs.Common.{rules, ap, ◌≡◌, ◌≤◌, ◌<◌, ◌∷◌, ◌∙◌, ◌-◌, length, map, arith}
+use Rattle.std.proofs.Common.{rules, ap, ◌≤◌, ◌<◌, ◌∷◌, ◌∙◌, ◌-◌, length, map, arith}
 use Rattle.std.specs.Prelude.{slice_set}
 use borrow.Rule.Slice.PartMut.{put_mid}
 use Rattle.mlir_work_c_read.specs.Records.{few, result_item, use_item}

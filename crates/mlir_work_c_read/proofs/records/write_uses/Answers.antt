@@ -1,4 +1,4 @@
-use Rattle.std.proofs.Common.{rules, ap, length, ◌+◌, arith, refl}
+use Rattle.std.proofs.Common.{ap, length, ◌+◌, arith, refl}
 use Rattle.mlir_work_c_read.proofs.Recording.{two_is, use_on}
 use Rattle.mlir_work_c_read.proofs.records.write_uses.Goals as goal
 
