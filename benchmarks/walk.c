@@ -1,7 +1,8 @@
 /* Walks a module of N operations once, 100,000 if no number is given, and reads the name, the operands, the types of
    the results, and all uses of the results of each operation. Prints the seconds of the walk, and what it counted.
 
-   usage: walk [N [one|many]]    `one`: by a call for each item; `many`: by calls for 512 operations */
+   usage: walk [N [records|many|one]]    `records`: by one call for 512 operations, as is done if no word is given;
+                                         `many`: by four calls for 512 operations; `one`: by a call for each item */
 #include "mlir_work.h"
 
 #include <stdio.h>
@@ -73,6 +74,28 @@ static void many(const uint32_t *all, size_t count) {
   }
 }
 
+/* By one call for pages of operations. */
+static void records(const uint32_t *all, size_t count) {
+  static mlir_work_item items[16 * PAGE];
+  for (size_t k = 0; k < count;) {
+    const size_t some = count - k < PAGE ? count - k : PAGE;
+    const size_t written = mlir_work_records(&s, all + k, some, items, 16 * PAGE), begun = k;
+    const mlir_work_item *item = items, *const last = items + written;
+    for (; item != last && (written < 16 * PAGE || mlir_work_record_end(items, written, (size_t)(item - items))); k++) {
+      uint32_t results = item->operation.results;
+      names += item->operation.name;
+      operands += item->operation.operands;
+      for (item += 1 + item->operation.operands; results > 0; results--) {
+        types += item->result.type;
+        uses += item->result.uses;
+        item += 1 + item->result.uses;
+      }
+    }
+    if (k == begun)
+      exit(1); /* a record is longer than the space for a page */
+  }
+}
+
 int main(int argc, char **argv) {
   const size_t count = argc > 1 ? strtoul(argv[1], NULL, 10) : 100000;
   mlir_work_answer answer;
@@ -84,7 +107,8 @@ int main(int argc, char **argv) {
   const double begun = now();
   if (argc < 4) {
     const size_t found = (size_t)mlir_work_operations(&s, all, count);
-    (argc > 2 && !strcmp(argv[2], "one") ? one : many)(all, found);
+    const char *how = argc > 2 ? argv[2] : "records";
+    (!strcmp(how, "one") ? one : !strcmp(how, "many") ? many : records)(all, found);
   }
   printf("%.4f s, names %llu, operands %llu, types %llu, uses %llu\n", now() - begun, (unsigned long long)names,
          (unsigned long long)operands, (unsigned long long)types, (unsigned long long)uses);

@@ -16,7 +16,8 @@
      changes its owner.
    - A call needs stack for the deepest nesting in the text that it reads: 512 KB of stack are enough (measured:
      288 KB). A thread with less stack may end by SIGSEGV. (musl gives a thread 128 KB by default.)
-   - No call from a signal handler, or in the child after a fork of a process with several threads.
+   - No call from a signal handler, or in the child after a fork of a process with several threads. To stop a run from
+     a handler or another thread, set a flag of your own that `stop` of mlir_work_rewrite_unless reads.
    - malloc, realloc and free are of one allocator, and align like those of the C library.
    If memory runs out, the answer is refusal 36, and the module and its marks are unchanged. */
 #ifndef MLIR_WORK_H
@@ -223,6 +224,69 @@ static inline void mlir_work_patterns(mlir_work_session *session, const uint8_t 
   answer->shown = 0;
 }
 
+/* The outcome of a run that `stop` stopped. The library's own answers never have it. */
+#define MLIR_WORK_STOPPED 64
+
+/* Says whether a run is to stop. It must not call the library. */
+typedef bool mlir_work_stop(void *context);
+
+/* Runs `canon limit LIMIT`, or `rewrite RULES limit LIMIT`, in parts of at most `slice` rewrites, and asks `stop`
+   before each part. `command`: `canon` or `rewrite RULES`, without a limit. If `stop` never says yes, the module and
+   the answer are those of the command: each rewrite is the first that applies from the root on, so a run is the sum of
+   its parts. If `stop` says yes, the outcome is MLIR_WORK_STOPPED, and number: how many rewrites were undone. Then, as
+   after a refusal, the module, its ids and its marks are those before the call. A part searches the module from the
+   root on: a small `slice` stops soon, and a large one costs less. 1000 is a good number. `stop` may read a flag that a
+   signal handler or another thread sets, or a clock. The run opens a mark: if 16 are open, the call is refused (34
+   TooManyMarks). It shows nothing. (This function is part of the header, not of the library, and isn't proved.) */
+static inline void mlir_work_rewrite_unless(mlir_work_session *session, const uint8_t *command, size_t command_length,
+                                            uint32_t limit, uint32_t slice, mlir_work_stop *stop, void *context,
+                                            mlir_work_answer *answer) {
+  static const char begin[] = "begin", commit[] = "commit", rollback[] = "rollback", word[] = " limit ";
+  const uint32_t largest = 1000000; /* a larger limit is refused (50 BadLimit) */
+  uint8_t line[4096], digits[10];
+  uint64_t made = 0;
+  mlir_work_answer last = {MLIR_WORK_REFUSED, MLIR_WORK_TOO_MANY, 0, 0};
+  *answer = last;
+  if (command_length > sizeof line - sizeof word - sizeof digits)
+    return;
+  mlir_work_command(session, (const uint8_t *)begin, sizeof begin - 1, answer);
+  if (answer->outcome != MLIR_WORK_OK)
+    return;
+  for (;;) {
+    const uint32_t left = limit - (uint32_t)made;
+    uint32_t part = limit <= largest && slice < left ? (slice ? slice : 1) : left;
+    size_t length = 0, count = 0;
+    if (stop(context)) {
+      last.outcome = MLIR_WORK_STOPPED;
+      last.refusal = 0;
+      break;
+    }
+    for (; length < command_length; length++)
+      line[length] = command[length];
+    for (size_t i = 0; i < sizeof word - 1; i++)
+      line[length++] = (uint8_t)word[i];
+    do
+      digits[count++] = (uint8_t)('0' + part % 10);
+    while (part /= 10);
+    while (count)
+      line[length++] = digits[--count];
+    mlir_work_command(session, line, length, &last);
+    if (last.outcome != MLIR_WORK_CONVERGED && last.outcome != MLIR_WORK_LIMIT)
+      break;
+    made += last.number;
+    if (last.outcome == MLIR_WORK_CONVERGED || made >= limit)
+      break;
+  }
+  if (last.outcome == MLIR_WORK_CONVERGED || last.outcome == MLIR_WORK_LIMIT)
+    mlir_work_command(session, (const uint8_t *)commit, sizeof commit - 1, answer);
+  else
+    mlir_work_command(session, (const uint8_t *)rollback, sizeof rollback - 1, answer);
+  *answer = last;
+  answer->shown = 0;
+  if (last.outcome != MLIR_WORK_REFUSED && last.outcome != MLIR_WORK_REFUSED_ON && last.outcome != MLIR_WORK_REFUSED_AT)
+    answer->number = made;
+}
+
 /* Copies the output of the last line, from byte `from` on, into `into`, at most `into_length` bytes. Returns how many
    bytes were copied: 0 at the end of the output, and for a closed handle. */
 size_t mlir_work_read(mlir_work_session *session, size_t from, uint8_t *into, size_t into_length);
@@ -384,6 +448,51 @@ typedef struct mlir_work_value_use {
 /* Writes the uses of values, one value after the other; those of one value each once, and in any order. */
 size_t mlir_work_value_uses(mlir_work_session *session, const mlir_work_value *values, size_t count,
                             mlir_work_value_use *uses, size_t capacity);
+
+/* An item of a record. Each has 12 bytes. */
+typedef union mlir_work_item {
+  struct {
+    uint32_t name;     /* the number of the name, or UINT32_MAX if the module has no such operation */
+    uint32_t operands; /* how many operands it has */
+    uint32_t results;  /* how many results it has */
+  } operation;
+  mlir_work_value operand;
+  struct {
+    uint32_t type;   /* the number of the type */
+    uint32_t uses;   /* how many uses it has */
+    uint32_t unused; /* 0 */
+  } result;
+  mlir_work_use use;
+} mlir_work_item;
+
+/* Writes the records of operations, one operation after the other. A record is the operation; its operands; and for
+   each result the result and then its uses, each once and in any order. This is the fastest way to read the names,
+   operands, types and uses of many operations. Returns how many items it wrote. If these are fewer than the capacity,
+   all records are whole. Otherwise the last one may be cut off: mlir_work_record_end says so, and the next call begins
+   with its operation. */
+size_t mlir_work_records(mlir_work_session *session, const uint32_t *operations, size_t count, mlir_work_item *items,
+                         size_t capacity);
+
+/* Returns the place after the record that begins at item `at` of `count` items, or 0 if the record is cut off. (This
+   function is part of the header, not of the library, and isn't proved.) */
+static inline size_t mlir_work_record_end(const mlir_work_item *items, size_t count, size_t at) {
+  if (at >= count)
+    return 0;
+  size_t left = count - at - 1, need = items[at].operation.operands;
+  if (need > left)
+    return 0;
+  size_t end = at + 1 + need;
+  for (uint32_t results = items[at].operation.results; results > 0; results--) {
+    if (end >= count)
+      return 0;
+    need = items[end].result.uses;
+    left = count - end - 1;
+    if (need > left)
+      return 0;
+    end += 1 + need;
+  }
+  return end;
+}
 
 /* Names, types and attributes are interned: a session has a number for each. Two names of a session are equal exactly
    if their numbers are equal, and so are two types and two attributes. A number keeps its meaning until the session is

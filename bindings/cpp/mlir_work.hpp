@@ -428,30 +428,66 @@ inline auto Operation::regions() const {
   });
 }
 
-// The operations of a module with their names, operands, types of results and uses. A table is read by a few calls, so
-// a walk over it is faster than one over handles.
+// The operations of a module with their names, operands, and results with their types and uses. A table is read by a
+// call for 512 operations, so a walk over it is faster than one over handles.
 class Table {
 public:
-  // A part of an array.
-  template <class Item> struct Items {
-    const Item *first, *last;
-    const Item *begin() const { return first; }
-    const Item *end() const { return last; }
-    std::size_t size() const { return static_cast<std::size_t>(last - first); }
-    bool empty() const { return first == last; }
-    const Item &operator[](std::size_t place) const { return first[place]; }
+  // Consecutive items of a record that are of one kind.
+  template <class Part, Part mlir_work_item::*Kind> class Items {
+  public:
+    struct iterator {
+      const mlir_work_item *at;
+      const Part &operator*() const { return at->*Kind; }
+      iterator &operator++() { return ++at, *this; }
+      bool operator!=(const iterator &other) const { return at != other.at; }
+    };
+    Items(const mlir_work_item *first, std::size_t size) : first_(first), size_(size) {}
+    iterator begin() const { return {first_}; }
+    iterator end() const { return {first_ + size_}; }
+    std::size_t size() const { return size_; }
+    bool empty() const { return size_ == 0; }
+    const Part &operator[](std::size_t place) const { return first_[place].*Kind; }
+
+  private:
+    const mlir_work_item *first_;
+    std::size_t size_;
+  };
+  using Values = Items<mlir_work_value, &mlir_work_item::operand>;
+  using ValueUses = Items<mlir_work_use, &mlir_work_item::use>;
+
+  // A result: the number of its type, and its uses.
+  struct ResultRow {
+    std::uint32_t type;
+    ValueUses uses;
+  };
+  // The results of an operation.
+  class Results {
+  public:
+    struct iterator {
+      const mlir_work_item *at;
+      ResultRow operator*() const { return {at->result.type, ValueUses(at + 1, at->result.uses)}; }
+      iterator &operator++() { return at += 1 + at->result.uses, *this; }
+      bool operator!=(const iterator &other) const { return at != other.at; }
+    };
+    Results(const mlir_work_item *first, const mlir_work_item *last, std::size_t size)
+        : first_(first), last_(last), size_(size) {}
+    iterator begin() const { return {first_}; }
+    iterator end() const { return {last_}; }
+    std::size_t size() const { return size_; }
+
+  private:
+    const mlir_work_item *first_, *last_;
+    std::size_t size_;
   };
   // An operation of the table.
   struct Row {
     std::uint32_t operation;
     std::uint32_t name; // the number of a Name
-    const mlir_work_count *counts;
-    Items<mlir_work_value> operands;
-    Items<std::uint64_t> types;         // the number of the type of each result
-    Items<mlir_work_value_use> uses;    // those of all results, by the index of the result
+    Values operands;
+    Results results;
   };
 
-  explicit Table(mlir_work_session *held) : held_(held) {
+  explicit Table(mlir_work_session *held) : held_(held), items_(16 * page) {
     std::uint32_t none;
     const std::uint64_t count = mlir_work_operations(held, &none, 0);
     operations_.resize(count >= MLIR_WORK_NO_MEMORY ? 0 : static_cast<std::size_t>(count));
@@ -463,64 +499,36 @@ public:
 
   // Calls `visit` with each row, in pre-order. A row is valid during the call. Don't edit the module meanwhile.
   template <class Visit> void each(Visit visit) {
-    for (std::size_t at = 0; at < operations_.size(); at += page)
-      visit_page(operations_.data() + at, std::min(page, operations_.size() - at), visit);
+    for (std::size_t at = 0; at < operations_.size();) {
+      const std::size_t count = std::min(page, operations_.size() - at);
+      const std::size_t read = visit_page(operations_.data() + at, count, visit);
+      if (read == 0)
+        items_.resize(2 * items_.size());
+      at += read;
+    }
   }
 
 private:
   static constexpr std::size_t page = 512;
 
-  template <class Visit> void visit_page(const std::uint32_t *operations, std::size_t count, Visit &visit) {
-    heads_.resize(page);
-    mlir_work_heads(held_, operations, count, heads_.data(), count);
-    std::size_t operand_count = 0;
-    results_.clear();
-    for (std::size_t k = 0; k < count; k++) {
-      operand_count += heads_[k].counts.operands;
-      for (std::size_t place = 0; place < heads_[k].counts.results; place++)
-        results_.push_back(result(operations[k], static_cast<std::uint32_t>(place)));
+  // Visits the operations whose records have space, and returns how many these are.
+  template <class Visit> std::size_t visit_page(const std::uint32_t *operations, std::size_t count, Visit &visit) {
+    const std::size_t written = mlir_work_records(held_, operations, count, items_.data(), items_.size());
+    std::size_t read = 0;
+    for (std::size_t at = 0, end; (end = mlir_work_record_end(items_.data(), written, at)) != 0; at = end) {
+      const mlir_work_item *const first = &items_[at], *const last = items_.data() + end;
+      const std::size_t operand_count = first->operation.operands;
+      visit(Row{operations[read++],
+                first->operation.name,
+                {first + 1, operand_count},
+                {first + 1 + operand_count, last, first->operation.results}});
     }
-    operands_.resize(std::max<std::size_t>(operand_count, 1));
-    mlir_work_operands(held_, operations, count, operands_.data(), operand_count);
-    if (results_.empty())
-      results_.reserve(1);
-    types_.resize(std::max<std::size_t>(results_.size(), 1));
-    mlir_work_types(held_, results_.data(), results_.size(), types_.data(), results_.size());
-    uses_.resize(std::max<std::size_t>(uses_.size(), 1024));
-    while ((use_count_ = mlir_work_value_uses(held_, results_.data(), results_.size(), uses_.data(), uses_.size())) ==
-           uses_.size())
-      uses_.resize(2 * uses_.size());
-    show(operations, count, visit);
-  }
-  template <class Visit> void show(const std::uint32_t *operations, std::size_t count, Visit &visit) {
-    const mlir_work_value *operand = operands_.data();
-    const std::uint64_t *type = types_.data();
-    mlir_work_value_use *use = uses_.data(), *const last = use + use_count_;
-    std::size_t result = 0;
-    for (std::size_t k = 0; k < count; k++) {
-      const mlir_work_count &counts = heads_[k].counts;
-      mlir_work_value_use *const first = use;
-      for (; use != last && use->value < result + counts.results; use++)
-        use->value -= result;
-      visit(Row{operations[k],
-                static_cast<std::uint32_t>(heads_[k].name),
-                &counts,
-                {operand, operand + counts.operands},
-                {type, type + counts.results},
-                {first, use}});
-      operand += counts.operands;
-      type += counts.results;
-      result += counts.results;
-    }
+    return read;
   }
 
   mlir_work_session *held_;
   std::vector<std::uint32_t> operations_;
-  std::vector<mlir_work_head> heads_;
-  std::vector<mlir_work_value> operands_, results_;
-  std::vector<std::uint64_t> types_;
-  std::vector<mlir_work_value_use> uses_;
-  std::size_t use_count_ = 0;
+  std::vector<mlir_work_item> items_;
 };
 
 // A line or a module was refused. The session is unchanged.

@@ -118,11 +118,22 @@ class Library(unittest.TestCase):
         for more in (("-pthread",), ("-pthread", "-fsanitize=thread")):
             self.assertEqual(ran([self.built("tests/golden/embed/threads.c", *more)]), b"")
 
+    def test_stop(self):
+        """A run that a signal, another thread or a count stops leaves the module and its marks; a run in parts is the
+        run of the command."""
+        for more in (("-pthread",), ("-pthread", *SANITIZED), ("-pthread", "-fsanitize=thread")):
+            self.assertEqual(ran([self.built("tests/golden/embed/stop.c", *more)]), b"")
+        module = (EXAMPLES / "canon.mlir").read_bytes()
+        stop = self.built("examples/embed/stop.c")
+        for seconds, script, told in (("600", b"canon limit 1000000\nprint\n", ""), ("0", b"print\n", "// stopped\n")):
+            _, out = program.written(joined(module, script))
+            self.assertEqual(ran([stop, seconds], module).decode(), told + out[out.index('"builtin.module"'):])
+
     def test_walk(self):
-        """A walk by calls for many operations counts what a walk by calls for one operation counts."""
+        """A walk by one call or four calls for many operations counts what one by calls for one operation counts."""
         built = self.built("benchmarks/walk.c")
-        told = {how: ran([built, "3000", how]).partition(b", ")[2] for how in ("one", "many")}
-        self.assertEqual(told["one"], told["many"])
+        told = {how: ran([built, "3000", how]).partition(b", ")[2] for how in ("one", "many", "records")}
+        self.assertEqual(len(set(told.values())), 1, told)
 
     def test_numbers_by_chance(self):
         """Random edits by lines, by numbers and over a process give the same modules and rows."""

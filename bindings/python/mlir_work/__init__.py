@@ -14,6 +14,7 @@ from .numbers import Cell, Numbers
 from .operations import Operation
 from .patterns import Checked, Pattern
 from .process import Process
+from .reader import TableResult, TableRow
 from .reply import Reply
 from .rewrites import Canonicalized, Fired, Firing, Reason, Rewrite, Traced
 from .rows import KINDS, Constant, Dead, Diagnostic, Effect, Row, Symbol, Unreached, Use
@@ -23,6 +24,7 @@ from .way import Way
 
 __all__ = ["Argument", "BlockHandle", "Canonicalized", "Cell", "Checked", "Constant", "Dead", "Diagnostic", "Effect",
            "Error", "Fired", "Firing", "FormBroken", "KINDS", "Library", "ModuleRefused", "Numbers", "Operation",
-           "OperationData", "OperationHandle", "Pattern", "Process", "ProcessLost", "Reason", "Refused", "RegionHandle",
-           "Reply", "Result", "Rewrite", "Row", "Session", "SessionClosed", "Stays", "Symbol", "Traced", "Unproved",
-           "Unreached", "Use", "UseHandle", "Value", "ValueHandle", "Way", "after", "before", "end", "quoted", "start"]
+           "OperationData", "OperationHandle", "Pattern", "Process", "ProcessLost", "Reason", "Refused",
+           "RegionHandle", "Reply", "Result", "Rewrite", "Row", "Session", "SessionClosed", "Stays", "Symbol",
+           "TableResult", "TableRow", "Traced", "Unproved", "Unreached", "Use", "UseHandle", "Value", "ValueHandle",
+           "Way", "after", "before", "end", "quoted", "start"]

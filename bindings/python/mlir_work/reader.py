@@ -1,12 +1,16 @@
 """Reads the operations of a module that the library holds, by numbers."""
 import ctypes
-from typing import Any, Dict, List, Optional, Tuple
+from typing import Any, Dict, Iterator, List, NamedTuple, Optional, Tuple
 
-from .errors import SessionClosed
+from .errors import Error, SessionClosed
 from .values import Argument, Result, Value
 
 _NONE, _NO_MEMORY, _RESULT = 2**64 - 1, 2**64 - 2, 2**32 - 1
 _NEAR_USES, _NEAR_BYTES = 16, 256
+# (what makes a named tuple without a call of Python)
+_tuple: Any = tuple.__new__
+# How many operations a table reads by one call, and how many items it has space for at first.
+_PAGE, _ITEMS = 512, 8192
 
 
 class CValue(ctypes.Structure):
@@ -24,6 +28,23 @@ class CValue(ctypes.Structure):
 def numbers_of(value: Value) -> CValue:
     """Returns a value as a C struct."""
     return CValue(value.operation, value.region if type(value) is Argument else _RESULT, value.place)
+
+
+class TableResult(NamedTuple):
+    """A result of an operation of a table: its type, and its uses, each the number of an operation and the number of
+    its operand, in any order."""
+
+    type: str
+    uses: Tuple[Tuple[int, int], ...]
+
+
+class TableRow(NamedTuple):
+    """An operation of a table, by its number: its name, its operands and its results."""
+
+    operation: int
+    name: str
+    operands: Tuple[Value, ...]
+    results: Tuple[TableResult, ...]
 
 
 class _Use(ctypes.Structure):
@@ -59,6 +80,9 @@ def declare(calls: ctypes.CDLL, handle: type) -> bool:
             ("attribute_text", [number, text, size], wide)):
         call = getattr(calls, f"mlir_work_{name}")
         call.argtypes, call.restype = [handle, *takes], gives
+    if hasattr(calls, "mlir_work_records"):  # an older library has no such call
+        calls.mlir_work_records.argtypes = [handle, ctypes.c_void_p, size, ctypes.c_void_p, size]
+        calls.mlir_work_records.restype = size
     return True
 
 
@@ -82,11 +106,59 @@ class Reader:
 
     def operations(self) -> List[int]:
         """Returns all operations in pre-order. Raises MemoryError, and SessionClosed."""
+        numbers, count = self._listed()
+        return numbers[:count]
+
+    def table(self) -> Iterator[TableRow]:
+        """Yields all operations in pre-order. A call of the library reads 512 operations. Raises Error if the library
+        has no such call, MemoryError, and SessionClosed."""
+        if not hasattr(self._calls, "mlir_work_records"):
+            raise Error("a table needs a newer library")
+        numbers, count = self._listed()
+        items = (ctypes.c_uint32 * (3 * _ITEMS))()
+        at = 0
+        while at < count:
+            page = min(_PAGE, count - at)
+            written = self._calls.mlir_work_records(self._at, ctypes.byref(numbers, 4 * at), page, items,
+                                                    len(items) // 3)
+            rows = self._rows(numbers[at:at + page], items[:3 * written])
+            if not rows:
+                items = (ctypes.c_uint32 * (2 * len(items)))()
+            yield from rows
+            at += len(rows)
+
+    def _listed(self) -> Tuple[Any, int]:
+        """Returns all operations in pre-order as an array, and how many they are."""
         none = (ctypes.c_uint32 * 1)()
         count = self._counted(self._calls.mlir_work_operations(self._at, none, 0))
         numbers = (ctypes.c_uint32 * max(count, 1))()
         self._counted(self._calls.mlir_work_operations(self._at, numbers, count))
-        return list(numbers)[:count]
+        return numbers, count
+
+    def _rows(self, operations: List[int], words: List[int]) -> List[TableRow]:
+        """Returns the records among the words of items that aren't cut off."""
+        found: List[TableRow] = []
+        at, size, known, names, types = 0, len(words), self._known, self._names, self._types
+        for operation in operations:
+            if at == size:
+                break
+            name, operand_count, result_count = words[at:at + 3]
+            begin, end = at + 3, at + 3 + 3 * operand_count
+            operands = tuple([_tuple(Result, (it, place)) if region == _RESULT else Argument(it, region, place)
+                              for it, region, place in
+                              zip(words[begin:end:3], words[begin + 1:end:3], words[begin + 2:end:3])])
+            results: List[TableResult] = []
+            while len(results) < result_count and end < size:
+                begin, number = end + 3, words[end]
+                end = begin + 3 * words[end + 1]
+                text = types.get(number) or known(types, "type", number)
+                results.append(_tuple(TableResult, (text, tuple(zip(words[begin:end:3], words[begin + 1:end:3])))))
+            if end > size or len(results) < result_count:
+                break
+            text = names.get(name) or (known(names, "name", name) if name != _RESULT else "")  # (erased meanwhile)
+            found.append(_tuple(TableRow, (operation, text, operands, tuple(results))))
+            at = end
+        return found
 
     def has(self, operation: int) -> bool:
         """Returns whether an operation is in the module."""

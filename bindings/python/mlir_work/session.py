@@ -18,7 +18,7 @@ from .operations import Operation, read
 from .patterns import Checked, Pattern, all_checked_of, checked_of, patterns_of
 from .positions import Positions, positions_of
 from .process import Process
-from .reader import Reader
+from .reader import Reader, TableRow
 from .reply import Reply
 from .rewrites import (Canonicalized, Fired, Reason, Rewrite, Traced, canonicalized_of, fired_of, reasons_of, stood_of,
                        traced_of)
@@ -307,6 +307,12 @@ class Session:
         session isn't over the library: `operations` reads printed text and works everywhere."""
         reader = self._read()
         return (OperationHandle(reader, it) for it in reader.operations() if reader.has(it))
+
+    def table(self) -> Iterator[TableRow]:
+        """Visits the operations in pre-order with their names, operands, types and uses, which the library reads by a
+        call for 512 operations: the fastest walk. Don't edit the module meanwhile. Raises Error if the session isn't
+        over the library."""
+        return self._read().table()
 
     @property
     def root(self) -> OperationHandle:

@@ -35,6 +35,7 @@ class Handles(Case):
         for op in s.operations():
             for place, value in enumerate(op.operands):
                 uses.setdefault(value, set()).add((op.number, place))
+        self.same_table(s, uses)
         handles = list(s.walk())
         self.assertEqual([it.number for it in handles], [it.number for it in s.operations()])
         for handle, op in zip(handles, s.operations()):
@@ -55,6 +56,27 @@ class Handles(Case):
                 self.assertEqual({(it.owner.number, it.operand_number) for it in value.uses},
                                  uses.get(value.value, set()))
                 self.assertEqual(value.owner, handle)
+
+    def same_table(self, s, uses):
+        """Compares a table with the operations that are parsed from text."""
+        rows = list(s.table())
+        self.assertEqual([(it.operation, it.name, it.operands) for it in rows],
+                         [(it.number, it.name, it.operands) for it in s.operations()])
+        for row, op in zip(rows, s.operations()):
+            self.assertEqual([it.type for it in row.results], list(op.results.values()))
+            for value, result in zip(op.results, row.results):
+                self.assertEqual((len(result.uses), set(result.uses)),
+                                 (len(uses.get(value, ())), uses.get(value, set())))
+
+    def test_long_records(self):
+        """A record that is longer than the first space for items is read, and so are those after it."""
+        count = 9000
+        uses = "".join('"test.use"(%0) : (i32) -> ()\n' for _ in range(count))
+        with session('%0 = "test.one"() : () -> i32\n' + uses) as s:
+            rows = list(s.table())
+            self.assertEqual(len(rows), count + 2)
+            self.assertEqual(sorted(rows[1].results[0].uses), [(it + 2, 0) for it in range(count)])
+            self.assertEqual({it.operands for it in rows[2:]}, {(mlir_work.Result(1, 0),)})
 
     def test_reads(self):
         with session() as s:

@@ -7,10 +7,12 @@ use Rattle.ir_event.specs.Rows.{rows_meaning}
 use Rattle.rewriter.specs.Machine.{Done, Goes, Nothing, Refused, Report, Rows}
 use Rattle.mlir_work_c_read.specs.declared.numbers.CellNumbers.{CellNumbers}
 use Rattle.mlir_work_c_read.specs.declared.numbers.Head.{Head}
+use Rattle.mlir_work_c_read.specs.declared.numbers.RecordItem.{RecordItem}
 use Rattle.mlir_work_c_read.specs.declared.numbers.ValueNumbers.{ValueNumbers}
 use Rattle.mlir_work_c_read.specs.declared.numbers.ValueUse.{ValueUse}
 use Rattle.mlir_work_c_read.specs.Bulk.{WritesFirst, WritesValueUses, all_operands, head_of, type_number}
 use Rattle.mlir_work_c_read.specs.Filled.{over}
+use Rattle.mlir_work_c_read.specs.Records.{WritesRecords}
 use Rattle.mlir_work_c_read.specs.Rows.{rows_numbers}
 use Rattle.mlir_work_c.specs.Answers.{closed, counted, refused}
 use Rattle.mlir_work_c.specs.Queries.{context_of, tree_of}
@@ -37,6 +39,10 @@ WritesTypesOf vs (Some s) old new count = WritesFirst (map (type_number (tree_of
 abbrev pub WritesValueUsesOf : List ValueNumbers → Option Session → List ValueUse → List ValueUse → ℕ → Type 0
 WritesValueUsesOf vs None old new count = WritesNone old new count
 WritesValueUsesOf vs (Some s) old new count = WritesValueUses vs (tree_of s) old new count
+
+abbrev pub WritesRecordsOf : List ℕ → Option Session → List RecordItem → List RecordItem → ℕ → Type 0
+WritesRecordsOf xs None old new count = WritesNone old new count
+WritesRecordsOf xs (Some s) old new count = WritesRecords xs (tree_of s) old new count
 
 -- the rows of a report are written as cells, and the answer has their number; a refused report writes nothing
 abbrev pub ReportsIn : ℕ → Session → List CellNumbers → List CellNumbers → Answer → Type 0

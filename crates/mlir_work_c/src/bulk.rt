@@ -4,7 +4,7 @@ ghost use Rattle.std.specs.Prelude.{◌≡◌, nat_lt};
 ghost use Rattle.rewriter.specs.RewriterCalls.{AgreesOrStale};
 ghost use Rattle.mlir_work_analyses.specs.Listeners.{any_analysis};
 ghost use Rattle.mlir_work_c.specs.Calls.{IsHeld};
-ghost use Rattle.mlir_work_c.specs.Bulk.{ReportGoes, ReportsOf, WritesHeadsOf, WritesOperandsOf, WritesTypesOf, WritesValueUsesOf};
+ghost use Rattle.mlir_work_c.specs.Bulk.{ReportGoes, ReportsOf, WritesHeadsOf, WritesOperandsOf, WritesRecordsOf, WritesTypesOf, WritesValueUsesOf};
 
 use crate::answer::{Answer, closed, counted, refused};
 use crate::handle::Handle;
@@ -12,7 +12,8 @@ use crate::session::Session;
 use ir_event::row::Kind;
 use ir_event::types::refusal::Refusal;
 use mlir_work_c_read::bulk::{write_heads, write_operands, write_types, write_value_uses};
-use mlir_work_c_read::numbers::{CellNumbers, Head, ValueNumbers, ValueUse};
+use mlir_work_c_read::numbers::{CellNumbers, Head, RecordItem, ValueNumbers, ValueUse};
+use mlir_work_c_read::records::write_records;
 use mlir_work_c_read::rows::{count_cells, write_rows};
 use std::alloc::Global;
 
@@ -92,6 +93,26 @@ pub extern "C" fn mlir_work_value_uses(
         return 0;
     };
     let count = write_value_uses(found.bench.world(), values, into);
+    held.open_with(found);
+    count
+}
+
+/// Writes the records of operations, one operation after the other.
+#[unsafe(no_mangle)]
+pub extern "C" fn mlir_work_records(
+    alloc: Global,
+    held: &mut Handle,
+    operations: &[u32],
+    into: &mut [RecordItem],
+) -> usize
+    requires kept { IsHeld held.old.slot.value }
+    ensures same { held.new.slot.value ≡ held.old.slot.value }
+    ensures told { WritesRecordsOf operations.now held.old.slot.value into.old into.new result }
+{
+    let Some(found) = held.take(alloc) else {
+        return 0;
+    };
+    let count = write_records(found.bench.world(), operations, into);
     held.open_with(found);
     count
 }

@@ -5,6 +5,7 @@ mod Joining
 mod Lengths
 mod Nodes
 mod Placed
+mod Recording
 mod Refusing
 mod Testing
 mod Using

@@ -6,6 +6,7 @@ pub mod Headers
 pub mod Interned
 pub mod Numbers
 pub mod Operations
+pub mod Records
 pub mod Rows
 pub mod Texts
 pub mod Uses

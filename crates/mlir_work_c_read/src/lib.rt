@@ -1,7 +1,7 @@
 //! Reads and edits of a module by numbers, for the C interface.
 //!
-//! - `operations`, `entries`, `uses`, `queries`, `bulk`, `rows` and `texts` read operations, their counts and entries,
-//!   uses, report rows, and texts of interned numbers. All reads leave the IR state unchanged.
+//! - `operations`, `entries`, `uses`, `queries`, `bulk`, `records`, `rows` and `texts` read operations, their counts
+//!   and entries, uses, report rows, and texts of interned numbers. All reads leave the IR state unchanged.
 //! - `header` builds a new operation from C arrays, with the entries in the dictionaries and in the order that they have
 //!   in an operation text, and `insert` inserts it.
 //! - `attributes` sets and removes entries by the numbers of their keys.
@@ -19,6 +19,7 @@ pub mod numbers;
 pub mod operations;
 mod places;
 pub mod queries;
+pub mod records;
 pub mod rows;
 pub mod texts;
 pub mod uses;

@@ -60,6 +60,16 @@ pub struct Head {
     pub counts: Counts,
 }
 
+/// An item of a record (`specs/Records.antt`): an operation, with its name, its number of operands and its number of
+/// results; an operand, as `ValueNumbers`; a result, with its type and its number of uses; or a use, as `UseNumbers`.
+#[repr(C)]
+#[derive(Clone, Copy)]
+pub struct RecordItem {
+    pub first: u32,
+    pub second: u32,
+    pub third: u32,
+}
+
 /// An integer: its value below 2^w of a type of width w, the number of its type, and the width, which is 0 for index.
 #[repr(C)]
 #[derive(Clone, Copy)]

@@ -223,6 +223,54 @@ static void value_uses(void) {
   }
 }
 
+/* A record has what the calls for one operation answer, and one that doesn't fit is cut off. */
+static void record(const mlir_work_item *item, const mlir_work_item *end, uint32_t operation) {
+  mlir_work_count counts = {0, 0, 0, 0, 0};
+  const bool is_there = mlir_work_counts(&s, operation, &counts);
+  WANT(item->operation.name == (is_there ? (uint32_t)mlir_work_name_of(&s, operation) : UINT32_MAX));
+  WANT(item->operation.operands == counts.operands && item->operation.results == counts.results);
+  item++;
+  for (size_t k = 0; k < counts.operands; k++, item++) {
+    mlir_work_value value;
+    WANT(mlir_work_operand(&s, operation, k, &value) && !memcmp(&item->operand, &value, sizeof value));
+  }
+  for (uint32_t k = 0; k < counts.results; k++) {
+    const mlir_work_value value = result(operation, k);
+    mlir_work_use uses[8];
+    WANT(item->result.type == mlir_work_value_type(&s, &value) && item->result.unused == 0);
+    const size_t count = item->result.uses;
+    WANT(count == mlir_work_uses(&s, &value, uses, 8));
+    for (size_t j = 0; j < count; j++)
+      WANT(!memcmp(&item[1 + j].use, &uses[j], sizeof *uses));
+    item += 1 + count;
+  }
+  WANT(item == end);
+}
+
+static void records(void) {
+  const uint32_t asked[] = {PAIR, 99, ADD, PAIR, FUNC};
+  mlir_work_item all[32], some[32];
+  memset(all, '.', sizeof all);
+  const size_t count = mlir_work_records(&s, asked, 5, all, 32);
+  WANT(count == 6 + 1 + 8 + 6 + 1 && all[count].operand.place == 0x2e2e2e2e);
+  size_t at = 0;
+  for (size_t k = 0; k < 5; k++) {
+    const size_t end = mlir_work_record_end(all, count, at);
+    WANT(end > at && end <= count);
+    record(all + at, all + end, asked[k]);
+    for (size_t cut = at; cut < end; cut++)
+      WANT(mlir_work_record_end(all, cut, at) == 0);
+    at = end;
+  }
+  WANT(at == count && mlir_work_record_end(all, count, at) == 0);
+  for (size_t space = 0; space < count; space++) {
+    memset(some, '.', sizeof some);
+    WANT(mlir_work_records(&s, asked, 5, some, space) == space && some[space].operand.place == 0x2e2e2e2e);
+    WANT(!memcmp(all, some, space * sizeof *some));
+  }
+  WANT(mlir_work_records(&s, asked, 0, all, 32) == 0 && mlir_work_records(&s, asked, 5, all, 0) == 0);
+}
+
 /* Integers are given with their widths; other attributes and numbers are none. */
 static void integers(void) {
   const uint64_t five = mlir_work_property_by_key(&s, CONSTANT, (uint32_t)name("value"));
@@ -283,6 +331,7 @@ static void closed(void) {
   uint64_t type = 9;
   WANT(mlir_work_heads(&s, &operation, 1, &head, 1) == 0 && mlir_work_operands(&s, &operation, 1, &value, 1) == 0);
   WANT(mlir_work_types(&s, &value, 1, &type, 1) == 0 && mlir_work_value_uses(&s, &value, 1, &value_use, 1) == 0);
+  WANT(mlir_work_records(&s, &operation, 1, (mlir_work_item *)&value, 1) == 0);
   WANT(!mlir_work_integer(&s, 0, &integer) && integer.low == 9 && head.name == 9 && type == 9 && value_use.value == 9);
   WANT(value.operation == ADD);
   WANT(operation == 99 && byte == '.' && count.results == 9 && entry.key == 9 && use.operand == 9);
@@ -300,6 +349,7 @@ int main(void) {
   operands();
   types();
   value_uses();
+  records();
   integers();
   numbers();
   mlir_work_close(&s);

@@ -11,7 +11,7 @@ mod handles;
 mod numbers;
 
 pub use mlir_work_sys::{Cell, Integer};
-pub use numbers::{CellRow, TableRow};
+pub use numbers::{CellRow, ResultRow, TableRow};
 
 pub use handles::{interned, Attribute, Entry, Interned, Name, Operation, Region, Type, ValueHandle};
 
@@ -553,8 +553,13 @@ mod tests {
         let rows = session.rows(1).unwrap();
         assert_eq!(rows.len(), session.report("uses").unwrap().len());
         let mut seen = Vec::new();
-        session.each(|it| seen.push((it.operation, it.operands.len(), it.types.len(), it.uses.len())));
-        assert_eq!(seen, [(0, 0, 0, 0), (1, 0, 1, 2), (2, 0, 1, 1), (4, 2, 2, 0), (3, 1, 0, 0)]);
+        session.each(|it| {
+            let results: Vec<_> = it.results().map(|result| (result.ty == ty, result.uses().len())).collect();
+            seen.push((it.operation, it.operands().len(), results));
+        });
+        let (none, one) = (Vec::new, |uses| vec![(true, uses)]);
+        let wanted = [(0, 0, none()), (1, 0, one(2)), (2, 0, one(1)), (4, 2, vec![(true, 0); 2]), (3, 1, none())];
+        assert_eq!(seen, wanted);
     }
 
     /// User patterns are defined from a text, and checked.

@@ -15,97 +15,76 @@ pub struct TableRow<'a> {
     pub operation: u32,
     /// The number of its name.
     pub name: u32,
-    pub counts: sys::Count,
-    pub operands: &'a [sys::Value],
-    /// The number of the type of each result.
-    pub types: &'a [u64],
-    /// The uses of all results; `value` is the index of the value among the results that were read with it, from
-    /// `first_result` on.
-    pub uses: &'a [sys::ValueUse],
-    pub first_result: usize,
+    operands: &'a [sys::Item],
+    results: &'a [sys::Item],
 }
 
-/// What one page of a table has.
-#[derive(Default)]
-struct Page {
-    heads: Vec<sys::Head>,
-    operands: Vec<sys::Value>,
-    results: Vec<sys::Value>,
-    types: Vec<u64>,
-    uses: Vec<sys::ValueUse>,
+/// A result of an operation of a table.
+#[derive(Clone, Copy, Debug)]
+pub struct ResultRow<'a> {
+    /// The number of its type.
+    pub ty: u32,
+    uses: &'a [sys::Item],
 }
 
-impl Page {
-    fn read(&mut self, session: &Session, operations: &[u32]) {
-        let (held, count) = (session.handle(), operations.len());
-        self.heads.resize(count, sys::Head::default());
-        // SAFETY: the session is open, and the pointers of slices aren't null.
-        unsafe { sys::mlir_work_heads(held, operations.as_ptr(), count, self.heads.as_mut_ptr(), count) };
-        self.results.clear();
-        for (head, operation) in self.heads.iter().zip(operations) {
-            for place in 0..head.counts.results as u32 {
-                self.results.push(sys::Value { operation: *operation, region: sys::RESULT, place });
-            }
-        }
-        let operands = self.heads.iter().map(|it| it.counts.operands).sum();
-        self.operands.resize(operands, sys::Value::default());
-        self.types.resize(self.results.len(), 0);
-        // SAFETY: as above.
-        unsafe {
-            sys::mlir_work_operands(held, operations.as_ptr(), count, self.operands.as_mut_ptr(), operands);
-            let values = self.results.len();
-            sys::mlir_work_types(held, self.results.as_ptr(), values, self.types.as_mut_ptr(), values);
-        }
-        self.read_uses(session);
+impl<'a> TableRow<'a> {
+    /// Returns its operands.
+    pub fn operands(&self) -> impl ExactSizeIterator<Item = sys::Value> + 'a {
+        self.operands.iter().map(|&[operation, region, place]| sys::Value { operation, region, place })
     }
 
-    fn read_uses(&mut self, session: &Session) {
-        let mut space = self.uses.capacity().max(4 * PAGE);
-        loop {
-            self.uses.resize(space, sys::ValueUse::default());
-            // SAFETY: as above.
-            let count = unsafe {
-                let (values, into) = (self.results.as_ptr(), self.uses.as_mut_ptr());
-                sys::mlir_work_value_uses(session.handle(), values, self.results.len(), into, space)
-            };
-            if count < space {
-                self.uses.truncate(count);
-                return;
-            }
-            space *= 2;
-        }
+    /// Returns its results.
+    pub fn results(&self) -> impl Iterator<Item = ResultRow<'a>> + 'a {
+        let mut rest = self.results;
+        std::iter::from_fn(move || {
+            let (&[ty, count, _], after) = rest.split_first()?;
+            let (uses, after) = after.split_at(count as usize);
+            rest = after;
+            Some(ResultRow { ty, uses })
+        })
     }
+}
 
-    fn visit(&self, operations: &[u32], visit: &mut impl FnMut(TableRow<'_>)) {
-        let (mut operand, mut result, mut used) = (0, 0, 0);
-        for (head, operation) in self.heads.iter().zip(operations) {
-            let results = head.counts.results;
-            let uses = &self.uses[used..];
-            let end = uses.iter().position(|it| it.value >= result + results).unwrap_or(uses.len());
-            visit(TableRow {
-                operation: *operation,
-                name: head.name as u32,
-                counts: head.counts,
-                operands: &self.operands[operand..operand + head.counts.operands],
-                types: &self.types[result..result + results],
-                uses: &uses[..end],
-                first_result: result,
-            });
-            operand += head.counts.operands;
-            result += results;
-            used += end;
-        }
+impl<'a> ResultRow<'a> {
+    /// Returns its uses, each once, in any order.
+    pub fn uses(&self) -> impl ExactSizeIterator<Item = sys::Use> + 'a {
+        self.uses.iter().map(|&[operation, operand, _]| sys::Use { operation, operand })
     }
+}
+
+/// Takes the first record from the items, if it isn't cut off, and returns it and the items after it.
+fn split_record(operation: u32, items: &[sys::Item]) -> Option<(TableRow<'_>, &[sys::Item])> {
+    let (&[name, operands, results], after) = items.split_first()?;
+    let (operands, after) = after.split_at_checked(operands as usize)?;
+    let mut end = 0;
+    for _ in 0..results {
+        end += 1 + after.get(end)?[1] as usize;
+    }
+    let (results, after) = after.split_at_checked(end)?;
+    Some((TableRow { operation, name, operands, results }, after))
 }
 
 impl Session {
-    /// Calls `visit` with each operation in pre-order: its name, operands, types of results and uses, which are read by
-    /// few calls. A walk is faster this way than over handles. Panics if memory runs out.
+    /// Calls `visit` with each operation in pre-order: its name, operands, and results with their types and uses. A
+    /// call of the library reads 512 operations, so a walk is faster this way than over handles. Panics if memory runs
+    /// out.
     pub fn each(&self, mut visit: impl FnMut(TableRow<'_>)) {
-        let mut page = Page::default();
-        for operations in self.numbers().chunks(PAGE) {
-            page.read(self, operations);
-            page.visit(operations, &mut visit);
+        let (operations, mut items) = (self.numbers(), vec![sys::Item::default(); 16 * PAGE]);
+        let mut left = &operations[..];
+        while !left.is_empty() {
+            let (page, into) = (&left[..left.len().min(PAGE)], items.as_mut_ptr());
+            // SAFETY: the session is open, and the pointers of slices aren't null.
+            let written =
+                unsafe { sys::mlir_work_records(self.handle(), page.as_ptr(), page.len(), into, items.len()) };
+            let (mut read, mut rest) = (0, &items[..written]);
+            while let Some((row, after)) = page.get(read).and_then(|it| split_record(*it, rest)) {
+                visit(row);
+                (read, rest) = (read + 1, after);
+            }
+            if read == 0 {
+                items.resize(2 * items.len(), sys::Item::default());
+            }
+            left = &left[read..];
         }
     }
 

@@ -95,6 +95,10 @@ pub struct ValueUse {
     pub operand: u32,
 }
 
+/// An item of a record: an operation with its name, its number of operands and its number of results; an operand, as
+/// `Value`; a result with its type and its number of uses; or a use, as `Use`.
+pub type Item = [u32; 3];
+
 /// An integer attribute: its value below 2^w, the number of its type, and the width w, or 0 for index.
 #[repr(C)]
 #[derive(Clone, Copy, Debug, Default, PartialEq, Eq, Hash)]
@@ -223,6 +227,13 @@ extern "C" {
         values: *const Value,
         count: usize,
         uses: *mut ValueUse,
+        capacity: usize,
+    ) -> usize;
+    pub fn mlir_work_records(
+        session: *mut Handle,
+        operations: *const u32,
+        count: usize,
+        items: *mut Item,
         capacity: usize,
     ) -> usize;
     pub fn mlir_work_name(session: *mut Handle, text: *const u8, text_length: usize, answer: *mut Answer);
