@@ -90,7 +90,7 @@ computes = record {
   fed = ((λ d. refl), ((((λ d. refl), ((((λ d. refl), tt), (((λ d. refl), tt), (((λ d. refl), tt), tt))), tt)), tt), tt));
 }
 
--- ---- what its values stand for
+-- ---- what its values represent
 computed : (v : Value) → gives (λ x. true) before.tree v ≡ true → memrefs v ≡ None
 unfolding folds.rule_of folds.rules
 computed (Result zero k) e = refl

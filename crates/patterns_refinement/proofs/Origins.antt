@@ -1,4 +1,4 @@
--- What values stand for is kept by an edit.
+-- What values represent is kept by an edit.
 use Rattle.std.proofs.Common.{◌≡◌, ℕ, ◌+◌, ◌<◌, ◌≤◌, refl, ap, sym, ◌∙◌, subst, List, [], ◌∷◌, map, Bool, true, false, true≢false, ◌&&◌, not, Option, Some, None, inl, inr, arith}
 use Rattle.std.specs.Prelude.{◌==◌, if◌then◌else◌, is_some, option_and_then, slice_get}
 use Rattle.std.specs.List.{list_all}
@@ -117,7 +117,7 @@ by_contrary : (p q : Bool) → (p ≡ false → q ≡ false) → q ≡ true → 
 by_contrary true q f e = refl
 by_contrary false q f e = absurd (true≢false (sym e ∙ f refl))
 
--- ---- operands that stand for the same
+-- ---- operands that represent the same
 pub still_itself : (p : Option Value) → IsStill p p
 still_itself None = tt
 still_itself (Some v) = refl
@@ -231,7 +231,7 @@ pub kept_itself : (n : ℕ) (t u : Operation) (a now : Assignment) (later : ℕ 
 kept_itself n t u a now later f h alike = record { same = refl; choice = alike; still = λ o are. all_still o h.operands; better = λ i. f h.operands }
 
 -- ---- an operation's result replaced by a value
--- the value has a kind only if the result has, and stands for what the result stands for
+-- the value has a kind only if the result has, and represents what the result represents
 pub record Replaces (n x : ℕ) (v : Value) (t u : Operation) (a : Assignment) (later : ℕ → Bool) : Type 0 where
   pub kind : is_some (kind_in u v) ≡ true → is_some (kind_in t (Result x 0)) ≡ true
   pub origin : (o : Origins) → AreOrigins n a o later t → IsStill (o (Result x 0)) (o v)

@@ -128,7 +128,7 @@ computes = record {
   );
 }
 
--- ---- what its values stand for
+-- ---- what its values represent
 origins : AreOrigins 8 five (arguments_of 2) all_done before.tree
 unfolding folds.rule_of folds.rules
 origins = record {

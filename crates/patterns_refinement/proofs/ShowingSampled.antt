@@ -68,7 +68,7 @@ wiping_breaks : WipingBreaks
 unfolding folds.rule_of folds.rules
 wiping_breaks a done later i = never (sym (function_stays (returning (Arg 1 0 0))) ∙ i.shows.follows.0.1.0)
 
--- a function's arguments may stand for themselves
+-- a function's arguments may represent themselves
 pub arguments_unused : (y n : ℕ) → y < n → (v : Value) → n ≤ owner v → arguments_of y v ≡ None
 arguments_unused y n l (Result x k) h = refl
 arguments_unused y n l (Arg x r k) h = go (x == y) refl

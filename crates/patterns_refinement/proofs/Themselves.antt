@@ -1,4 +1,4 @@
--- Each value may stand for itself, unless an arithmetic operation or a choice gives it.
+-- Each value may represent itself, unless an arithmetic operation or a choice gives it.
 use Rattle.std.proofs.Common.{◌≡◌, ℕ, ap, ◌∙◌, refl, sym, Bool, true, false, ◌&&◌, not, Option, Some, None}
 use Rattle.std.specs.Prelude.{if◌then◌else◌, nat_lt}
 use Rattle.std.proofs.lemmas.Bool.{le-ltb, lt-ltb}

@@ -34,7 +34,7 @@ module _ (m n : Module) (x : ℕ) (o : Operation) (w : Turns m n x o) (ready : I
   abbrev each_turned : (P Q : Header → Type 0) → ((j : Header) → P j → Q j) → (P (head o) → Q (record (head o) { operands = w.operands; properties = w.properties })) → Each P m.tree → Each Q n.tree
   each_turned P Q other its s = each m n x o w ready P Q other its s
 
-  -- ---- a choice with other operands, of which it chooses the same
+  -- ---- a choice with other operands that chooses the same operand
   pub record TurnsChoice (a : Assignment) (done : ℕ → Bool) : Type 0 where
     pub choice : is_choice m.tree (head o) ≡ true
     pub properties : w.properties ≡ (head o).properties

@@ -53,7 +53,7 @@ true_and_five (Arg x r (suc zero)) = None
 true_and_five (Arg x r (suc (suc zero))) = None
 true_and_five (Arg x r (suc (suc (suc k)))) = Some (kind.Int 8, 5)
 
--- the memrefs stand for themselves, the result of the `select` stands for %m, and other values stand for nothing
+-- the memrefs represent themselves, the result of the `select` represents %m, and other values represent nothing
 abbrev pub memrefs : Origins
 memrefs (Result (suc (suc zero)) zero) = Some (Arg 1 0 1)
 memrefs (Result x k) = None

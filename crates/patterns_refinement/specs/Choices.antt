@@ -1,6 +1,6 @@
--- A `select` by an integer or `index` of values that are neither, such as memrefs and tensors: a choice. Such values have
--- no outcome. Each of them stands for a value, or for nothing. If a choice is executed and its condition is known, its
--- result may stand for what the chosen operand stands for. Otherwise it stands for nothing.
+-- A `select` by an integer or `index` of values that are neither, such as memrefs and tensors: a choice. Such values
+-- have no outcome. Each of them represents a value, or nothing. If a choice is executed and its condition is known, its
+-- result may represent what the chosen operand represents. Otherwise it represents nothing.
 use Rattle.std.specs.Prelude.{◌≡◌, ◌<◌, ◌≤◌, ℕ, List, [], ◌∷◌, map, Bool, true, false, ◌&&◌, not, Option, Some, None, is_some}
 use Rattle.ir_types.specs.declared.bits.BitsKind.{BitsKind}
 use Rattle.ir_types.specs.Words.{is_isolated}
@@ -47,12 +47,12 @@ abbrev pub is_chosen : Operation → Value → Bool
 is_chosen t (Result x k) = is_choice_there t (find x t)
 is_chosen t (Arg x r k) = false
 
--- ---- what values stand for
--- what each value stands for: a value, or nothing
+-- ---- what values represent
+-- what each value represents: a value, or nothing
 abbrev pub Origins : Type 0
 Origins = Value → Option Value
 
--- the condition is known, and the chosen operand stands for y
+-- the condition is known, and the chosen operand represents y
 abbrev pub Chosen : Assignment → Origins → Value → List Value → Type 0
 Chosen a o y (c ∷ u ∷ v ∷ []) = (k : Known) × (a c ≡ Some k) × (o (choice_of k.1 u v) ≡ Some y)
 Chosen a o y [] = Unit {0}
@@ -60,20 +60,20 @@ Chosen a o y (c ∷ []) = Unit {0}
 Chosen a o y (c ∷ u ∷ []) = Unit {0}
 Chosen a o y (c ∷ u ∷ v ∷ w ∷ vs) = Unit {0}
 
--- if the result of a choice stands for y, the choice is executed, its condition is known, and the chosen operand stands
--- for y
+-- if the result of a choice represents y, the choice is executed, its condition is known, and the chosen operand
+-- represents y
 abbrev pub Chooses : Assignment → Origins → (ℕ → Bool) → Operation → Header → Type 0
 Chooses a o done t h = is_choice t h ≡ true → (y : Value) → o (Result h.id 0) ≡ Some y → (done h.id ≡ true) × Chosen a o y h.operands
 
 -- Origins of the values of a tree with ids below n, given outcomes and the executed operations. A value that an
--- arithmetic operation computes is seen by its outcome, and stands for nothing.
+-- arithmetic operation computes is seen by its outcome, and represents nothing.
 pub record AreOrigins (n : ℕ) (a : Assignment) (o : Origins) (done : ℕ → Bool) (t : Operation) : Type 0 where
   pub chosen : Each (Chooses a o done t) t
   pub computed : (v : Value) → gives (λ x. true) t v ≡ true → o v ≡ None
   pub unused : (v : Value) → n ≤ owner v → o v ≡ None
 
--- ---- operands that stand for the same
--- The new value stands for what the old value stood for, or the old value stood for nothing.
+-- ---- operands that represent the same
+-- The new value represents what the old value represented, or the old value represented nothing.
 abbrev pub IsStill : Option Value → Option Value → Type 0
 IsStill None w = Unit {0}
 IsStill (Some v) w = w ≡ Some v
@@ -85,7 +85,7 @@ AllStill o [] (w ∷ ws) = ⊥
 AllStill o (v ∷ vs) [] = ⊥
 AllStill o (v ∷ vs) (w ∷ ws) = IsStill (o v) (o w) × AllStill o vs ws
 
--- In a well-formed module, each value may stand for itself, unless an arithmetic operation or a choice gives it.
+-- In a well-formed module, each value may represent itself, unless an arithmetic operation or a choice gives it.
 abbrev pub MayStandForThemselves : Type 0
 MayStandForThemselves =
     (m : Module) → IsWellFormed is_isolated m → (a : Assignment) (done : ℕ → Bool)

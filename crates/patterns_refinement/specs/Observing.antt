@@ -76,10 +76,10 @@ abbrev pub without_operands : Header → Header
 without_operands h = record h { operands = [] }
 
 -- An operation of a tree t with ids below n is kept in a tree u: its id, name, result types, properties and attributes
--- are the same. Each new operand stands for what the old operand stood for. In a tree without choices, a value that no
--- arithmetic operation computes may stand for itself, so such an operand is the same value. If the operation is executed,
--- the outcome of each new operand refines the outcome of the old one. A choice may get other operands: its result stands
--- for the same (`origins` of `Shows`). No other operation becomes a choice.
+-- are the same. Each new operand represents what the old operand represented. In a tree without choices, a value that
+-- no arithmetic operation computes may represent itself, so such an operand is the same value. If the operation is
+-- executed, the outcome of each new operand refines the outcome of the old one. A choice may get other operands: its
+-- result represents the same (`origins` of `Shows`). No other operation becomes a choice.
 pub record Stays (n : ℕ) (t u : Operation) (a now : Assignment) (later : ℕ → Bool) (h k : Header) : Type 0 where
   pub same : without_operands h ≡ without_operands k
   pub choice : is_choice t h ≡ false → is_choice u k ≡ false
@@ -89,7 +89,7 @@ pub record Stays (n : ℕ) (t u : Operation) (a now : Assignment) (later : ℕ �
 -- ---- a rewritten module
 -- A tree with outcomes `now` shows what a module with outcomes `a` showed: its observable operations are those of the
 -- module, except some that may be erased. No old value becomes the result of an arithmetic operation. Whatever the
--- values of the module stand for, they stand for the same in the tree. (A root that is arithmetic, which no module has,
+-- values of the module represent, they represent the same in the tree. (A root that is arithmetic, which no module has,
 -- isn't compared.)
 pub record Shows (a now : Assignment) (m : Module) (later : ℕ → Bool) (t : Operation) : Type 0 where
   pub root : is_arithmetic (head m.tree) ≡ false → Stays m.next m.tree t a now later (head m.tree) (head t)

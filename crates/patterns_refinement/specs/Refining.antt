@@ -1,6 +1,7 @@
--- Refinement of modules. An observer sees the operations that can't be erased, in order, the outcomes of their operands,
--- and what the operands stand for. A module refines another if the observer sees the same operations with the same or
--- refined operands, for all outcomes of the values that the module doesn't compute: arguments, loads and results of calls.
+-- Refinement of modules. An observer sees the operations that can't be erased, in order, the outcomes of their
+-- operands, and what the operands represent. A module refines another if the observer sees the same operations with the
+-- same or refined operands, for all outcomes of the values that the module doesn't compute: arguments, loads and
+-- results of calls.
 use Rattle.std.specs.Prelude.{◌≡◌, ◌<◌, ℕ, List, [], ◌∷◌, ◌++◌, map, Bool, true, false, if◌then◌else◌, Option}
 use Rattle.std.specs.List.{filter}
 use Rattle.ir_types.specs.Terms.{TypeTerm, AttrTerm}
@@ -43,9 +44,9 @@ abbrev mutual
   pub lasting_op : Operation → List Header
   lasting_op (op h rs) = if is_unmissed (op h rs) then [] else h ∷ lasting rs
 
--- An operand: what it stands for, and its outcome. A value that an arithmetic operation computes stands for nothing. The
--- result of a `select` of memrefs or tensors stands for what its chosen operand stands for. Any other value may stand for
--- itself.
+-- An operand: what it represents, and its outcome. A value that an arithmetic operation computes represents nothing.
+-- The result of a `select` of memrefs or tensors represents what its chosen operand represents. Any other value may
+-- represent itself.
 pub record Operand : Type 0 where
   pub value : Option Value
   pub outcome : Outcome
@@ -67,8 +68,8 @@ abbrev pub observed : Assignment → Origins → (ℕ → Bool) → Operation �
 observed a o done t = map (observation a o) (filter (λ (h : Header). done h.id) (lasting (shown_regions (regions t))))
 
 -- ---- refinement
--- Each new operand stands for what the old one stood for, or the old one stood for nothing. Its outcome is the same or
--- refined.
+-- Each new operand represents what the old one represented, or the old one represented nothing. Its outcome is the same
+-- or refined.
 abbrev pub OperandsRefine : List Operand → List Operand → Type 0
 OperandsRefine [] [] = Unit {0}
 OperandsRefine [] (q ∷ qs) = ⊥
@@ -83,7 +84,7 @@ ObservationsRefine (p ∷ ps) [] = ⊥
 ObservationsRefine (p ∷ ps) (q ∷ qs) = (p.operation ≡ q.operation) × OperandsRefine p.operands q.operands × ObservationsRefine ps qs
 
 -- Module n with outcomes `now` refines module m with outcomes a: the outcomes that m doesn't compute are the same,
--- the executed operations of m are executed and defined in n, what values stood for they stand for in n, and what is
+-- the executed operations of m are executed and defined in n, what values represented they represent in n, and what is
 -- observed refines what was observed.
 pub record Refined (a : Assignment) (o : Origins) (done : ℕ → Bool) (m n : Module) : Type 0 where
   pub now : Assignment
@@ -94,7 +95,7 @@ pub record Refined (a : Assignment) (o : Origins) (done : ℕ → Bool) (m n : M
   pub origins : AreOrigins n.next now o later n.tree
   pub refined : ObservationsRefine (observed a o done m.tree) (observed now o later n.tree)
 
--- Module n refines m for all outcomes with which m computes, whatever the values of m stand for.
+-- Module n refines m for all outcomes with which m computes, whatever the values of m represent.
 abbrev pub IsRefinedBy : Module → Module → Type 0
 IsRefinedBy m n =
     (a : Assignment) (o : Origins) (done : ℕ → Bool) → Computing a done m.tree → AreOrigins m.next a o done m.tree → Refined a o done m n

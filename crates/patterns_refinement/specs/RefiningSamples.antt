@@ -79,7 +79,7 @@ abbrev pub five : Assignment
 five (Result x k) = get_or (None ∷ None ∷ None ∷ Some (kind.Int 8, 0) ∷ Some (kind.Int 8, 5) ∷ None ∷ Some (kind.Int 8, 9) ∷ []) x None
 five (Arg x r k) = get_or (Some (kind.Int 8, 5) ∷ []) k None
 
--- The arguments of an operation stand for themselves, and other values for nothing.
+-- The arguments of an operation represent themselves, and other values nothing.
 abbrev pub arguments_of : ℕ → Origins
 arguments_of y (Result x k) = None
 arguments_of y (Arg x r k) = if x == y then Some (Arg x r k) else None
@@ -103,8 +103,8 @@ ending_observed v =
     ∷ seen (codes "func.return") 7 [] [] (v ∷ [])
     ∷ []
 
--- The module has no diagnostics and computes with these outcomes and origins. `drop-zero` applies, and `canon` makes two
--- rewrites. An observer of the module sees that 5 is stored, passed to @g and returned. After the rewrite, an
+-- The module has no diagnostics and computes with these outcomes and origins. `drop-zero` applies, and `canon` makes
+-- two rewrites. An observer of the module sees that 5 is stored, passed to @g and returned. After the rewrite, an
 -- observer sees that %a is, which is 5. So the second module refines the first.
 pub record SampleIsRefined : Type 0 where
   pub verified : IsVerified before
@@ -118,9 +118,9 @@ pub record SampleIsRefined : Type 0 where
   pub observed_canonical : observed five (arguments_of 2) all_done canonical.tree ≡ observed five (arguments_of 2) all_done after.tree
   pub refined : ObservationsRefine (observed five (arguments_of 2) all_done before.tree) (observed five (arguments_of 2) all_done after.tree)
 
--- These rewrites are no refinements, with all operations executed: erasing everything, returning another argument,
--- and erasing a store. An observer sees a difference. Two arguments may stand for the same value, so another argument is
--- refused if the arguments stand for themselves, which they may (`origins`).
+-- These rewrites are no refinements, with all operations executed: erasing everything, returning another argument, and
+-- erasing a store. An observer sees a difference. Two arguments may represent the same value, so another argument is
+-- refused if the arguments represent themselves, which they may (`origins`).
 pub record SamplesArentRefined : Type 0 where
   pub wiping : (a : Assignment) (o : Origins) → Refined a o all_done (function_of 5 (returning (Arg 1 0 0))) (module_of 5 no_ops) → ⊥
   pub origins : (a : Assignment) → AreOrigins 5 a (arguments_of 1) all_done (function_of 5 (returning (Arg 1 0 0))).tree

@@ -44,7 +44,7 @@ pub fn outcomes_are_unique()
     ensures { OutcomesAreUnique }
 {}
 
-/// In a well-formed module, each value may stand for itself, unless an arithmetic operation or a choice gives it. So if
+/// In a well-formed module, each value may represent itself, unless an arithmetic operation or a choice gives it. So if
 /// such a value is an operand of an observed operation, it is the same value after a rewrite.
 pub fn values_may_stand_for_themselves()
     ensures { MayStandForThemselves }
