@@ -13,8 +13,8 @@ settled_local ops was x a but local e y = elim (cases_eq y x) [
 ]
 
 -- one look before
-pub renewed_looks : (t : Operation) (x : ℕ) (a : Facts) (before between after : ℕ) → between ≤ before + 1 → LooksRenewed t x a between after → LooksWithin t x a before after
-renewed_looks t x a before between after le looks here was but local ordered = (let few = looks here was but local ordered in omega (arith, le, few))
+pub renewed_looks : (t : Operation) (x : ℕ) (a : Facts) (before intermediate after : ℕ) → intermediate ≤ before + 1 → LooksRenewed t x a intermediate after → LooksWithin t x a before after
+renewed_looks t x a before intermediate after le looks here was but local ordered = (let few = looks here was but local ordered in omega (arith, le, few))
 
 -- and no other look
 pub settled_looks : (t : Operation) (x : ℕ) (a : Facts) (before after : ℕ) → after ≤ before + 1 → LooksWithin t x a before after

@@ -114,7 +114,7 @@ record Collapses (m : Module) (x : ℕ) : Type 0 where
   verified : is_verified m.tree (head here) ≡ true
   ends : One
   one_is : one (head here) ≡ Some ends
-  way : CastCases m.tree ends
+  cast_case : CastCases m.tree ends
 
 named_cast : (x : ℕ) (t o : Operation) → is_cast x t ≡ true → find x t ≡ Some o → named cast_name (head o).name ≡ true
 named_cast x t o c f = sym (ap is_cast_found f) ∙ c
@@ -136,14 +136,14 @@ collapses_from m x es c e =
       verified = w.0;
       ends = p.0;
       one_is = p.1;
-      way = session_setting_at m.tree m.next f.0 o.0 p.0 p.1 cast es w.1;
+      cast_case = session_setting_at m.tree m.next f.0 o.0 p.0 p.1 cast es w.1;
     }
 
 collapses_to : (m : Module) (x : ℕ) → is_cast x m.tree ≡ true → Collapses m x → edits_of CastBack m x ≡ None → ⊥
 collapses_to m x c k e =
     let name = one_name (head k.here).name (head k.here).operands (head k.here).results k.ends k.one_is in
     let cast = ap (named cast_name) name.0 ∙ named_cast x m.tree k.here c k.found in
-    way_to m.tree m.next k.insertion k.here k.ends k.way (
+    way_to m.tree m.next k.insertion k.here k.ends k.cast_case (
     sym (rule_at m.tree m.next k.insertion k.here k.ends k.one_is cast)
     ∙ sym (ap (λ b. when b (rule CastBack m.tree m.next k.insertion k.here)) k.verified)
     ∙ sym (ap (λ a. given a (λ insertion. when (is_verified m.tree (head k.here)) (rule CastBack m.tree m.next insertion k.here))) k.at)
@@ -235,7 +235,7 @@ module _ (f : Header → Header) (results : (h : Header) → (f h).results ≡ h
               verified = ap (is_verified m.tree) (sym heads) ∙ sym cleans ∙ k.verified;
               ends = k.ends;
               one_is = ap one (sym heads) ∙ k.one_is;
-              way = way_back w.was w.found k.ends among_them (ap (named cast_name) name.0 ∙ named_cast z n.tree k.here c k.found) k.way;
+              cast_case = way_back w.was w.found k.ends among_them (ap (named cast_name) name.0 ∙ named_cast z n.tree k.here c k.found) k.cast_case;
             }
 
         go : (a : Option (List Edit)) → edits_of CastBack n z ≡ a → edits_of CastBack n z ≡ None

@@ -16,7 +16,7 @@ use Rattle.ir_event.proofs.of_tree_laws.Readings.{step}
 use Rattle.ir_event.proofs.of_tree_laws.Members.{stand, joined_ops, within, ops_child}
 use Rattle.ir_event.proofs.of_tree_laws.Put.{child}
 use Rattle.ir_event.proofs.of_tree_laws.Around.{around_there}
-use Rattle.ir_event.proofs.of_tree_laws.Values.{shape}
+use Rattle.ir_event.proofs.of_tree_laws.Values.{shaped_as}
 use Rattle.conversion.proofs.Following.{trailing, comes_later, first_once, regions_from, there, there_left, there_right}
 use Rattle.patterns_base.proofs.Preceding.{joined_cut}
 use Rattle.std.proofs.lemmas.Bool.{or_right}
@@ -88,7 +88,7 @@ module _ {N T A : Type 0} where
         let s = split f a.preceding k in
         let rest = joined_ops s.1 (next o a.rest) in
         let u = stand f (step a.parent a.region a.args s.0 rest ∷ q) in
-        let shaped = shape t o a q h ∙ ap (λ l. Some (block a.args l)) (ap (λ l. joined_ops l (next o a.rest)) s.2 ∙ joined_cut s.0 s.1 f (next o a.rest)) in
+        let shaped = shaped_as t o a q h ∙ ap (λ l. Some (block a.args l)) (ap (λ l. joined_ops l (next o a.rest)) s.2 ∙ joined_cut s.0 s.1 f (next o a.rest)) in
         let there_it : In u (stands [] t) = within a.parent q u (child a.parent q a.region a.args (joined_ops s.0 (next f rest)) u shaped (ops_child a.parent q a.region a.args [] s.0 f rest)) [] t (around_there t o a q h).1 in
         comes_later t d u (head o).id there_it
         (there_right (head o).id (regions_ids (regions f)) (trailing u.path) (there_left (head o).id (ops_ids rest) (regions_ids (regions_from (a.region + 1) (regions a.parent)) ++ trailing q) (joined_there o s.1 a.rest)))
@@ -101,7 +101,7 @@ module _ {N T A : Type 0} where
 
     around_precedes : (o : OpOf N T A) (a : StepOf N T A) (q : List (StepOf N T A)) → In (stand o (a ∷ q)) (stands [] t) → precedes (head a.parent).id (head o).id t ≡ true
     around_precedes o a q h =
-        let inside = inside_regions (head o).id a.region (regions a.parent) (block a.args (joined_ops a.preceding (next o a.rest))) (shape t o a q h) (joined_there o a.preceding a.rest) in
+        let inside = inside_regions (head o).id a.region (regions a.parent) (block a.args (joined_ops a.preceding (next o a.rest))) (shaped_as t o a q h) (joined_there o a.preceding a.rest) in
         comes_later t d (stand a.parent q) (head o).id (around_there t o a q h).1 (there_left (head o).id (regions_ids (regions a.parent)) (trailing q) inside)
 
     -- the operations whose results are visible to it

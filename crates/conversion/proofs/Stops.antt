@@ -6,7 +6,7 @@ use Rattle.ir_event.specs.trees.Ids.{ids}
 use Rattle.ir_event.specs.Modules.{Module}
 use Rattle.ir_event.proofs.of_types.Truths.{rest_at}
 use Rattle.conversion_base.specs.Targets.{Aim, is_accepted}
-use Rattle.conversion_base.specs.Legalization.{Outcome, legalised, failed, stopped, legalization_of, standing}
+use Rattle.conversion_base.specs.Legalization.{Outcome, legalised, failed, aborted, legalization_of, standing}
 use Rattle.conversion_base.specs.Conversion.{Ended, given_up, all_parts, conversion_of, ended_at, ended_after, failing, in_turn, later_parts, legalised_at, next_part}
 use Rattle.conversion_base.specs.Rule.{Rule}
 use Rattle.conversion_base.specs.declared.applied_rule.AppliedRule.{AppliedRule}
@@ -24,12 +24,12 @@ pub none_stays : (e : ConversionError) (z : Option (ℕ × MatchFailure)) → e.
 none_stays e z i s = s ∙ sym (ap (λ (x : Option ℕ). reported_failure x z) i)
 
 -- a refusal without a match failure
-told_none : (i : Option ℕ) → reported_failure i None ≡ None
-told_none None = refl
-told_none (Some x) = refl
+reported_none : (i : Option ℕ) → reported_failure i None ≡ None
+reported_none None = refl
+reported_none (Some x) = refl
 
 pub after_stays : (e : ConversionError) (z : Option (ℕ × MatchFailure)) → z ≡ None → e.failure ≡ None → e.failure ≡ reported_failure e.fault.id z
-after_stays e z n s = s ∙ sym (told_none e.fault.id) ∙ ap (λ (y : Option (ℕ × MatchFailure)). reported_failure e.fault.id y) (sym n)
+after_stays e z n s = s ∙ sym (reported_none e.fault.id) ∙ ap (λ (y : Option (ℕ × MatchFailure)). reported_failure e.fault.id y) (sym n)
 
 -- ---- at an operation
 
@@ -40,7 +40,7 @@ failed_stays next by x (legalised p ks deep) t a b e c is h = absurd (true≢fal
 failed_stays next by x (failed deep) t a b e c is (inl h) =
     h.1.1 ∙ sym (ap (λ (i : Option ℕ). reported_failure i (Some (x, by b.held))) h.1.0) ∙ ap (λ (m : Module). reported_failure e.fault.id (Some (x, by m))) c.1.1
 failed_stays next by x (failed deep) t a b e c is (inr h) = none_stays e _ h.1.0 h.1.1
-failed_stays next by x (stopped r) t a b e c is h = absurd c
+failed_stays next by x (aborted r) t a b e c is h = absurd c
 
 pub failed_at : (x : ℕ) (o : Outcome) (t : Legalization) (a b : State) (s : MatchFailure) (e : ConversionError) → Comes o (Ok t) a b → t.legal ≡ false → StopsAt t.limit_reached x s e → Ends (ended_at x o) (Err e.fault) b
 failed_at x o t a b s e c is (inl h) = failed_ends x o t a b e.fault c is h.0 h.1.0
@@ -51,7 +51,7 @@ failed_at x o t a b s e c is (inr h) = wanted (ended_at x o) e.fault b.things (h
 goes_stay : (f : Module → Option (ℕ × MatchFailure)) (x : ℕ) (s : MatchFailure) (o : Outcome) (ks : List AppliedRule) (n : State) → Ends (ended_at x o) (Ok ks) n → f n.held ≡ match_failure_after f x s o
 goes_stay f x s (legalised p js deep) ks n h = ap f h.1
 goes_stay f x s (failed deep) ks n h = absurd h
-goes_stay f x s (stopped e) ks n h = absurd h
+goes_stay f x s (aborted e) ks n h = absurd h
 
 module _ (g : Aim) (all : List ℕ) (start : State) where
   abbrev pub StillStays : List ℕ → State → Type 0
@@ -92,7 +92,7 @@ stay_step f k x by s h (legalised n ks limit_reached) e = let r = h n e in (r.0,
 stay_step f k x by s h (failed limit_reached) e =
     let is : (x, by) ≡ s = cc in
     (limit_reached, ap (λ (z : ℕ × MatchFailure). given_up (failing limit_reached) (Some z.0)) is)
-stay_step f k x by s h (stopped r) e = absurd cc
+stay_step f k x by s h (aborted r) e = absurd cc
 
 pub stay_ends : (g : Aim) (xs : List ℕ) (m : Module) (s : ℕ × MatchFailure) → staying g xs m ≡ Some s → (limit_reached : Bool) × (in_turn (legalised_at g) xs m ≡ given_up (failing limit_reached) (Some s.0))
 stay_ends g [] m s e = absurd cc

@@ -16,7 +16,7 @@ use Rattle.conversion_base.specs.Rule.{Rule}
 use Rattle.conversion_base.specs.declared.applied_rule.AppliedRule.{AppliedRule}
 use Rattle.conversion_base.specs.RuleNames.{is_converting}
 use Rattle.conversion_base.specs.Targets.{Aim, is_legal}
-use Rattle.conversion_base.specs.Legalization.{Outcome, legalised, failed, stopped, trailing, and_then, or_else, standing, each_of, after_rule, first_rule, legalization_of, made_since}
+use Rattle.conversion_base.specs.Legalization.{Outcome, legalised, failed, aborted, trailing, and_then, or_else, standing, each_of, after_rule, first_rule, legalization_of, made_since}
 use Rattle.conversion.specs.States.{State, Applied, IsOutOfCapacity, IsLegalization, ReportsAfter, Stops, Comes, ComesAfter, Closed, Leads, marked, marked_transaction, applied_since, went_well}
 use Rattle.conversion.proofs.Noting.{noted_closed}
 
@@ -25,7 +25,7 @@ use Rattle.conversion.proofs.Noting.{noted_closed}
 pub after_none : (o : Outcome) → trailing [] false o ≡ o
 after_none (legalised m ks limit_reached) = refl
 after_none (failed limit_reached) = refl
-after_none (stopped e) = refl
+after_none (aborted e) = refl
 
 or_assoc : (a b c : Bool) → ((a || b) || c) ≡ (a || (b || c))
 or_assoc true b c = refl
@@ -34,27 +34,27 @@ or_assoc false b c = refl
 pub after_both : (js ks : List AppliedRule) (limit_reached deep : Bool) (o : Outcome) → trailing (js ++ ks) (limit_reached || deep) o ≡ trailing js limit_reached (trailing ks deep o)
 after_both js ks limit_reached deep (legalised m ns d) = λ i. legalised m (append_assoc js ks ns i) (or_assoc limit_reached deep d i)
 after_both js ks limit_reached deep (failed d) = ap failed (or_assoc limit_reached deep d)
-after_both js ks limit_reached deep (stopped e) = refl
+after_both js ks limit_reached deep (aborted e) = refl
 
 wants : (o : Outcome) (c : ContextModel) (e : Refusal) → IsOutOfCapacity c e → Stops o c e
 wants (legalised p ks deep) c e w = w
 wants (failed deep) c e w = w
-wants (stopped f) c e w = inr w
+wants (aborted f) c e w = inr w
 
 stops_after : (ks : List AppliedRule) (limit_reached : Bool) (o : Outcome) (c : ContextModel) (e : Refusal) → Stops o c e → Stops (trailing ks limit_reached o) c e
 stops_after ks limit_reached (legalised p js deep) c e s = s
 stops_after ks limit_reached (failed deep) c e s = s
-stops_after ks limit_reached (stopped f) c e s = s
+stops_after ks limit_reached (aborted f) c e s = s
 
 stops_else : (o p : Outcome) (c : ContextModel) (e : Refusal) → Stops o c e → Stops (or_else o p) c e
 stops_else (legalised m ks limit_reached) p c e s = s
 stops_else (failed limit_reached) p c e s = wants (trailing [] limit_reached p) c e s
-stops_else (stopped f) p c e s = s
+stops_else (aborted f) p c e s = s
 
 stops_then : (f : Module → Outcome) (o : Outcome) (c : ContextModel) (e : Refusal) → Stops o c e → Stops (and_then f o) c e
 stops_then f (legalised m ks limit_reached) c e s = wants (trailing ks limit_reached (f m)) c e s
 stops_then f (failed limit_reached) c e s = s
-stops_then f (stopped g) c e s = s
+stops_then f (aborted g) c e s = s
 
 -- ---- the rules of a list
 
@@ -84,7 +84,7 @@ module _ (go : Module → ℕ → Outcome) (x : ℕ) (all : List Rule) (start : 
   went (legalised q ks deep) p limit_reached t u m n c l k2 d is =
       (is, (k2 ∙ c.1.0, (d ∙ ap (λ b. limit_reached || b) c.1.1.0, c.1.1.1)))
   went (failed deep) p limit_reached t u m n c l k2 d is = absurd (true≢false (sym is ∙ l ∙ c.0))
-  went (stopped e) p limit_reached t u m n c l k2 d is = absurd c
+  went (aborted e) p limit_reached t u m n c l k2 d is = absurd c
 
   pub trying_well : (r : Rule) (rest : List Rule) (here next : State) (limit_reached : Bool) (t u : Legalization) → Trying go x all (r ∷ rest) start here limit_reached
       → Comes (after_rule go r x here.held (rewrite_of r here.held x)) (Ok t) here next → u.legal ≡ t.legal → u.applied.items ≡ t.applied.items → u.limit_reached ≡ (limit_reached || t.limit_reached) → u.legal ≡ true
@@ -98,7 +98,7 @@ module _ (go : Module → ℕ → Outcome) (x : ℕ) (all : List Rule) (start : 
   passed : (o p : Outcome) (limit_reached : Bool) (t u : Legalization) (m n : Module) → IsLegalization o t m n → u.legal ≡ t.legal → u.limit_reached ≡ (limit_reached || t.limit_reached) → u.legal ≡ false → (trailing [] u.limit_reached p ≡ trailing [] limit_reached (or_else o p)) × (n ≡ m)
   passed (legalised q ks deep) p limit_reached t u m n c l d is = absurd (true≢false (sym c.0 ∙ sym l ∙ is))
   passed (failed deep) p limit_reached t u m n c l d is = (ap (λ b. trailing [] b p) (d ∙ ap (λ b. limit_reached || b) c.1.0) ∙ after_both [] [] limit_reached deep p, c.1.1)
-  passed (stopped e) p limit_reached t u m n c l d is = absurd c
+  passed (aborted e) p limit_reached t u m n c l d is = absurd c
 
   pub trying_more : (r : Rule) (rest : List Rule) (here next : State) (limit_reached : Bool) (t u : Legalization) → Trying go x all (r ∷ rest) start here limit_reached
       → Comes (after_rule go r x here.held (rewrite_of r here.held x)) (Ok t) here next → u.legal ≡ t.legal → u.limit_reached ≡ (limit_reached || t.limit_reached) → u.legal ≡ false → Trying go x all rest start next u.limit_reached
@@ -138,7 +138,7 @@ module _ (go : Module → ℕ → Outcome) (all : Outcome) (id end : ℕ) where
   fails : (f : Module → Outcome) (o : Outcome) (ks : List AppliedRule) (limit_reached : Bool) (t u : Legalization) (m n : Module) → IsLegalization o t m n → u.legal ≡ t.legal → u.limit_reached ≡ (limit_reached || t.limit_reached) → u.legal ≡ false → ReportsAfter (trailing ks limit_reached (and_then f o)) u n
   fails f (legalised q js deep) ks limit_reached t u m n c l d is = absurd (true≢false (sym c.0 ∙ sym l ∙ is))
   fails f (failed deep) ks limit_reached t u m n c l d is = (is, d ∙ ap (λ b. limit_reached || b) c.1.0)
-  fails f (stopped e) ks limit_reached t u m n c l d is = absurd c
+  fails f (aborted e) ks limit_reached t u m n c l d is = absurd c
 
   pub making_fails : (here next : State) (ks : List AppliedRule) (limit_reached : Bool) (t u : Legalization) → id < end → Making go all id end here ks limit_reached → Comes (standing go here.held id) (Ok t) here next
       → u.legal ≡ t.legal → u.limit_reached ≡ (limit_reached || t.limit_reached) → u.legal ≡ false → ComesAfter all (Ok u) next
@@ -150,7 +150,7 @@ module _ (go : Module → ℕ → Outcome) (all : Outcome) (id end : ℕ) where
   goes_on f (legalised q js deep) ks limit_reached t u m n c l d is =
       (λ i. trailing (ks ++ c.1.0 i) ((d ∙ ap (λ b. limit_reached || b) c.1.1.0) i) (f (c.1.1.1 i))) ∙ after_both ks js limit_reached deep (f q)
   goes_on f (failed deep) ks limit_reached t u m n c l d is = absurd (true≢false (sym is ∙ l ∙ c.0))
-  goes_on f (stopped e) ks limit_reached t u m n c l d is = absurd c
+  goes_on f (aborted e) ks limit_reached t u m n c l d is = absurd c
 
   pub making_more : (here next : State) (ks more : List AppliedRule) (limit_reached : Bool) (t u : Legalization) → id < end → Making go all id end here ks limit_reached → Comes (standing go here.held id) (Ok t) here next
       → u.legal ≡ t.legal → u.applied.items ≡ t.applied.items → u.limit_reached ≡ (limit_reached || t.limit_reached) → u.legal ≡ true → more ≡ ks ++ u.applied.items → Making go all (id + 1) end next more u.limit_reached
@@ -189,7 +189,7 @@ module _ (start here end : State) (closing : (well : Bool) → Closed well here 
   whole : (o : Outcome) (r : Result Legalization Refusal) → ComesAfter o r here → Closed (went_well r) here end → Comes o r start end
   whole (legalised p ks deep) (Ok t) c is = (c.0, (c.1.0, (c.1.1.0, ap (λ (s : State). s.held) (closing t.legal is) ∙ ap (λ b. if b then here.held else start.held) c.0 ∙ c.1.1.1)))
   whole (failed deep) (Ok t) c is = (c.0, (c.1, ap (λ (s : State). s.held) (closing t.legal is) ∙ ap (λ b. if b then here.held else start.held) c.0))
-  whole (stopped e) (Ok t) c is = absurd c
+  whole (aborted e) (Ok t) c is = absurd c
   whole o (Err e) c is = (subst (λ (d : ContextModel). Stops o d e) (sym (ap (λ (s : State). s.things) (closing false is))) c, ap (λ (s : State). s.held) (closing false is))
 
 pub noted : (start stepped here : State) → stepped ≡ marked start → here.marks ≡ stepped.marks → here.marks ≡ record { marked = start.held; counted = false } ∷ start.marks
@@ -210,5 +210,5 @@ module _ {S : Type 0} (state : S → State) (transaction : S → TransactionMode
         grows = subst (λ (d : ContextModel). IsExtendedBy (state start).things d) (sym (ap (λ (s : State). s.things) closed)) (subst (λ (s : State). IsExtendedBy s.things (state here).things) e h.grows);
         marks = ap (λ (s : State). s.marks) closed;
         noted = noted_closed (transaction start) (transaction stepped) (transaction here) (transaction end) unmarked begun h.noted well dropped;
-        told = more start here end (more start stepped here l h.told) k;
+        reported = more start here end (more start stepped here l h.reported) k;
       }

@@ -13,7 +13,7 @@ use Rattle.conversion.specs.declared.legalization.Legalization.{Legalization}
 use Rattle.conversion_base.specs.Rewrites.{Rewrite, none, refused, becomes}
 use Rattle.conversion_base.specs.Targets.{Aim}
 use Rattle.conversion_base.specs.declared.applied_rule.AppliedRule.{AppliedRule}
-use Rattle.conversion_base.specs.Legalization.{Outcome, legalised, failed, stopped}
+use Rattle.conversion_base.specs.Legalization.{Outcome, legalised, failed, aborted}
 use Rattle.conversion_base.specs.Listing.{casts_among}
 use Rattle.conversion_base.specs.Reconciling.{is_cast, go_on, next_collapse, collapsed, all_collapsed}
 use Rattle.conversion_base.specs.Conversion.{Ended, converted, given_up, ended_after, next_part, in_turn, ended, ended_at, failing, cast_ended, casts_left, checked, has_no_cast, later_parts}
@@ -147,17 +147,17 @@ part_faults a e ks n f c h r = subst (λ (d : Ended). Faults d f c) (part_goes a
 pub legalised_ends : (x : ℕ) (o : Outcome) (t : Legalization) (a b : State) → Comes o (Ok t) a b → t.legal ≡ true → Ends (ended_at x o) (Ok t.applied.items) b
 legalised_ends x (legalised p ks deep) t a b c is = (c.1.0, c.1.1.1)
 legalised_ends x (failed deep) t a b c is = absurd (true≢false (sym is ∙ c.0))
-legalised_ends x (stopped e) t a b c is = absurd c
+legalised_ends x (aborted e) t a b c is = absurd c
 
 pub failed_ends : (x : ℕ) (o : Outcome) (t : Legalization) (a b : State) (f : Fault) → Comes o (Ok t) a b → t.legal ≡ false → f.refusal ≡ failing t.limit_reached → f.id ≡ Some x → Ends (ended_at x o) (Err f) b
 failed_ends x (legalised p ks deep) t a b f c is r i = absurd (true≢false (sym c.0 ∙ is))
 failed_ends x (failed deep) t a b f c is r i = inl (r ∙ ap failing c.1.0, i)
-failed_ends x (stopped e) t a b f c is r i = absurd c
+failed_ends x (aborted e) t a b f c is r i = absurd c
 
 pub stopped_ends : (x : ℕ) (o : Outcome) (e : Refusal) (a b : State) (f : Fault) → Comes o (Err e) a b → f.refusal ≡ e → f.id ≡ None → Ends (ended_at x o) (Err f) b
 stopped_ends x (legalised p ks deep) e a b f c r i = (i, subst (IsOutOfCapacity b.things) (sym r) c.0)
 stopped_ends x (failed deep) e a b f c r i = inr (i, subst (IsOutOfCapacity b.things) (sym r) c.0)
-stopped_ends x (stopped d) e a b f c r i = stop c.0
+stopped_ends x (aborted d) e a b f c r i = stop c.0
   where
     stop : (e ≡ d) ⊎ IsOutOfCapacity b.things e → ((f.refusal ≡ d) × (f.id ≡ None)) ⊎ FaultIsOutOfCapacity b.things f
     stop (inl is) = inl (r ∙ is, i)

@@ -73,16 +73,16 @@ module _ (h : Header) (arguments : List (Option (List TypeTerm))) where
       ∷ (w && false)
       ∷ [])
 
-  told_is : (lasts : List (Option (List ℕ))) (types : List (Option TypeTerm)) (outer : Option (OuterOf (List ℕ) TypeTerm AttrTerm)) → counted_rules cast_row (around lasts types outer) ≡ reported_by (breaks_2 cast_row (around lasts types outer)) (breaks_4 cast_row (around lasts types outer))
+  reported_is : (lasts : List (Option (List ℕ))) (types : List (Option TypeTerm)) (outer : Option (OuterOf (List ℕ) TypeTerm AttrTerm)) → counted_rules cast_row (around lasts types outer) ≡ reported_by (breaks_2 cast_row (around lasts types outer)) (breaks_4 cast_row (around lasts types outer))
   unfolding row_of rows
-  told_is lasts types outer = refl
+  reported_is lasts types outer = refl
 
-  told_alike : (l k : List (Option (List ℕ))) (ts us : List (Option TypeTerm)) (o p : Option (OuterOf (List ℕ) TypeTerm AttrTerm)) → broken_rules_in (row_of cast_name) (around l ts o) ≡ broken_rules_in (row_of cast_name) (around k us p)
-  told_alike l k ts us o p =
+  reported_alike : (l k : List (Option (List ℕ))) (ts us : List (Option TypeTerm)) (o p : Option (OuterOf (List ℕ) TypeTerm AttrTerm)) → broken_rules_in (row_of cast_name) (around l ts o) ≡ broken_rules_in (row_of cast_name) (around k us p)
+  reported_alike l k ts us o p =
       ap (λ r. broken_rules_in r (around l ts o)) row_is
-      ∙ told_is l ts o
+      ∙ reported_is l ts o
       ∙ (λ i. reported_by (operands i) (results i))
-      ∙ sym (told_is k us p)
+      ∙ sym (reported_is k us p)
       ∙ sym (ap (λ r. broken_rules_in r (around k us p)) row_is)
     where
       operands : breaks_2 cast_row (around l ts o) ≡ breaks_2 cast_row (around k us p)
@@ -100,7 +100,7 @@ broken_alike s r same e =
     let name = is_cast_name s.node.head.name e in
     let one : s ≡ around s.node.head s.node.arguments s.lasts s.types s.outer = λ i. record { node = record { head = record s.node.head { name = name i }; arguments = s.node.arguments }; lasts = s.lasts; types = s.types; outer = s.outer } in
     let two : r ≡ around s.node.head s.node.arguments r.lasts r.types r.outer = (λ i. record { node = sym same i; lasts = r.lasts; types = r.types; outer = r.outer }) ∙ (λ i. record { node = record { head = record s.node.head { name = name i }; arguments = s.node.arguments }; lasts = r.lasts; types = r.types; outer = r.outer }) in
-    ap broken one ∙ ap (numbers_from 1) (told_alike s.node.head s.node.arguments s.lasts r.lasts s.types r.types s.outer r.outer) ∙ sym (ap broken two)
+    ap broken one ∙ ap (numbers_from 1) (reported_alike s.node.head s.node.arguments s.lasts r.lasts s.types r.types s.outer r.outer) ∙ sym (ap broken two)
 
 -- ---- in two trees
 

@@ -62,17 +62,17 @@ all_in_order w h ctx store (Err e) k = tt
 
 module _ {B : Type 0} (meaning : B → Listener) where
   pub failure : (a : Benched B) → Leads seen transaction_of (LedOn meaning) a a
-  failure a = record { grows = grows_refl a.transaction.ctx; marks = refl; noted = noted_none a.transaction; told = λ holds. (holds, ([], notified_none meaning a)) }
+  failure a = record { grows = grows_refl a.transaction.ctx; marks = refl; noted = noted_none a.transaction; reported = λ holds. (holds, ([], notified_none meaning a)) }
 
   pub leads_applied : {A : Type 0} (r : Result A Refusal) (a b : Benched B) → Holds b.transaction.ctx → Applied meaning a b → JournalAfter meaning r a b → Leads seen transaction_of (LedOn meaning) a b
-  leads_applied r a b holds p keeps = record { grows = p.grows; marks = p.opens; noted = noted_kept meaning r a b keeps; told = λ _. (holds, p.led) }
+  leads_applied r a b holds p keeps = record { grows = p.grows; marks = p.opens; noted = noted_kept meaning r a b keeps; reported = λ _. (holds, p.led) }
 
   pub leads_on : {A : Type 0} (r : Result A Refusal) (a b : Benched B) → Holds b.transaction.ctx → b.transaction.ctx ≡ a.transaction.ctx → open_marks b.transaction ≡ open_marks a.transaction → Led meaning a b → JournalAfter meaning r a b → Leads seen transaction_of (LedOn meaning) a b
   leads_on r a b holds ctx marks led keeps = record {
     grows = subst (λ (d : ContextModel). IsExtendedBy a.transaction.ctx d) (sym ctx) (grows_refl a.transaction.ctx);
     marks = marks;
     noted = noted_kept meaning r a b keeps;
-    told = λ _. (holds, led);
+    reported = λ _. (holds, led);
   }
 
   pub leads_along : {A : Type 0} (r : Result A Refusal) (a b : Benched B) → Holds b.transaction.ctx → Along meaning a b → JournalAfter meaning r a b → Leads seen transaction_of (LedOn meaning) a b
@@ -158,6 +158,6 @@ module _ (w : World) (h : TransactionModel) (ctx : w.ctx ≡ h.ctx) (store : w.s
   index_one v e = one_made (module_held h) x (edits_meaning h.ctx v.items) (edits_are_due v e)
 
 pub index_fits : {A : Type 0} (w : World) (h : TransactionModel) → w.ctx ≡ h.ctx → w.store ≡ h.store → (found : Option (Vec Coded A)) → IfSome found (λ v. AllFit w.ctx v.items) → (v : Vec Coded A) → found ≡ Some v → AllFit h.ctx v.items
-index_fits {A} w h ctx store found fit v e =
-    let fits : AllFit w.ctx v.items = subst (λ (f : Option (Vec Coded A)). IfSome f (λ v. AllFit w.ctx v.items)) e fit in
+index_fits {A} w h ctx store found fits_in v e =
+    let fits : AllFit w.ctx v.items = subst (λ (f : Option (Vec Coded A)). IfSome f (λ v. AllFit w.ctx v.items)) e fits_in in
     subst (λ (d : ContextModel). AllFit d v.items) ctx fits

@@ -2,7 +2,7 @@
 use Rattle.std.specs.Prelude.{ℕ, List, [], ◌∷◌, Option, Some, None, if◌then◌else◌}
 use Rattle.ir_event.specs.trees.Ids.{ids}
 use Rattle.ir_event.specs.Modules.{Module}
-use Rattle.conversion_base.specs.Legalization.{Outcome, legalised, failed, stopped, legalization_of, standing}
+use Rattle.conversion_base.specs.Legalization.{Outcome, legalised, failed, aborted, legalization_of, standing}
 use Rattle.conversion_base.specs.Rule.{Rule}
 use Rattle.conversion_base.specs.Targets.{Aim, is_accepted}
 use Rattle.patterns_reasons.specs.Reasons.{reason_of}
@@ -30,7 +30,7 @@ match_failure_by (Some r) m x = unhelpful r (reason_of r m x)
 abbrev pub match_failure_after : (Module → Option (ℕ × MatchFailure)) → ℕ → MatchFailure → Outcome → Option (ℕ × MatchFailure)
 match_failure_after next x s (legalised n ks limit_reached) = next n
 match_failure_after next x s (failed limit_reached) = Some (x, s)
-match_failure_after next x s (stopped e) = None
+match_failure_after next x s (aborted e) = None
 
 abbrev pub staying : Aim → List ℕ → Module → Option (ℕ × MatchFailure)
 staying g [] m = None

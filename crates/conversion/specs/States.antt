@@ -18,7 +18,7 @@ use Rattle.conversion.specs.declared.conversion_error.ConversionError.{Conversio
 use Rattle.conversion_base.specs.Rule.{Rule}
 use Rattle.conversion_base.specs.declared.applied_rule.AppliedRule.{AppliedRule}
 use Rattle.conversion_base.specs.Conversion.{Ended, converted, given_up, failing}
-use Rattle.conversion_base.specs.Legalization.{Outcome, legalised, failed, stopped}
+use Rattle.conversion_base.specs.Legalization.{Outcome, legalised, failed, aborted}
 use Rattle.conversion.specs.MatchFailures.{reported_failure}
 use Rattle.conversion.specs.Waiting.{Freed}
 
@@ -38,7 +38,7 @@ pub record Leads {S : Type 0} (state : S → State) (transaction : S → Transac
   pub grows : IsExtendedBy (state old).things (state new).things
   pub marks : (state new).marks ≡ (state old).marks
   pub noted : Noted (transaction old) (transaction new)
-  pub told : led old new
+  pub reported : led old new
 
 -- the state with one more mark, not counted, of the current module
 abbrev pub marked : State → State
@@ -107,12 +107,12 @@ applied_since r x from n = record { rule = r; op = x; from = from; until = n.nex
 abbrev pub IsLegalization : Outcome → Legalization → Module → Module → Type 0
 IsLegalization (legalised p ks deep) t m n = (t.legal ≡ true) × ((t.applied.items ≡ ks) × ((t.limit_reached ≡ deep) × (n ≡ p)))
 IsLegalization (failed deep) t m n = (t.legal ≡ false) × ((t.limit_reached ≡ deep) × (n ≡ m))
-IsLegalization (stopped e) t m n = ⊥
+IsLegalization (aborted e) t m n = ⊥
 
 abbrev pub Stops : Outcome → ContextModel → Refusal → Type 0
 Stops (legalised p ks deep) c e = IsOutOfCapacity c e
 Stops (failed deep) c e = IsOutOfCapacity c e
-Stops (stopped f) c e = (e ≡ f) ⊎ IsOutOfCapacity c e
+Stops (aborted f) c e = (e ≡ f) ⊎ IsOutOfCapacity c e
 
 abbrev pub Comes : Outcome → Result Legalization Refusal → State → State → Type 0
 Comes o (Ok t) a b = IsLegalization o t a.held b.held
@@ -122,7 +122,7 @@ Comes o (Err e) a b = Stops o b.things e × (b.held ≡ a.held)
 abbrev pub ReportsAfter : Outcome → Legalization → Module → Type 0
 ReportsAfter (legalised p ks deep) t n = (t.legal ≡ true) × ((t.applied.items ≡ ks) × ((t.limit_reached ≡ deep) × (n ≡ p)))
 ReportsAfter (failed deep) t n = (t.legal ≡ false) × (t.limit_reached ≡ deep)
-ReportsAfter (stopped e) t n = ⊥
+ReportsAfter (aborted e) t n = ⊥
 
 abbrev pub ComesAfter : Outcome → Result Legalization Refusal → State → Type 0
 ComesAfter o (Ok t) b = ReportsAfter o t b.held

@@ -61,7 +61,7 @@ fn erase<L: Analysis>(bench: &mut Bench<L>, op: OpId) -> Result<bool, Refusal>
 
 /// Makes edits that insert one operation: all edits or none.
 fn carry<L: Analysis>(bench: &mut Bench<L>, edits: &[Edit]) -> Result<bool, Refusal>
-    requires fit { AllFit bench.old.transaction.ctx edits.now }
+    requires fits_in { AllFit bench.old.transaction.ctx edits.now }
     requires one { made_by (edits_meaning bench.old.transaction.ctx edits.now) ≡ 1 }
     ensures answers { Answers
         (carried_out (edits_meaning bench.old.transaction.ctx edits.now) (module_held bench.old.transaction)) result (seen bench.old)

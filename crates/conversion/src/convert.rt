@@ -45,7 +45,7 @@ pub fn convert_traced<L: Analysis, T: Tracer>(
     ensures converts { Converts
         (conversion_of (target_model bench.old.transaction.ctx target.now) (module_held bench.old.transaction)) result (seen bench.old)
         (seen bench.new) }
-    ensures told { OnOk result (T.told
+    ensures reported { OnOk result (T.reported
         (applied_rules (conversion_of (target_model bench.old.transaction.ctx target.now) (module_held bench.old.transaction))) tracer.old
         tracer.new) }
     ensures stays { IfErr result (λ f. T.stayed

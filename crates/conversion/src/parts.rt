@@ -106,7 +106,7 @@ fn legalise_each<B: RuleApplier>(
                     return Err(ConversionError::without_op(refusal));
                 }
             }
-            Err(stopped) => return Err(stopped),
+            Err(aborted) => return Err(aborted),
         }
         rest = tail;
     }
@@ -211,7 +211,7 @@ fn convert_parts<B: RuleApplier>(
 {
     let applied = match legalise_all(alloc, bench, target) {
         Ok(applied) => applied,
-        Err(stopped) => return Err(stopped),
+        Err(aborted) => return Err(aborted),
     };
     match reconcile(alloc, bench, target) {
         Ok(()) => Ok(applied),
@@ -286,7 +286,7 @@ fn convert_marked<B: RuleApplier, T: Tracer>(
     tracer: &mut T,
 ) -> Result<u32, Fault>
     requires aim { IsAimIn (B.state bench.old).things target.now }
-    ensures told { OnOk result (T.told
+    ensures reported { OnOk result (T.reported
         (applied_rules (all_parts (target_model (B.state bench.old).things target.now) (B.state bench.old).held)) tracer.old
         tracer.new) }
     ensures stays { IfErr result (λ f. T.stayed
@@ -302,9 +302,9 @@ fn convert_marked<B: RuleApplier, T: Tracer>(
             Ok(()) => Ok(count_of(&applied)),
             Err(refusal) => Err(Fault::without_op(refusal)),
         },
-        Err(stopped) => {
-            trace_match_failure(tracer, stopped.failure);
-            Err(stopped.fault)
+        Err(aborted) => {
+            trace_match_failure(tracer, aborted.failure);
+            Err(aborted.fault)
         }
     }
 }
@@ -331,7 +331,7 @@ pub(crate) fn convert_with<B: RuleApplier, T: Tracer>(
     tracer: &mut T,
 ) -> Result<u32, Fault>
     requires names { IsNamedIn (B.state bench.old).things target.now }
-    ensures told { OnOk result (T.told
+    ensures reported { OnOk result (T.reported
         (applied_rules (conversion_of (target_model (B.state bench.old).things target.now) (B.state bench.old).held)) tracer.old
         tracer.new) }
     ensures stays { IfErr result (λ f. T.stayed

@@ -12,7 +12,7 @@ use ir_event::types::refusal::Refusal;
 /// legalized.
 pub trait Tracer {
     /// Says that the tracer received these applied rules between two of its states.
-    ghost told: { List AppliedRule → Self → Self → Type 0 };
+    ghost reported: { List AppliedRule → Self → Self → Type 0 };
 
     /// Says that the tracer received the reason why an operation can't be legalized, or received none.
     ghost stayed: { Option Staying → Self → Self → Type 0 };
@@ -21,8 +21,8 @@ pub trait Tracer {
 
     /// Receives all applied rules. If this is refused, the tracer received no match failure.
     fn record_rules(&mut self, applied: &[AppliedRule]) -> Result<(), Refusal>
-        ensures told { OnOk result (told applied.now self.old self.new) }
-        ensures silent { OnErr result (stayed None self.old self.new) }
+        ensures reported { OnOk result (reported applied.now self.old self.new) }
+        ensures reports_nothing { OnErr result (stayed None self.old self.new) }
         ensures refused { IfErr result (λ e. e ≡ NoMemory) };
 
     /// Receives the reason why an operation can't be legalized.
@@ -35,7 +35,7 @@ pub trait Tracer {
 pub struct NoTracer;
 
 impl Tracer for NoTracer {
-    ghost told = { λ ks a b. ⊤ };
+    ghost reported = { λ ks a b. ⊤ };
 
     ghost stayed = { λ s a b. ⊤ };
 

@@ -11,7 +11,7 @@ use Rattle.ir_event.specs.Modules.{Module}
 use Rattle.patterns_base.specs.Rewrites.{Rewrite, none, refused, becomes}
 use Rattle.patterns_base.specs.Words.{named}
 use Rattle.conversion_base.specs.Targets.{Aim, cast_name, is_accepted, is_legal}
-use Rattle.conversion_base.specs.Legalization.{Outcome, legalised, failed, stopped, legalization_of, standing}
+use Rattle.conversion_base.specs.Legalization.{Outcome, legalised, failed, aborted, legalization_of, standing}
 use Rattle.conversion_base.specs.Reconciling.{all_collapsed, index_rewrite, is_cast}
 use Rattle.conversion_base.specs.declared.applied_rule.AppliedRule.{AppliedRule}
 
@@ -46,7 +46,7 @@ failing false = NotLegalised
 abbrev pub ended_at : ℕ → Outcome → Ended
 ended_at x (legalised m ks limit_reached) = converted m ks
 ended_at x (failed limit_reached) = given_up (failing limit_reached) (Some x)
-ended_at x (stopped e) = given_up e None
+ended_at x (aborted e) = given_up e None
 
 -- the end of legalizing an operation of the original module; an erased operation is skipped
 abbrev pub legalised_at : Aim → Module → ℕ → Ended

@@ -16,25 +16,25 @@ use Rattle.conversion_base.specs.declared.applied_rule.AppliedRule.{AppliedRule}
 pub data Outcome : Type 0 where
   legalised : Module → List AppliedRule → Bool → Outcome
   failed : Bool → Outcome
-  stopped : Refusal → Outcome
+  aborted : Refusal → Outcome
 
 -- an outcome after earlier applied rules; the flag says whether an earlier attempt reached the depth limit
 abbrev pub trailing : List AppliedRule → Bool → Outcome → Outcome
 trailing ks limit_reached (legalised m ns deep) = legalised m (ks ++ ns) (limit_reached || deep)
 trailing ks limit_reached (failed deep) = failed (limit_reached || deep)
-trailing ks limit_reached (stopped e) = stopped e
+trailing ks limit_reached (aborted e) = aborted e
 
 -- the next step, if this one succeeded
 abbrev pub and_then : (Module → Outcome) → Outcome → Outcome
 and_then f (legalised m ks limit_reached) = trailing ks limit_reached (f m)
 and_then f (failed limit_reached) = failed limit_reached
-and_then f (stopped e) = stopped e
+and_then f (aborted e) = aborted e
 
 -- another attempt, if this one failed
 abbrev pub or_else : Outcome → Outcome → Outcome
 or_else (legalised m ks limit_reached) o = legalised m ks limit_reached
 or_else (failed limit_reached) o = trailing [] limit_reached o
-or_else (stopped e) o = stopped e
+or_else (aborted e) o = aborted e
 
 -- the ids that were given out since a given next id, in ascending order
 abbrev pub made_since : ℕ → Module → List ℕ
@@ -58,7 +58,7 @@ module _ (go : Module → ℕ → Outcome) where
   -- after a rule: the operations that it made, in ascending order of their ids. A rule that doesn't apply fails
   abbrev pub after_rule : Rule → ℕ → Module → Rewrite → Outcome
   after_rule r x m none = failed false
-  after_rule r x m (refused e) = stopped e
+  after_rule r x m (refused e) = aborted e
   after_rule r x m (becomes n) = trailing (applied_rule r x m n ∷ []) false (each_of (made_since m.next n) n)
 
   -- the first of some rules that succeeds

@@ -181,7 +181,7 @@ fn cast_edits(
 pub fn index_edits(alloc: Global, world: &World, op: OpId) -> Result<Option<Vec<Edit>>, AllocError>
     ensures edits { IfOk result
         (λ p. option_map (λ es. edits_meaning world.now.ctx es.items) p ≡ index_edits (module_in world.now) op) }
-    ensures fit { IfOk result (λ p. IfSome p (λ es. AllFit world.now.ctx es.items)) }
+    ensures fits_in { IfOk result (λ p. IfSome p (λ es. AllFit world.now.ctx es.items)) }
 {
     world.ctx.sound();
     let Some(node) = world.shown(op) else {

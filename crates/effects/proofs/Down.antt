@@ -13,7 +13,7 @@ use Rattle.ir_event.proofs.of_tree_laws.Readings.{step, stands_find}
 use Rattle.ir_event.proofs.of_tree_laws.Members.{stand, within, ops_child, joined_ops, found_stands, stand_of_member, member, same_stand}
 use Rattle.ir_event.proofs.of_tree_laws.Around.{around_there, place_of_member, member_of_place}
 use Rattle.ir_event.proofs.of_tree_laws.Put.{child}
-use Rattle.ir_event.proofs.of_tree_laws.Values.{shape}
+use Rattle.ir_event.proofs.of_tree_laws.Values.{shaped_as}
 use Rattle.effects.specs.Within.{trailing, some_ops, onward, ops_from, list_at, list_size, op_size}
 use Rattle.ir_event.proofs.Facts.{joined_more}
 
@@ -60,7 +60,7 @@ module _ {N T A : Type 0} (t : OpOf N T A) (d : HasDistinctIds t) where
           absurd cc
   after_onward o (a ∷ q) h =
       ap (λ (p : Option Place). ops_from (option_and_then (λ p. p.before) p) t) (place_of_member t d o a q h)
-      ∙ left_onward a.parent q a.region a.args (a.preceding ++ o ∷ []) a.rest (around_there t o a q h).1 (shape t o a q h ∙ ap (λ z. Some (block a.args z)) (joined_more a.preceding o a.rest))
+      ∙ left_onward a.parent q a.region a.args (a.preceding ++ o ∷ []) a.rest (around_there t o a q h).1 (shaped_as t o a q h ∙ ap (λ z. Some (block a.args z)) (joined_more a.preceding o a.rest))
 
   pub next_onward : (x : ℕ) (o : OpOf N T A) (os : OpsOf N T A) → ops_from (Some x) t ≡ next o os → ops_from (next_of x t) t ≡ os
   next_onward x o os e = go (op_with_path x t) refl e

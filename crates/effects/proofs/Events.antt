@@ -9,7 +9,7 @@ use Rattle.ir_event.specs.trees.Edits.{each_head, regions_each_head, region_each
 use Rattle.ir_event.specs.trees.WellFormed.{ModuleOf}
 use Rattle.ir_event.proofs.of_trees.Moves.{Absent}
 use Rattle.ir_event.specs.tree_laws.Changes.{HoldNone, Takes, Shifts}
-use Rattle.effects.specs.declared.kinds.EffectKinds.{EffectKinds}
+use Rattle.effects.specs.declared.effect_kinds.EffectKinds.{EffectKinds}
 use Rattle.op_registry.specs.declared.own.Own.{Own}
 use Rattle.ir_event.specs.tree_laws.Members.{In}
 use Rattle.effects.specs.Points.{Point, points, regions_points, region_points, ops_points, one_if, is_in, weight, Lacks, Childless, Apart, Rows, has_at, Holds}

@@ -7,7 +7,7 @@ use Rattle.ir_event.specs.trees.Places.{first_id}
 use Rattle.ir_event.specs.tree_laws.Reads.{ops_in, next_of, first_at}
 use Rattle.ir_event.specs.tree_laws.Values.{region_at}
 use Rattle.op_registry.specs.declared.own.Own.{Own}
-use Rattle.effects.specs.declared.kinds.EffectKinds.{EffectKinds}
+use Rattle.effects.specs.declared.effect_kinds.EffectKinds.{EffectKinds}
 use Rattle.effects.specs.Dead.{may_go}
 use Rattle.effects.specs.Effects.{effects, regions_effects, region_effects, ops_effects, union, is_recursive, own_kinds}
 use Rattle.effects.specs.Idle.{idle_in, idle_at, idle_ops, idle_regions}

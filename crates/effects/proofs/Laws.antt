@@ -8,7 +8,7 @@ use Rattle.ir_event.specs.trees.Tree.{HeadOf, OpOf, op, RegionsOf, no_regions, r
 use Rattle.ir_event.specs.trees.Ids.{ids, regions_ids, region_ids, ops_ids}
 use Rattle.ir_event.proofs.of_trees.Moves.{Absent, absent_parts}
 use Rattle.ir_event.proofs.of_trees.Returns.{Present, halves, differ, absent_first}
-use Rattle.effects.specs.declared.kinds.EffectKinds.{EffectKinds}
+use Rattle.effects.specs.declared.effect_kinds.EffectKinds.{EffectKinds}
 use Rattle.op_registry.specs.declared.own.Own.{Own}
 use Rattle.effects.specs.Effects.{Effect, unknown, allocate, free, read, write, has, union, effects_by, effects, regions_effects, region_effects, ops_effects, own_kinds, is_recursive}
 use Rattle.effects.specs.Points.{Point, points, regions_points, region_points, ops_points, one_if, is_in, weight, Childless, given}

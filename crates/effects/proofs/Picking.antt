@@ -15,7 +15,7 @@ use Rattle.effects.specs.Points.{Rows}
 use Rattle.effects.specs.Walks.{rows_at}
 use Rattle.effects.specs.Marks.{is_zero, acts, AreMarked}
 use Rattle.effects.specs.Counts.{Counts}
-use Rattle.effects.specs.declared.kinds.EffectKinds.{EffectKinds}
+use Rattle.effects.specs.declared.effect_kinds.EffectKinds.{EffectKinds}
 use Rattle.effects.specs.Effects.{is_none}
 use Rattle.effects.specs.Reports.{those, having}
 use Rattle.effects.specs.Listed.{said, checked}

@@ -10,7 +10,7 @@ use Rattle.ir_event.specs.trees.Ids.{ids, regions_ids, region_ids, ops_ids, HasD
 use Rattle.ir_event.specs.tree_laws.Stands.{StepOf, OpWithPathOf, op_with_path_id, stands, regions_stands, region_stands, ops_stands, find_op_with_path}
 use Rattle.ir_event.proofs.of_tree_laws.Readings.{step, stands_ids, stands_find}
 use Rattle.std.proofs.lemmas.Bool.Decides.{nat_tests}
-use Rattle.effects.specs.declared.kinds.EffectKinds.{EffectKinds}
+use Rattle.effects.specs.declared.effect_kinds.EffectKinds.{EffectKinds}
 use Rattle.op_registry.specs.declared.own.Own.{Own}
 use Rattle.effects.specs.declared.row.Row.{Row}
 use Rattle.effects.specs.Effects.{Effect, unknown, allocate, free, read, write, has}

@@ -11,7 +11,7 @@ use Rattle.ir_event.specs.trees.Limits.{every}
 use Rattle.ir_event.specs.trees.Meaning.{Operation}
 use Rattle.op_registry.specs.declared.definition.Trait.TheVariants.{Terminator}
 use Rattle.op_registry.specs.Registry.{own_of, has_trait}
-use Rattle.effects.specs.declared.kinds.EffectKinds.{EffectKinds}
+use Rattle.effects.specs.declared.effect_kinds.EffectKinds.{EffectKinds}
 use Rattle.op_registry.specs.declared.own.Own.{Own}
 use Rattle.effects.specs.Effects.{own_kinds, is_recursive, effects}
 

@@ -1,6 +1,6 @@
 -- The values that reports read from the tables.
 use Rattle.std.specs.Prelude.{ℕ, List, map, Bool, ◌&&◌}
-use Rattle.effects.specs.declared.kinds.EffectKinds.{EffectKinds}
+use Rattle.effects.specs.declared.effect_kinds.EffectKinds.{EffectKinds}
 use Rattle.effects.specs.declared.row.Row.{Row}
 use Rattle.effects.specs.Dead.{may_go}
 use Rattle.effects.specs.Counts.{Counts, is_zero}

@@ -2,7 +2,7 @@
 use Rattle.std.specs.Prelude.{ℕ, zero, suc, List, [], ◌∷◌, map, Bool, true, false, ◌&&◌, if◌then◌else◌, Option, Some, None}
 use Rattle.listeners_support.specs.Bits.{has}
 use Rattle.effects.specs.declared.row.Row.{Row}
-use Rattle.effects.specs.declared.kinds.EffectKinds.{EffectKinds}
+use Rattle.effects.specs.declared.effect_kinds.EffectKinds.{EffectKinds}
 use Rattle.effects.specs.Dead.{may_go}
 use Rattle.effects.specs.Effects.{is_none}
 use Rattle.effects.specs.Reports.{having}

@@ -7,7 +7,7 @@ use Rattle.ir_event.specs.Rows.{RowTerm, Op, Tag, by_id}
 use Rattle.ir_event.specs.Tags.{tag_number}
 use Rattle.ir_event.specs.declared.tag.Tag.TheVariants as word
 use Rattle.op_registry.specs.Registry.{own_of}
-use Rattle.effects.specs.declared.kinds.EffectKinds.{EffectKinds}
+use Rattle.effects.specs.declared.effect_kinds.EffectKinds.{EffectKinds}
 use Rattle.effects.specs.Effects.{effects, is_none}
 use Rattle.effects.specs.Dead.{is_dead}
 

@@ -9,7 +9,7 @@ ghost use Rattle.effects.specs.Effects.{own_by, own_kinds};
 ghost use Rattle.effects.specs.Idle.{AreUnused, idle_at, idle_ops};
 ghost use Rattle.effects.specs.Within.{list_at, regions_of};
 
-use crate::kinds::{EffectKinds, recursive};
+use crate::effect_kinds::{EffectKinds, recursive};
 use crate::own::own;
 use crate::tally::is_kept;
 use ir_event::trees::value::Value;
@@ -21,8 +21,8 @@ use op_registry::own::Own;
 fn may_go(own: &Own) -> bool
     ensures { result ≡ may_go (own_kinds own.now) }
 {
-    let kinds = EffectKinds::from_own(own);
-    !(kinds.unknown || kinds.free || kinds.write)
+    let effect_kinds = EffectKinds::from_own(own);
+    !(effect_kinds.unknown || effect_kinds.free || effect_kinds.write)
 }
 
 /// Returns the own effects of an operation and the number of its regions, or `None` if it isn't in the module.

@@ -4,7 +4,7 @@ ghost use Rattle.effects.specs.Points.{one_if};
 ghost use Rattle.effects.specs.Walks.{lowered, lost_row, raised, gained_row, present, both, new_row};
 ghost use Rattle.effects.specs.Effects.{union};
 
-use crate::kinds::{EffectKinds, recursive};
+use crate::effect_kinds::{EffectKinds, recursive};
 use ir_event::types::ids::OpId;
 use op_registry::own::Own;
 

@@ -8,7 +8,7 @@ ghost use Rattle.effects.specs.Found.{head_at, heads_by, with_head};
 ghost use Rattle.effects.specs.Counts.{counts_in, kept_by, Raised, AllEntered};
 
 use crate::counts::{enter, raise_all};
-use crate::kinds::{EffectKinds, recursive};
+use crate::effect_kinds::{EffectKinds, recursive};
 use crate::own::own;
 use crate::use_counts::UseCounts;
 use ir_event::store::store::Store;
@@ -33,8 +33,8 @@ pub(crate) fn is_kept(ctx: &Context, registry: &Registry, name: NameId) -> bool
 fn is_missed(own: &Own) -> bool
     ensures { result ≡ is_missed own.now }
 {
-    let kinds = EffectKinds::from_own(own);
-    !(recursive(own) || !(kinds.unknown || kinds.free || kinds.write))
+    let effect_kinds = EffectKinds::from_own(own);
+    !(recursive(own) || !(effect_kinds.unknown || effect_kinds.free || effect_kinds.write))
 }
 
 /// Returns whether operations with that name are never dead, because of the name or of their own effects.

@@ -19,7 +19,7 @@ use Rattle.patterns_base.specs.Canonicalization.{or_else, first_rule}
 use Rattle.patterns.proofs.Firsts.{none_then}
 use Rattle.patterns.specs.FirstMatching.{first_matching_rule, rule_or}
 use Rattle.patterns.specs.Rows.{AreCanonical}
-use Rattle.patterns.specs.facts.Near.{Still}
+use Rattle.patterns.specs.soundness.Near.{Still}
 use Rattle.user_patterns_data.specs.Shapes.{PatternModel}
 use Rattle.user_patterns_data.specs.Depth.{is_shallow}
 use Rattle.user_patterns_apply.specs.Own.{user_pattern_edits, user_pattern_rewrite}

@@ -39,9 +39,9 @@ use Rattle.greedy.proofs.UserPatternsAlike.{defining_op_of, gives_alike, own_sam
 use Rattle.greedy.specs.Reached.{ends, any_reaches}
 use Rattle.greedy.specs.LocalContext.{defining_op as defining_op_id, operands_of, Uses, is_listed, last_ids}
 use Rattle.greedy.specs.Near.{Leads}
-use Rattle.patterns.specs.facts.Alike.{Same, ShowsAlike, DominatedByAlike, EndsAlike, LooksAlike, last_of, shape_of}
+use Rattle.patterns.specs.soundness.Alike.{Same, ShowsAlike, DominatedByAlike, EndsAlike, LooksAlike, last_of, shape_of}
 use Rattle.patterns.proofs.of_facts.Looking.{when_alike, given_both}
-use Rattle.patterns.proofs.of_facts.Facts.{facts, lowers_not}
+use Rattle.patterns.proofs.of_facts.Facts.{soundness, lowers_not}
 use Rattle.greedy.specs.Listing.{Lists, Stayed, Touched}
 use Rattle.greedy.proofs.Ending.{last_ends}
 use Rattle.greedy.proofs.Reaching.{all_far}
@@ -263,7 +263,7 @@ module _ (shown : ℕ → List Value) (c : ContextModel) (es : List Event) (m n 
     looks = record { heads = heads; dominated_by = dominated_by; ends = ends_alike; goes = dead_alike }
 
     rules_alike : (r : Rule) → is_canonical r ≡ true → (f g : Place) → Same (rule r t n.next f o) (rule r u m.next g p)
-    rules_alike r canonical f g = (facts r).alike (lowers_not r canonical) t u n.next m.next f g o p looks
+    rules_alike r canonical f g = (soundness r).alike (lowers_not r canonical) t u n.next m.next f g o p looks
 
     edits_alike : (r : Rule) → is_canonical r ≡ true → Same (edits_of r n x) (edits_of r m x)
     unfolding edits_of

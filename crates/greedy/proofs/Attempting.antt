@@ -57,10 +57,10 @@ gave_first none b done m n t h = absurd (true≢false (sym t ∙ h.0))
 gave_first (refused e) b done m n t h = absurd h
 gave_first (becomes p) b done m n t h = (refl, h.1)
 
-pub told_first : (a : Rewrite) (by : AppliedPattern) (other : Option AppliedPattern) (done : Bool) (m n : Module) → done ≡ true → RewriteOutcome a done m n → by_or a by other ≡ Some by
-told_first none by other done m n t h = absurd (true≢false (sym t ∙ h.0))
-told_first (refused e) by other done m n t h = absurd h
-told_first (becomes p) by other done m n t h = refl
+pub reported_first : (a : Rewrite) (by : AppliedPattern) (other : Option AppliedPattern) (done : Bool) (m n : Module) → done ≡ true → RewriteOutcome a done m n → by_or a by other ≡ Some by
+reported_first none by other done m n t h = absurd (true≢false (sym t ∙ h.0))
+reported_first (refused e) by other done m n t h = absurd h
+reported_first (becomes p) by other done m n t h = refl
 
 pub gave_none : (a : Rewrite) (done : Bool) (m n : Module) → done ≡ false → RewriteOutcome a done m n → (a ≡ none) × (n ≡ m)
 gave_none none done m n f h = (refl, h.1)

@@ -11,7 +11,7 @@ use Rattle.rewriter_machine.specs.Machine.{State, Answer, Change, Reply, DoneWit
 use Rattle.rewriter_machine.specs.Panels.{AllAge}
 use Rattle.patterns.specs.rewriter.RewriterCalls.{Benched, Does, state_of}
 use Rattle.patterns.specs.rewriter.Held.{module_held, open_marks}
-use Rattle.patterns_base.specs.Canonicalization.{Canonical, ended, stopped, canonical_from, canonicalization_of}
+use Rattle.patterns_base.specs.Canonicalization.{Canonical, ended, aborted, canonical_from, canonicalization_of}
 use Rattle.greedy.specs.declared.outcome.Outcome.{Outcome as Ended}
 use Rattle.greedy.specs.declared.outcome.Outcome.TheVariants.{Converged, Limit}
 use Rattle.greedy.specs.Outcomes.{count_of, ending_of, is_limit, IsCanonical, IsReason, IsReasonBy, IsReasonFor, IsRewriting}
@@ -23,16 +23,16 @@ outcomes : (o : Ended) → outcome_of (count_of o) (ending_of o) ≡ outcome_mea
 outcomes (Converged k) = refl
 outcomes (Limit k) = refl
 
-no_limit : (limit : ℕ) (m : Module) → is_limit limit ≡ false → canonicalization_of limit m ≡ stopped BadLimit
+no_limit : (limit : ℕ) (m : Module) → is_limit limit ≡ false → canonicalization_of limit m ≡ aborted BadLimit
 unfolding canonicalization_of
-no_limit limit m e = ap (λ b. cond b (canonical_from limit 0 m) (stopped BadLimit)) e
+no_limit limit m e = ap (λ b. cond b (canonical_from limit 0 m) (aborted BadLimit)) e
 
-no_limit_by : (pattern_set : PatternSetModel) (limit : ℕ) (m : Module) → is_limit limit ≡ false → rewriting_of pattern_set limit m ≡ stopped BadLimit
+no_limit_by : (pattern_set : PatternSetModel) (limit : ℕ) (m : Module) → is_limit limit ≡ false → rewriting_of pattern_set limit m ≡ aborted BadLimit
 unfolding rewriting_of
-no_limit_by pattern_set limit m e = ap (λ b. cond b (rewritten_from pattern_set limit 0 m) (stopped BadLimit)) e
+no_limit_by pattern_set limit m e = ap (λ b. cond b (rewritten_from pattern_set limit 0 m) (aborted BadLimit)) e
 
 -- runs whose result a definition gives
-module _ (made : Module → Canonical) (limit : ℕ) (bad : (m : Module) → is_limit limit ≡ false → made m ≡ stopped BadLimit) where
+module _ (made : Module → Canonical) (limit : ℕ) (bad : (m : Module) → is_limit limit ≡ false → made m ≡ aborted BadLimit) where
   abbrev change : Transformation
   change = record { transformed = λ m. made_of (made m); interns = true }
 
@@ -45,12 +45,12 @@ module _ (made : Module → Canonical) (limit : ℕ) (bad : (m : Module) → is_
         (λ i. record { reply = DoneWith (sym (outcomes o) i); shows = Nothing; held = t.held; marks = marks i })
         ∙ sym (ap (λ (r : Canonical). due_change (made_of r) s) e))
 
-    refused_answer : (e : Refusal) → made s.held ≡ stopped e → t.held ≡ s.held → IsAnswer s (Change change) (answer (Refused e))
+    refused_answer : (e : Refusal) → made s.held ≡ aborted e → t.held ≡ s.held → IsAnswer s (Change change) (answer (Refused e))
     refused_answer e k h = inl ((λ i. record { reply = Refused e; shows = Nothing; held = h i; marks = marks i }) ∙ sym (ap (λ (r : Canonical). due_change (made_of r) s) k))
 
     err_answer : (e : Refusal) (full : Type 0) → IsReasonFor (made s.held) limit full e → t.held ≡ s.held → IsAnswer s (Change change) (answer (Refused e))
     err_answer e full why h = elim (cases_Bool (is_limit limit)) [
-      | inr k ↦ (let is = why.limited.1 k in refused_answer e (bad s.held k ∙ ap stopped (sym is)) h)
+      | inr k ↦ (let is = why.limited.1 k in refused_answer e (bad s.held k ∙ ap aborted (sym is)) h)
       | inl k ↦ elim (why.others k) [
         | inl m ↦ inr (refl, inl (λ i. record { reply = Refused (m i); shows = Nothing; held = h i; marks = marks i }))
         | inr l ↦ elim l [
@@ -70,7 +70,7 @@ module _ (made : Module → Canonical) (limit : ℕ) (bad : (m : Module) → is_
   run_full s (Ok (Converged k)) full why is = absurd cc
   run_full s (Ok (Limit k)) full why is = absurd cc
   run_full s (Err e) full why is = elim (cases_Bool (is_limit limit)) [
-    | inr k ↦ inl (as_due (bad s.held k ∙ ap stopped (sym (why.limited.1 k))))
+    | inr k ↦ inl (as_due (bad s.held k ∙ ap aborted (sym (why.limited.1 k))))
     | inl k ↦ elim (why.others k) [
       | inl m ↦ absurd (no_want (ap Refused (sym m) ∙ is))
       | inr l ↦ elim l [
@@ -80,7 +80,7 @@ module _ (made : Module → Canonical) (limit : ℕ) (bad : (m : Module) → is_
     ]
   ]
     where
-      as_due : made s.held ≡ stopped e → Refused e ≡ (due s (Change change)).reply
+      as_due : made s.held ≡ aborted e → Refused e ≡ (due s (Change change)).reply
       as_due k = sym (ap (λ (c : Canonical). (due_change (made_of c) s).reply) k)
 
       no_want : Refused Memory ≡ Refused Full → ⊥

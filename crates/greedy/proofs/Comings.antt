@@ -11,7 +11,7 @@ use Rattle.rewriter_machine.specs.Contents.{Edit}
 use Rattle.patterns_base.specs.declared.rule.Rule.{Rule}
 use Rattle.patterns_base.specs.Makes.{made_by}
 use Rattle.patterns_base.specs.Rewrites.{Rewrite, none, refused, becomes, edits_of, rewrite_by, rewrite_of}
-use Rattle.patterns_base.specs.Canonicalization.{Canonical, or_else, first_rule, greedy_rules, End, converged, limited, stopped, ended, end_of, go_on, most_rewrites}
+use Rattle.patterns_base.specs.Canonicalization.{Canonical, or_else, first_rule, greedy_rules, End, converged, limited, aborted, ended, end_of, go_on, most_rewrites}
 use Rattle.greedy.specs.Outcomes.{Applied, Refuses, MarksRewrite, IsCanonical, IsReason, IsReasonBy, IsReasonFor, IsRewriting, Stop, count_of, ending_of, is_limit}
 use Rattle.greedy.specs.PatternSet.{PatternSetModel, by_rules}
 use Rattle.greedy.specs.Rewriting.{first_by, next_by, rewritten_from, rewriting_of}
@@ -79,21 +79,21 @@ rules_count (r ∷ rs) m x e h = elim (either_refused (rewrite_of r m x) (first_
   | inr k ↦ rules_count rs m x e k
 ]
 
-pub stopped_is : (f e : Refusal) → stopped f ≡ stopped e → f ≡ e
-stopped_is f e h = ap (λ a. elim a as (λ _. Refusal) [ stopped g ↦ g | ended n k d ↦ f ]) h
+pub stopped_is : (f e : Refusal) → aborted f ≡ aborted e → f ≡ e
+stopped_is f e h = ap (λ a. elim a as (λ _. Refusal) [ aborted g ↦ g | ended n k d ↦ f ]) h
 
-pub not_stopped : (n : Module) (k : ℕ) (d : End) (e : Refusal) → ended n k d ≡ stopped e → ⊥
-not_stopped n k d e h = true≢false (ap (λ a. elim a as (λ _. Bool) [ stopped g ↦ false | ended n k d ↦ true ]) h)
+pub not_stopped : (n : Module) (k : ℕ) (d : End) (e : Refusal) → ended n k d ≡ aborted e → ⊥
+not_stopped n k d e h = true≢false (ap (λ a. elim a as (λ _. Bool) [ aborted g ↦ false | ended n k d ↦ true ]) h)
 
 pub count_no_limit : (e : Refusal) → IsCount e → e ≡ BadLimit → ⊥
 count_no_limit e (inl f) h = let k : Full ≡ BadLimit = sym f ∙ h in absurd cc
 count_no_limit e (inr f) h = let k : IdsExhausted ≡ BadLimit = sym f ∙ h in absurd cc
 
 -- if an attempt is refused with anything but `Memory`, there is a next rewrite
-pub told : (a : Rewrite) (full : Type 0) (e : Refusal) → Refuses a full e → (e ≡ Memory → ⊥) → a ≢ none
-told a full e (inl h) n = absurd (n h)
-told a full e (inr (inl h)) n = λ k. not_refused a e k h
-told a full e (inr (inr h)) n = h.1.0
+pub reported : (a : Rewrite) (full : Type 0) (e : Refusal) → Refuses a full e → (e ≡ Memory → ⊥) → a ≢ none
+reported a full e (inl h) n = absurd (n h)
+reported a full e (inr (inl h)) n = λ k. not_refused a e k h
+reported a full e (inr (inr h)) n = h.1.0
 
 -- ---- rewriting by a pattern set
 module _ (pattern_set : PatternSetModel) where
@@ -107,7 +107,7 @@ module _ (pattern_set : PatternSetModel) where
   ends zero done m e = ap (λ a. ended m done (end_of a)) e
   ends (suc left) done m e = ap (λ a. go_on a m done (rewritten_from pattern_set left (done + 1))) e
 
-  stops_for : (left done : ℕ) (m : Module) (e : Refusal) → next_by pattern_set m ≡ refused e → rewritten_from pattern_set (suc left) done m ≡ stopped e
+  stops_for : (left done : ℕ) (m : Module) (e : Refusal) → next_by pattern_set m ≡ refused e → rewritten_from pattern_set (suc left) done m ≡ aborted e
   unfolding rewritten_from
   stops_for left done m e h = ap (λ a. go_on a m done (rewritten_from pattern_set left (done + 1))) h
 
@@ -155,7 +155,7 @@ module _ (pattern_set : PatternSetModel) where
 
   pub from_start : (limit : ℕ) (m : Module) → is_limit limit ≡ true → rewriting_of pattern_set limit m ≡ rewritten_from pattern_set limit 0 m
   unfolding rewriting_of
-  from_start limit m e = ap (λ b. cond b (rewritten_from pattern_set limit 0 m) (stopped BadLimit)) e
+  from_start limit m e = ap (λ b. cond b (rewritten_from pattern_set limit 0 m) (aborted BadLimit)) e
 
   pub from_start_of : (limit : ℕ) (m n : Module) → is_limit limit ≡ true → n ≡ m → rewriting_of pattern_set limit m ≡ rewritten_from pattern_set limit 0 n
   from_start_of limit m n e h = from_start limit m e ∙ ap (rewritten_from pattern_set limit 0) (sym h)
@@ -178,12 +178,12 @@ module _ (pattern_set : PatternSetModel) where
       | inr k ↦ next_count xs m e k
     ]
 
-    stop_count : (left done : ℕ) (m : Module) (e : Refusal) → rewritten_from pattern_set left done m ≡ stopped e → IsCount e
+    stop_count : (left done : ℕ) (m : Module) (e : Refusal) → rewritten_from pattern_set left done m ≡ aborted e → IsCount e
     unfolding rewritten_from
     stop_count zero done m e h = absurd (not_stopped m done (end_of (next_by pattern_set m)) e h)
     stop_count (suc left) done m e h = by (next_by pattern_set m) refl h (λ n. stop_count left (done + 1) n e)
       where
-        by : (a : Rewrite) → next_by pattern_set m ≡ a → go_on a m done (rewritten_from pattern_set left (done + 1)) ≡ stopped e → ((n : Module) → rewritten_from pattern_set left (done + 1) n ≡ stopped e → IsCount e) → IsCount e
+        by : (a : Rewrite) → next_by pattern_set m ≡ a → go_on a m done (rewritten_from pattern_set left (done + 1)) ≡ aborted e → ((n : Module) → rewritten_from pattern_set left (done + 1) n ≡ aborted e → IsCount e) → IsCount e
         by none q h more = absurd (not_stopped m done converged e h)
         by (refused f) q h more = next_count (ids m.tree) m e (q ∙ ap refused (stopped_is f e h))
         by (becomes n) q h more = more n h
@@ -194,7 +194,7 @@ module _ (pattern_set : PatternSetModel) where
       others = λ k. begun s;
     }
       where
-        begun : Stop pattern_set limit m full e → (e ≡ Memory) ⊎ ((rewriting_of pattern_set limit m ≡ stopped e) ⊎ ((e ≡ Full) × full))
+        begun : Stop pattern_set limit m full e → (e ≡ Memory) ⊎ ((rewriting_of pattern_set limit m ≡ aborted e) ⊎ ((e ≡ Full) × full))
         begun (inl h) = inl h
         begun (inr (inl h)) = inr (inl (from_start limit m t ∙ h))
         begun (inr (inr h)) = inr (inr h)

@@ -17,7 +17,7 @@ use Rattle.ir_event.specs.tree_laws.Reasons.{with_id}
 use Rattle.ir_event.specs.Modules.{Module}
 use Rattle.rewriter_machine.specs.Contents.{Edit, tests, edited, all_edited}
 use Rattle.rewriter_machine.specs.Edits.{Insert, Make, Erase, Move, SetOperand, Replace, SetAttr, DropAttr, part_for}
-use Rattle.patterns.specs.facts.Near.{Still, Opens}
+use Rattle.patterns.specs.soundness.Near.{Still, Opens}
 use Rattle.greedy.specs.Orders.{Orderly}
 use Rattle.greedy.proofs.Cuts.{second, in_either, stretch_orderly}
 use Rattle.greedy.proofs.Nearby.{Wide, widths, Near, near_headed, near_erased, near_put, near_moved}

@@ -12,7 +12,7 @@ use Rattle.ir_event.proofs.of_tree_laws.Readings.{step}
 use Rattle.ir_event.proofs.of_tree_laws.Members.{stand, itself, stand_found}
 use Rattle.ir_event.proofs.of_tree_laws.Around.{place_of_member}
 use Rattle.op_registry.specs.declared.own.Own.{Own}
-use Rattle.effects.specs.declared.kinds.EffectKinds.{EffectKinds}
+use Rattle.effects.specs.declared.effect_kinds.EffectKinds.{EffectKinds}
 use Rattle.effects.specs.Effects.{none, union, own_kinds, is_recursive, effects_by, effects, regions_effects, ops_effects}
 use Rattle.listeners_support.proofs.Left.{left_list}
 use Rattle.greedy.specs.Climbs.{recursive_at, Climbs, feels, regions_feel, ops_feel}

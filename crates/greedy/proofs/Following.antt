@@ -23,7 +23,7 @@ use Rattle.ir_event.proofs.of_tree_laws.Members.{stand, member, stand_of_member,
 use Rattle.ir_event.proofs.of_tree_laws.Put.{child}
 use Rattle.ir_event.proofs.of_tree_laws.Neighbours.{prev_there}
 use Rattle.ir_event.proofs.of_tree_laws.Around.{around_there, place_of_member, member_of_place}
-use Rattle.ir_event.proofs.of_tree_laws.Values.{shape, joined_more}
+use Rattle.ir_event.proofs.of_tree_laws.Values.{shaped_as, joined_more}
 use Rattle.greedy.proofs.Order.{after_from_rank, rises}
 use Rattle.greedy.proofs.Listed.{first_there, second_there}
 use Rattle.greedy.specs.Following.{first_id, comes_next, following, regions_from, first_inside, trailing, after_of, height_of, HasFewRegions, count_of}
@@ -228,7 +228,7 @@ module _ {N T A : Type 0} where
               around = λ b g. ap first_id here ∙ none_joined (ops_ids a.rest) (more ++ trailing p) (rest ∙ b) ∙ none_joined more (trailing p) (sym inside ∙ g) ∙ ap (λ o. first_id (after_of o)) (sym outer);
               there = subst (λ z. has_id z t ≡ true) (ap (λ (z : Place). z.parent) (sym one)) (stands_there t (stand a.parent p) around);
               lower = let l : height_of (op_with_path place.parent t) ≡ length p = ap height_of outer in let g : height_of (op_with_path x t) ≡ suc (length p) = ap height_of f ∙ ap length q in omega (arith, l, g);
-              few = λ fw. let l = region_below a.region (regions a.parent) (block a.args (joined_ops a.preceding (next s.here a.rest))) (shape t s.here a p mem) in let c = fw place.parent a.parent found in let r : place.region ≡ a.region = ap (λ (z : Place). z.region) one in omega (arith, l, c, r);
+              few = λ fw. let l = region_below a.region (regions a.parent) (block a.args (joined_ops a.preceding (next s.here a.rest))) (shaped_as t s.here a p mem) in let c = fw place.parent a.parent found in let r : place.region ≡ a.region = ap (λ (z : Place). z.region) one in omega (arith, l, c, r);
             }
 
     -- the number of regions of an operation
@@ -322,7 +322,7 @@ module _ {N T A : Type 0} where
             let mem = subst (λ l. In (stand s.here l) (stands [] t)) q k in
             let w = preceding_split y a.preceding (sym (prev_there t d s.here a p mem) ∙ ap (λ z. prev_of z t) i ∙ e) in
             let u = stand w.1 (step a.parent a.region a.args w.0 (next s.here a.rest) ∷ p) in
-            let shaped : region_at a.region (regions a.parent) ≡ Some (block a.args (joined_ops w.0 (next w.1 (next s.here a.rest)))) = shape t s.here a p mem ∙ ap (λ l. Some (block a.args l)) (ap (λ f. joined_ops f (next s.here a.rest)) w.2 ∙ joined_more w.0 w.1 (next s.here a.rest)) in
+            let shaped : region_at a.region (regions a.parent) ≡ Some (block a.args (joined_ops w.0 (next w.1 (next s.here a.rest)))) = shaped_as t s.here a p mem ∙ ap (λ l. Some (block a.args l)) (ap (λ f. joined_ops f (next s.here a.rest)) w.2 ∙ joined_more w.0 w.1 (next s.here a.rest)) in
             let there : In u (stands [] t) = within a.parent p u (child a.parent p a.region a.args (joined_ops w.0 (next w.1 (next s.here a.rest))) u shaped (ops_child a.parent p a.region a.args [] w.0 w.1 (next s.here a.rest))) [] t (around_there t s.here a p mem).1 in
             let x_in : list_any (λ z. eqb z x) (ids s.here) ≡ true = subst (λ z. list_any (λ v. eqb v z) (ids s.here) ≡ true) i (own_listed s.here) in
             subst (λ z. precedes z x t ≡ true) w.3 (comes_later u x there
@@ -355,7 +355,7 @@ module _ {N T A : Type 0} where
             let one : record { parent = (head a.parent).id; region = a.region; before = first_op a.rest } ≡ place = cc in
             let is : (head a.parent).id ≡ y = ap (λ (z : Place). z.parent) one ∙ g in
             let x_in : list_any (λ z. eqb z x) (ids s.here) ≡ true = subst (λ z. list_any (λ v. eqb v z) (ids s.here) ≡ true) i (own_listed s.here) in
-            let held = inside_regions x a.region (regions a.parent) (block a.args (joined_ops a.preceding (next s.here a.rest))) (shape t s.here a p mem) (inside_joined x a.preceding s.here a.rest x_in) in
+            let held = inside_regions x a.region (regions a.parent) (block a.args (joined_ops a.preceding (next s.here a.rest))) (shaped_as t s.here a p mem) (inside_joined x a.preceding s.here a.rest x_in) in
             subst (λ z. precedes z x t ≡ true) is (comes_later (stand a.parent p) x (around_there t s.here a p mem).1 (any_left x (regions_ids (regions a.parent)) (trailing p) held))
 
         placed : (f : Option Place) → place_of x t ≡ f → precedes y x t ≡ true
@@ -375,7 +375,7 @@ module _ {N T A : Type 0} where
         go s place (a ∷ p) q k i f =
             let mem = subst (λ l. In (stand s.here l) (stands [] t)) q k in
             let up = (around_there t s.here a p mem).1 in
-            let shaped = shape t s.here a p mem in
+            let shaped = shaped_as t s.here a p mem in
             let list : list_of (head s.here).id t ≡ Some (joined_ops a.preceding (next s.here a.rest)) =
             ap (option_and_then (λ z. ops_at z.parent z.region t)) (place_of_member t d s.here a p mem)
             ∙ ap (option_and_then (λ o. option_and_then ops_in (region_at a.region (regions o)))) (stand_found t d (stand a.parent p) up) ∙ ap (option_and_then ops_in) shaped in
@@ -417,7 +417,7 @@ module _ {N T A : Type 0} where
         let b = step a.parent a.region a.args w.0 rest in
         let u = stand w.1 (b ∷ p) in
         let shaped : region_at a.region (regions a.parent) ≡ Some (block a.args (joined_ops w.0 (next w.1 rest))) =
-        shape t o a p mem ∙ ap (λ l. Some (block a.args l)) (ap (λ f. joined_ops f (next o a.rest)) w.3 ∙ joined_split w.0 w.1 w.2 (next o a.rest)) in
+        shaped_as t o a p mem ∙ ap (λ l. Some (block a.args l)) (ap (λ f. joined_ops f (next o a.rest)) w.3 ∙ joined_split w.0 w.1 w.2 (next o a.rest)) in
         let there : In u (stands [] t) = within a.parent p u (child a.parent p a.region a.args (joined_ops w.0 (next w.1 rest)) u shaped (ops_child a.parent p a.region a.args [] w.0 w.1 rest)) [] t (around_there t o a p mem).1 in
         let x_in : list_any (λ z. eqb z (head o).id) (ops_ids rest) ≡ true = inside_joined (head o).id w.2 o a.rest (own_listed o) in
         record {

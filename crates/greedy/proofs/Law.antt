@@ -32,10 +32,10 @@ use Rattle.greedy.proofs.Edits.{names, still_stays, opens_stays, stays_orderly}
 use Rattle.greedy.proofs.Nearby.{Near, widths}
 use Rattle.greedy.proofs.Listed.{Listed, is_listed}
 use Rattle.greedy.proofs.Rootless.{unplaced}
-use Rattle.patterns.specs.facts.Soundness.{IsNear}
-use Rattle.patterns.specs.facts.Near.{AreNear, Opens, Still}
-use Rattle.patterns.proofs.of_facts.Facts.{facts, lowers_not}
-use Rattle.greedy.proofs.Starts.{Between, between, start, wide, Opened, opened}
+use Rattle.patterns.specs.soundness.Soundness.{IsNear}
+use Rattle.patterns.specs.soundness.Near.{AreNear, Opens, Still}
+use Rattle.patterns.proofs.of_facts.Facts.{soundness, lowers_not}
+use Rattle.greedy.proofs.Starts.{Between, intermediate, start, wide, Opened, opened}
 use Rattle.std.proofs.lemmas.Bool.{cases_Bool}
 use Rattle.rewriter_machine.proofs.Trees.{found_id}
 use Rattle.ir_event.proofs.of_trees.Facts.{ids_head}
@@ -98,7 +98,7 @@ module _ (m : Module) (d : HasDistinctIds m.tree) (below : All (λ y. y < m.next
       id = found_id x m.tree o f
 
       b : Between x m.tree o
-      b = between x m.tree o d f (preceding_inner x m.tree place d p)
+      b = intermediate x m.tree o d f (preceding_inner x m.tree place d p)
 
       own : ids o ≡ x ∷ regions_ids (regions o)
       own = ids_head o ∙ ap (λ y. y ∷ regions_ids (regions o)) id
@@ -136,10 +136,10 @@ module _ (m : Module) (d : HasDistinctIds m.tree) (below : All (λ y. y < m.next
       go : (a : Rewrite) → rewrite_of r m x ≡ a → (first_rule rs m x ≡ becomes n → Orderly x m n) → or_else a (first_rule rs m x) ≡ becomes n → Orderly x m n
       go none k later e = later e
       go (refused f) k later e = absurd cc
-      go (becomes p) k later e = rewrite_orderly r ((facts r).near (lowers_not r (All-head IsTried r rs h))) n (k ∙ e)
+      go (becomes p) k later e = rewrite_orderly r ((soundness r).near (lowers_not r (All-head IsTried r rs h))) n (k ∙ e)
 
   pub rewrite_tried : (r : Rule) → is_canonical r ≡ true → (n : Module) → rewrite_of r m x ≡ becomes n → Orderly x m n
-  rewrite_tried r h n e = rewrite_orderly r ((facts r).near (lowers_not r h)) n e
+  rewrite_tried r h n e = rewrite_orderly r ((soundness r).near (lowers_not r h)) n e
 
   pub highest_priority_orderly : (n : Module) → highest_priority m x ≡ becomes n → Orderly x m n
   highest_priority_orderly n e = first_orderly greedy_rules (filter_passes is_canonical all_rules) n e

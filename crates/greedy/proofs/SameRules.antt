@@ -5,7 +5,7 @@ use Rattle.ir_event.specs.types.declared.refusal.Refusal.TheVariants.{BadLimit}
 use Rattle.ir_event.specs.trees.Ids.{ids}
 use Rattle.ir_event.specs.Modules.{Module}
 use Rattle.patterns_base.specs.Rewrites.{Rewrite, none, refused, becomes}
-use Rattle.patterns_base.specs.Canonicalization.{Canonical, canonical_from, canonicalization_of, end_of, ended, first_among, go_on, greedy_rules, highest_priority, most_rewrites, next_rewrite, or_else, stopped}
+use Rattle.patterns_base.specs.Canonicalization.{Canonical, canonical_from, canonicalization_of, end_of, ended, first_among, go_on, greedy_rules, highest_priority, most_rewrites, next_rewrite, or_else, aborted}
 use Rattle.greedy.specs.PatternSet.{by_rules}
 use Rattle.greedy.specs.Rewriting.{first_by, next_by, rewritten_from, rewriting_of}
 
@@ -29,4 +29,4 @@ same_from (suc left) done m =
 
 pub same_rewriting : (limit : ℕ) (m : Module) → rewriting_of (by_rules greedy_rules) limit m ≡ canonicalization_of limit m
 unfolding rewriting_of canonicalization_of
-same_rewriting limit m = ap (λ (made : Canonical). cond (nat_le 1 limit && nat_le limit most_rewrites) made (stopped BadLimit)) (same_from limit 0 m)
+same_rewriting limit m = ap (λ (made : Canonical). cond (nat_le 1 limit && nat_le limit most_rewrites) made (aborted BadLimit)) (same_from limit 0 m)

@@ -21,8 +21,8 @@ module _ {N T A : Type 0} where
     pub is : ids t ≡ preceding ++ (ids o ++ back)
     pub extra : 1 ≤ length preceding
 
-  pub between : (x : ℕ) (t o : OpOf N T A) → HasDistinctIds t → find x t ≡ Some o → eqb (head t).id x ≡ false → Between x t o
-  between x t o d e root = record { preceding = us; back = vs; is = cut; extra = some us refl }
+  pub intermediate : (x : ℕ) (t o : OpOf N T A) → HasDistinctIds t → find x t ≡ Some o → eqb (head t).id x ≡ false → Between x t o
+  intermediate x t o d e root = record { preceding = us; back = vs; is = cut; extra = some us refl }
     where
       i : Inner x t o
       i = inner_of x t o e root
@@ -105,7 +105,7 @@ module _ {N T A : Type 0} where
   }
     where
       b : Between x t p
-      b = between x t p d e root
+      b = intermediate x t p d e root
 
       w : (inner : List ℕ) × (outer : List ℕ) × (regions_ids (regions p) ≡ inner ++ (region_ids (block args (next o os)) ++ outer))
       w = around_region r (block args (next o os)) (regions p) g

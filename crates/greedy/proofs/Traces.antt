@@ -6,7 +6,7 @@ use Rattle.ir_event.specs.tree_laws.Reads.{comes_after, precedes}
 use Rattle.ir_event.proofs.of_tree_laws.Listed.{bool_cases}
 use Rattle.ir_event.specs.Modules.{Module}
 use Rattle.patterns_base.specs.Rewrites.{Rewrite, none, refused, becomes}
-use Rattle.patterns_base.specs.Canonicalization.{End, Canonical, converged, ended, go_on, or_else, stopped}
+use Rattle.patterns_base.specs.Canonicalization.{End, Canonical, converged, ended, go_on, or_else, aborted}
 use Rattle.ir_event.specs.types.declared.refusal.Refusal.{Refusal}
 use Rattle.greedy.specs.Outcomes.{Applied}
 use Rattle.greedy.specs.Rewriting.{first_by, next_by, rewritten_from}
@@ -23,8 +23,8 @@ use Rattle.greedy.proofs.Scans.{before_here, before_later, first_waits, gave, is
 abbrev made : AppliedPattern → ℕ → ℕ → ℕ → Bool → AppliedRewrite
 made r x a b stays = record { by = r; op = x; from = a; until = b; stays = stays }
 
-pub told_as : (r : AppliedPattern) (x : ℕ) (m n : Module) (a b : ℕ) (stays : Bool) → a ≡ m.next → b ≡ n.next → stays ≡ has_id x n.tree → Some (made r x a b stays) ≡ Some (applied_rewrite r x m n)
-told_as r x m n a b stays e f h =
+pub reported_as : (r : AppliedPattern) (x : ℕ) (m n : Module) (a b : ℕ) (stays : Bool) → a ≡ m.next → b ≡ n.next → stays ≡ has_id x n.tree → Some (made r x a b stays) ≡ Some (applied_rewrite r x m n)
+reported_as r x m n a b stays e f h =
     ap (λ k. Some (made r x k b stays)) e
     ∙ ap (λ k. Some (made r x m.next k stays)) f
     ∙ ap (λ s. Some (made r x m.next n.next s)) h
@@ -44,14 +44,14 @@ module _ (pattern_set : PatternSetModel) (applied_is : IsApplied pattern_set) (m
   ]
 
   -- the trace records the entry that applies at the first waiting operation
-  pub told_there : (x p : ℕ) (a : List ℕ) (p2 : ℕ) (a2 : List ℕ) → Right pattern_set p a m → Taken x p a p2 a2 m.tree → (r : AppliedPattern) (n : Module) → Some r ≡ pattern_set.fires m x → pattern_set.comes m x ≡ becomes n → applied_next pattern_set m ≡ Some (applied_rewrite r x m n)
-  told_there x p a p2 a2 right k r n f b =
+  pub notified_there : (x p : ℕ) (a : List ℕ) (p2 : ℕ) (a2 : List ℕ) → Right pattern_set p a m → Taken x p a p2 a2 m.tree → (r : AppliedPattern) (n : Module) → Some r ≡ pattern_set.fires m x → pattern_set.comes m x ≡ becomes n → applied_next pattern_set m ≡ Some (applied_rewrite r x m n)
+  notified_there x p a p2 a2 right k r n f b =
       let steps : next_by pattern_set m ≡ becomes n = is_step pattern_set m x p a p2 a2 right k (λ e. becomes_none n (sym b ∙ e)) ∙ b in
       ap (λ w. trace_step w (site_of pattern_set m) m) steps
       ∙ ap (λ s. trace_step (becomes n) s m) (site_at x r (ids m.tree) k.there (first_waits pattern_set m x p a p2 a2 right k) (sym f))
 
-  pub told_none : next_by pattern_set m ≡ none → applied_next pattern_set m ≡ None
-  told_none e = ap (λ w. trace_step w (site_of pattern_set m) m) e
+  pub reported_none : next_by pattern_set m ≡ none → applied_next pattern_set m ≡ None
+  reported_none e = ap (λ w. trace_step w (site_of pattern_set m) m) e
 
   -- ---- the trace of a run
   pub trace_goes_on : (left : ℕ) (f : AppliedRewrite) (n : Module) → next_by pattern_set m ≡ becomes n → Some f ≡ applied_next pattern_set m → trace_of pattern_set (suc left) m ≡ f ∷ trace_of pattern_set left n
@@ -97,10 +97,10 @@ module _ (pattern_set : PatternSetModel) (applied_is : IsApplied pattern_set) (l
 
 -- ---- a trace has as many entries as there were rewrites
 count_is : (m n : Module) (j k : ℕ) (d e : End) → ended m j d ≡ ended n k e → j ≡ k
-count_is m n j k d e h = ap (λ a. elim a as (λ _. ℕ) [ stopped g ↦ 0 | ended p i c ↦ i ]) h
+count_is m n j k d e h = ap (λ a. elim a as (λ _. ℕ) [ aborted g ↦ 0 | ended p i c ↦ i ]) h
 
-not_ended : (f : Refusal) (n : Module) (k : ℕ) (e : End) → stopped f ≡ ended n k e → ⊥
-not_ended f n k e h = true≢false (ap (λ a. elim a as (λ _. Bool) [ stopped g ↦ true | ended p i c ↦ false ]) h)
+not_ended : (f : Refusal) (n : Module) (k : ℕ) (e : End) → aborted f ≡ ended n k e → ⊥
+not_ended f n k e h = true≢false (ap (λ a. elim a as (λ _. Bool) [ aborted g ↦ true | ended p i c ↦ false ]) h)
 
 module _ (pattern_set : PatternSetModel) (applied_is : IsApplied pattern_set) where
   site_there : (xs : List ℕ) (m : Module) → site_by pattern_set xs m ≡ None → first_by pattern_set xs m ≡ none

@@ -14,7 +14,7 @@ use Rattle.ir_event.proofs.of_tree_laws.Listed.{bool_cases}
 use Rattle.ir_event.proofs.of_tree_laws.Members.{stand, within, stand_found, found_stands}
 use Rattle.ir_event.proofs.of_tree_laws.Around.{place_of_member, member_of_place}
 use Rattle.op_registry.specs.declared.own.Own.{Own}
-use Rattle.effects.specs.declared.kinds.EffectKinds.{EffectKinds}
+use Rattle.effects.specs.declared.effect_kinds.EffectKinds.{EffectKinds}
 use Rattle.effects.specs.Effects.{is_recursive, effects}
 use Rattle.greedy.specs.Climbs.{recursive_at, Climbs, feels}
 use Rattle.greedy.proofs.Feeling.{climbed_from}

@@ -28,7 +28,7 @@ use Rattle.patterns_base.specs.Rewrites.{eligible}
 use Rattle.patterns_base.specs.RuleNames.{is_erasing}
 use Rattle.patterns_base.specs.declared.rule.Rule.{Rule}
 use Rattle.greedy.specs.LocalContext.{defining_op as defining_op_id}
-use Rattle.patterns.specs.facts.Alike.{ShowsAlike, last_of}
+use Rattle.patterns.specs.soundness.Alike.{ShowsAlike, last_of}
 use Rattle.listeners_support.proofs.Lasts.{split_last, last_stands}
 use Rattle.greedy.proofs.Lasting.{last_in}
 

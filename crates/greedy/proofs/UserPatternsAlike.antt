@@ -38,8 +38,8 @@ use Rattle.user_patterns_data.proofs.BoundValues.{when_some}
 use Rattle.user_patterns_data.specs.Shapes.{PatternModel}
 use Rattle.user_patterns_build.specs.CanBuild.{can_build}
 use Rattle.user_patterns_apply.specs.Built.{plan_of}
-use Rattle.patterns.specs.facts.Alike.{Same, ShowsAlike}
-use Rattle.patterns.specs.facts.Near.{Still}
+use Rattle.patterns.specs.soundness.Alike.{Same, ShowsAlike}
+use Rattle.patterns.specs.soundness.Near.{Still}
 use Rattle.user_patterns_apply.specs.Own.{edits_for, is_one, user_pattern_edits}
 use Rattle.user_patterns_data.specs.Alike.{GivesAlike, Under}
 use Rattle.user_patterns_data.specs.Depth.{is_shallow}

@@ -4,7 +4,7 @@ use Rattle.ir_event.specs.types.declared.refusal.Refusal.{Refusal}
 use Rattle.ir_event.specs.Modules.{Module}
 use Rattle.rewriter_machine.specs.Machine.{Fault, Outcome, Reply, Refused, DoneWith, Transformation}
 use Rattle.rewriter_machine.specs.Machine as machine
-use Rattle.patterns_base.specs.Canonicalization.{End, converged, limited, Canonical, stopped, ended}
+use Rattle.patterns_base.specs.Canonicalization.{End, converged, limited, Canonical, aborted, ended}
 use Rattle.patterns_base.specs.Canonicalization.{canonicalization_of}
 use Rattle.greedy.specs.Rewriting.{rewriting_of}
 use Rattle.greedy.specs.PatternSet.{PatternSetModel}
@@ -19,7 +19,7 @@ outcome_of k limited = machine.Limited k
 -- the outcome and the new module, or the reason of the refusal
 abbrev pub made_of : Canonical → Result (Outcome × Module) Fault
 made_of (ended m k e) = Ok (outcome_of k e, m)
-made_of (stopped e) = Err (record { refusal = e; op = None })
+made_of (aborted e) = Err (record { refusal = e; op = None })
 
 -- the transformation that makes at most `limit` rewrites; it may intern names, types and attributes
 abbrev pub canonicalizing : ℕ → Transformation

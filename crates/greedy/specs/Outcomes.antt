@@ -4,7 +4,7 @@ use Rattle.ir_event.specs.types.declared.refusal.Refusal.{Refusal}
 use Rattle.ir_event.specs.types.declared.refusal.Refusal.TheVariants.{Memory, BadLimit, Full}
 use Rattle.ir_event.specs.Modules.{Module}
 use Rattle.patterns_base.specs.Rewrites.{Rewrite, none, refused, becomes}
-use Rattle.patterns_base.specs.Canonicalization.{Canonical, End, converged, limited, stopped, ended}
+use Rattle.patterns_base.specs.Canonicalization.{Canonical, End, converged, limited, aborted, ended}
 use Rattle.patterns_base.specs.Canonicalization.{canonicalization_of, most_rewrites}
 use Rattle.greedy.specs.Rewriting.{rewritten_from, rewriting_of}
 use Rattle.greedy.specs.PatternSet.{PatternSetModel}
@@ -43,7 +43,7 @@ ComeTo a limit m o n = rewritten_from a limit 0 m ≡ ended n (count_of o) (endi
 -- the rewrites are refused because memory runs out, because the definition refuses one, or because no more can be
 -- interned
 abbrev pub Stop : PatternSetModel → ℕ → Module → Type 0 → Refusal → Type 0
-Stop a limit m is_full e = (e ≡ Memory) ⊎ ((rewritten_from a limit 0 m ≡ stopped e) ⊎ ((e ≡ Full) × is_full))
+Stop a limit m is_full e = (e ≡ Memory) ⊎ ((rewritten_from a limit 0 m ≡ aborted e) ⊎ ((e ≡ Full) × is_full))
 
 -- rewriting module m by a pattern set ends with an outcome and module n
 abbrev pub IsRewriting : PatternSetModel → ℕ → Module → Outcome → Module → Type 0
@@ -61,7 +61,7 @@ is_limit limit = nat_le 1 limit && nat_le limit most_rewrites
 -- memory runs out, because the definition refuses it, or because no more can be interned
 pub record IsReasonFor (due : Canonical) (limit : ℕ) (is_full : Type 0) (e : Refusal) : Type 0 where
   pub limited : (e ≡ BadLimit) ↔ (is_limit limit ≡ false)
-  pub others : is_limit limit ≡ true → (e ≡ Memory) ⊎ ((due ≡ stopped e) ⊎ ((e ≡ Full) × is_full))
+  pub others : is_limit limit ≡ true → (e ≡ Memory) ⊎ ((due ≡ aborted e) ⊎ ((e ≡ Full) × is_full))
 
 -- why the canonicalization of module m is refused
 abbrev pub IsReason : ℕ → Module → Type 0 → Refusal → Type 0

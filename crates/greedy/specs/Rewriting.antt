@@ -6,7 +6,7 @@ use Rattle.ir_event.specs.types.declared.refusal.Refusal.TheVariants.{BadLimit}
 use Rattle.ir_event.specs.trees.Ids.{ids}
 use Rattle.ir_event.specs.Modules.{Module}
 use Rattle.patterns_base.specs.Rewrites.{Rewrite, none}
-use Rattle.patterns_base.specs.Canonicalization.{or_else, greedy_rules, Canonical, stopped, ended, end_of, go_on}
+use Rattle.patterns_base.specs.Canonicalization.{or_else, greedy_rules, Canonical, aborted, ended, end_of, go_on}
 use Rattle.patterns_base.specs.Canonicalization.{canonicalization_of, most_rewrites}
 use Rattle.greedy.specs.PatternSet.{PatternSetModel, by_rules}
 
@@ -27,7 +27,7 @@ rewritten_from a (suc left) done m = go_on (next_by a m) m done (rewritten_from 
 -- at most a number of rewrites of a module
 unfoldable pub rewriting_of : PatternSetModel → ℕ → Module → Canonical
 rewriting_of a limit m =
-    if nat_le 1 limit && nat_le limit most_rewrites then rewritten_from a limit 0 m else stopped BadLimit
+    if nat_le 1 limit && nat_le limit most_rewrites then rewritten_from a limit 0 m else aborted BadLimit
 
 -- rewriting by the rules of canonicalization is canonicalization
 abbrev pub IsOfItsRules : Type 0

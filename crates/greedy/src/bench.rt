@@ -160,10 +160,10 @@ impl<L: Analysis> GreedyRewriter for Bench<L> {
         candidates: &[RuleOrPattern<'_>],
         op: OpId,
     ) -> Result<Option<AppliedPattern>, Refusal> {
-        let told = apply_first_pattern(alloc, self, candidates, op);
+        let reported = apply_first_pattern(alloc, self, candidates, op);
         Bench::is_wellformed(self);
-        match told {
-            Ok(told) => Ok(told),
+        match reported {
+            Ok(reported) => Ok(reported),
             Err(refusal) => Err(refusal),
         }
     }

@@ -16,7 +16,7 @@ use std::alloc::Global;
 
 /// Converts a rule to the `AppliedPattern` that a trace records.
 fn applied_pattern_of_rule(rule: Option<Rule>) -> Option<AppliedPattern>
-    ensures told { result ≡ option_map by.Rule rule }
+    ensures reported { result ≡ option_map by.Rule rule }
     ensures some { is_some result ≡ is_some rule }
 {
     match rule {
@@ -55,7 +55,7 @@ pub(crate) fn apply_first<R: GreedyRewriter>(
             Err(refusal) => Err(refusal),
         },
         PatternSet::Patterns(candidates) => match bench.apply_first_pattern(alloc, candidates, op) {
-            Ok(told) => Ok(told),
+            Ok(reported) => Ok(reported),
             Err(refusal) => Err(refusal),
         },
     }

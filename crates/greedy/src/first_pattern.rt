@@ -100,11 +100,11 @@ pub(crate) fn apply_first_pattern<L: Analysis>(
     let mut place = 0;
     let mut rest = candidates;
     'candidates: while let [first, tail @ ..] = rest {
-        let told = applied_pattern(place, first);
+        let reported = applied_pattern(place, first);
         let done = apply_pattern(alloc, bench, first, op);
         bench.is_wellformed();
         match done {
-            Ok(true) => return Ok(Some(told)),
+            Ok(true) => return Ok(Some(reported)),
             Ok(false) => {}
             Err(refusal) => return Err(refusal),
         }

@@ -17,7 +17,7 @@ pub trait Tracer {
 
     /// Records one rewrite.
     fn record_rewrite(&mut self, applied: AppliedRewrite) -> Result<(), Refusal>
-        ensures told { OnOk result (traced (applied ∷ []) self.old self.new) }
+        ensures reported { OnOk result (traced (applied ∷ []) self.old self.new) }
         ensures refused { IfErr result (λ e. e ≡ NoMemory) };
 }
 

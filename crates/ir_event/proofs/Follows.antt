@@ -48,8 +48,8 @@ follow_none c m a = record {
   notified = inl (grown_none a.notified);
 }
 
-pub follow_told : (e : Event) (c : ContextModel) (m n : Module) (shown : ℕ → Option Node) (a b : Listener) → Step c e m n → ShowsTaken e m shown → Notified e c n shown a b → Followed (e ∷ []) c m c n a b
-follow_told e c m n shown a b step shows told = record { same = told.same; agrees = told.agrees m step shows; stale = told.stale; notified = told.notified }
+pub follow_notified : (e : Event) (c : ContextModel) (m n : Module) (shown : ℕ → Option Node) (a b : Listener) → Step c e m n → ShowsTaken e m shown → Notified e c n shown a b → Followed (e ∷ []) c m c n a b
+follow_notified e c m n shown a b step shows reported = record { same = reported.same; agrees = reported.agrees m step shows; stale = reported.stale; notified = reported.notified }
 
 pub follow_more : (es fs : List Event) (c d f : ContextModel) (m n p : Module) (x y z : Listener) →
     Followed es c m d n x y → Followed fs d n f p y z → Followed (es ++ fs) c m f p x z
@@ -66,8 +66,8 @@ module _ {B : Type 0} (meaning : B → Listener) where
   pub all_none : (c : ContextModel) (m : Module) (xs : List B) → AllFollowed meaning [] c m c m xs xs
   all_none c m xs = zip_self _ (λ b. follow_none c m (meaning b)) xs
 
-  pub all_told : (e : Event) (c : ContextModel) (m n : Module) (shown : ℕ → Option Node) (xs ys : List B) → Step c e m n → ShowsTaken e m shown → AllNotified meaning e c n shown xs ys → AllFollowed meaning (e ∷ []) c m c n xs ys
-  all_told e c m n shown xs ys step shows h = zip_map _ _ (λ a b. follow_told e c m n shown (meaning a) (meaning b) step shows) xs ys h
+  pub all_notified : (e : Event) (c : ContextModel) (m n : Module) (shown : ℕ → Option Node) (xs ys : List B) → Step c e m n → ShowsTaken e m shown → AllNotified meaning e c n shown xs ys → AllFollowed meaning (e ∷ []) c m c n xs ys
+  all_notified e c m n shown xs ys step shows h = zip_map _ _ (λ a b. follow_notified e c m n shown (meaning a) (meaning b) step shows) xs ys h
 
   pub all_more : (es fs : List Event) (c d f : ContextModel) (m n p : Module) (xs ys zs : List B) →
       AllFollowed meaning es c m d n xs ys → AllFollowed meaning fs d n f p ys zs → AllFollowed meaning (es ++ fs) c m f p xs zs

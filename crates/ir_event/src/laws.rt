@@ -47,7 +47,7 @@ pub fn operands_are_set_by_steps()
 /// Being notified of events one after another is following them.
 pub fn notified_listeners_agree<L: Analysis>()
     ensures kept { (e : Edit) (c : ContextModel) (m n : Module) (shown : ℕ → Option Node) (xs ys : List L) → Step c e m n → ShowsTaken e m shown → AllNotified L.meaning e c n shown xs ys → AllKept L.meaning c m xs → AllKept L.meaning c n ys }
-    ensures kinds { (e : Edit) (c : ContextModel) (m n : Module) (shown : ℕ → Option Node) (xs ys : List L) → Step c e m n → ShowsTaken e m shown → AllNotified L.meaning e c n shown xs ys → kinds_of L.meaning ys ≡ kinds_of L.meaning xs }
+    ensures analysis_kinds { (e : Edit) (c : ContextModel) (m n : Module) (shown : ℕ → Option Node) (xs ys : List L) → Step c e m n → ShowsTaken e m shown → AllNotified L.meaning e c n shown xs ys → kinds_of L.meaning ys ≡ kinds_of L.meaning xs }
     ensures one { (e : Edit) (c : ContextModel) (m n : Module) (shown : ℕ → Option Node) (xs ys : List L) → Step c e m n → ShowsTaken e m shown → AllNotified L.meaning e c n shown xs ys → AllFollowed L.meaning (e ∷ []) c m c n xs ys }
     ensures more { (es fs : List Edit) (c d f : ContextModel) (m n p : Module) (xs ys zs : List L) → AllFollowed L.meaning es c m d n xs ys → AllFollowed L.meaning fs d n f p ys zs → AllFollowed L.meaning (es ++ fs) c m f p xs zs }
     ensures followed { (es : List Edit) (c d : ContextModel) (m n : Module) (xs ys : List L) → AllFollowed L.meaning es c m d n xs ys → AllKept L.meaning c m xs → AllKept L.meaning d n ys }

@@ -27,7 +27,7 @@ use Rattle.ir_store.proofs.Taking.{IsLeaf, cut_spells, cut_right, cut_holds, cut
 use Rattle.ir_store.proofs.OneRow.{put_long, put_own, put_other}
 
 abbrev pub rows_in : Inside → List Row
-rows_in a = a.rows
+rows_in a = a.slots
 
 abbrev pub keys_in : Inside → ℕ → Option ℕ
 keys_in a = finmap.get a.keys
@@ -47,49 +47,49 @@ same_inside a x y z = λ i. record a {
 }
 
 -- an operation is taken out
-module _ (a : Inside) (r : IsRight a) (x k : ℕ) (leaf : IsLeaf (rows_in a) a.sibs.lists a.root x k) (rows' : List Row) (er : rows' ≡ set (rows_in a) k (record (row_at (rows_in a) k) { live = false }))
+module _ (a : Inside) (r : IsRight a) (x k : ℕ) (leaf : IsLeaf (rows_in a) a.sibs.lists a.root x k) (slots' : List Row) (er : slots' ≡ set (rows_in a) k (record (row_at (rows_in a) k) { live = false }))
     (sibs' : Lists) (el : sibs'.lists ≡ map (drop_node k) a.sibs.lists) (eh : sibs'.homes ≡ set a.sibs.homes k free) where
-  long' : length rows' ≡ length (rows_in a)
-  long' = put_long (rows_in a) rows' k (record (row_at (rows_in a) k) { live = false }) er
+  long' : length slots' ≡ length (rows_in a)
+  long' = put_long (rows_in a) slots' k (record (row_at (rows_in a) k) { live = false }) er
 
-  others : (q : ℕ) → (q ≡ k → ⊥) → row_at rows' q ≡ row_at (rows_in a) q
-  others = put_other (rows_in a) rows' k (record (row_at (rows_in a) k) { live = false }) er
+  others : (q : ℕ) → (q ≡ k → ⊥) → row_at slots' q ≡ row_at (rows_in a) q
+  others = put_other (rows_in a) slots' k (record (row_at (rows_in a) k) { live = false }) er
 
-  gone_row : row_at rows' k ≡ record (row_at (rows_in a) k) { live = false }
-  gone_row = put_own (rows_in a) rows' k (record (row_at (rows_in a) k) { live = false }) er leaf.found.inside
+  gone_row : row_at slots' k ≡ record (row_at (rows_in a) k) { live = false }
+  gone_row = put_own (rows_in a) slots' k (record (row_at (rows_in a) k) { live = false }) er leaf.found.inside
 
   pub cut_item : IsItem a.sibs.homes k
   cut_item = (r.items k leaf.found.live leaf.inner).item
 
-  spells : SpellsOp rows' sibs'.lists a.root (without x a.represented.0)
-  spells = cut_spells (rows_in a) (keys_in a) a.sibs a.root a.represented.0 r a.represented.1 x k leaf rows' long' others gone_row sibs' el eh
+  spells : SpellsOp slots' sibs'.lists a.root (without x a.represented.0)
+  spells = cut_spells (rows_in a) (keys_in a) a.sibs a.root a.represented.0 r a.represented.1 x k leaf slots' long' others gone_row sibs' el eh
 
-  pub cut_tree : (w : Represented rows' sibs'.lists a.root) → w.0 ≡ without x a.represented.0
-  cut_tree w = rendered_is rows' sibs'.lists a.root w (without x a.represented.0) spells
+  pub cut_tree : (w : Represented slots' sibs'.lists a.root) → w.0 ≡ without x a.represented.0
+  cut_tree w = rendered_is slots' sibs'.lists a.root w (without x a.represented.0) spells
 
-  pub right_after : (w : Represented rows' sibs'.lists a.root) → Right rows' (keys_in a) sibs' a.root w.0
-  right_after w = subst (Right rows' (keys_in a) sibs' a.root) (sym (rendered_is rows' sibs'.lists a.root w (without x a.represented.0) spells))
-      (cut_right (rows_in a) (keys_in a) a.sibs a.root a.represented.0 r a.represented.1 x k leaf rows' long' others gone_row sibs' el eh)
+  pub right_after : (w : Represented slots' sibs'.lists a.root) → Right slots' (keys_in a) sibs' a.root w.0
+  right_after w = subst (Right slots' (keys_in a) sibs' a.root) (sym (rendered_is slots' sibs'.lists a.root w (without x a.represented.0) spells))
+      (cut_right (rows_in a) (keys_in a) a.sibs a.root a.represented.0 r a.represented.1 x k leaf slots' long' others gone_row sibs' el eh)
 
   taken : (o : Op) × ((find x a.represented.0 ≡ Some o) × SpellsOp (rows_in a) a.sibs.lists k o)
   taken = found_op (rows_in a) (keys_in a) a.sibs a.root a.represented.0 r a.represented.1 x k leaf.found
 
-  holds : (y : ℕ) → finmap.get (finmap.insert a.holds.0 x taken.0) y ≡ held_in rows' (keys_in a y)
-  holds = cut_holds (rows_in a) (keys_in a) a.sibs a.root a.represented.0 r a.represented.1 x k leaf rows' long' others gone_row sibs' el eh a.holds.0 a.holds.1 taken.0 taken.1.1
+  holds : (y : ℕ) → finmap.get (finmap.insert a.holds.0 x taken.0) y ≡ held_in slots' (keys_in a y)
+  holds = cut_holds (rows_in a) (keys_in a) a.sibs a.root a.represented.0 r a.represented.1 x k leaf slots' long' others gone_row sibs' el eh a.holds.0 a.holds.1 taken.0 taken.1.1
 
-  lacks : (y : ℕ) → finmap.get a.lacks.0 y ≡ gone_in rows' (keys_in a y)
-  lacks y = a.lacks.1 y ∙ cut_gone (rows_in a) (keys_in a) a.sibs a.root a.represented.0 r a.represented.1 x k leaf rows' long' others gone_row sibs' el eh y
+  lacks : (y : ℕ) → finmap.get a.lacks.0 y ≡ gone_in slots' (keys_in a y)
+  lacks y = a.lacks.1 y ∙ cut_gone (rows_in a) (keys_in a) a.sibs a.root a.represented.0 r a.represented.1 x k leaf slots' long' others gone_row sibs' el eh y
 
   -- the ghost fields of the store after the call
-  pub cut_given : Represented rows' sibs'.lists a.root × (HoldsOf rows' (keys_in a) × (GoneOf rows' (keys_in a) × Unit {0}))
+  pub cut_given : Represented slots' sibs'.lists a.root × (HoldsOf slots' (keys_in a) × (GoneOf slots' (keys_in a) × Unit {0}))
   cut_given = ((without x a.represented.0, spells), ((finmap.insert a.holds.0 x taken.0, holds), ((a.lacks.0, lacks), tt)))
 
-  pub cut_done : (w : Represented rows' sibs'.lists a.root) (h : HoldsOf rows' (keys_in a)) (g : GoneOf rows' (keys_in a))
+  pub cut_done : (w : Represented slots' sibs'.lists a.root) (h : HoldsOf slots' (keys_in a)) (g : GoneOf slots' (keys_in a))
       → ◌≡◌ {A = Stored} (record { module_of = record { tree = w.0; next = a.next }; held = h.0; gone = g.0 }) (after_take x (stored a))
   cut_done w h g =
-      let e1 = rendered_is rows' sibs'.lists a.root w (without x a.represented.0) spells in
-      let e2 = map_is (λ y. held_in rows' (keys_in a y)) h (finmap.insert a.holds.0 x taken.0) holds ∙ ap (λ z. hold x z a.holds.0) (sym taken.1.0) in
-      let e3 = map_is (λ y. gone_in rows' (keys_in a y)) g a.lacks.0 lacks in
+      let e1 = rendered_is slots' sibs'.lists a.root w (without x a.represented.0) spells in
+      let e2 = map_is (λ y. held_in slots' (keys_in a y)) h (finmap.insert a.holds.0 x taken.0) holds ∙ ap (λ z. hold x z a.holds.0) (sym taken.1.0) in
+      let e3 = map_is (λ y. gone_in slots' (keys_in a y)) g a.lacks.0 lacks in
       λ i. record { module_of = record { tree = e1 i; next = a.next }; held = e2 i; gone = e3 i }
 
 -- an operation is read

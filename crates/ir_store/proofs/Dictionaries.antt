@@ -43,8 +43,8 @@ pub inner_part : (part : Part) (f : List (ℕ × ℕ) → List (ℕ × ℕ)) →
 inner_part Props f = record { id = λ h. refl; operands = λ h. refl; results = λ h. refl }
 inner_part Attrs f = record { id = λ h. refl; operands = λ h. refl; results = λ h. refl }
 
-same_head : (rows : List Row) (lists : List (List ℕ)) (k : ℕ) (o : Op) → SpellsOp rows lists k o → (row_at rows k).head ≡ head o
-same_head rows lists k (op h rs) w = w.1.0
+same_head : (slots : List Row) (lists : List (List ℕ)) (k : ℕ) (o : Op) → SpellsOp slots lists k o → (row_at slots k).head ≡ head o
+same_head slots lists k (op h rs) w = w.1.0
 
 -- a key to remove is present
 pub there_before : (before : ℕ → ℕ → Bool) (j : ℕ) (v : Option ℕ) (es : List (ℕ × ℕ)) → entry_reason before j v es ≡ None → v ≡ None → is_some (entry_at before j es) ≡ true

@@ -22,19 +22,19 @@ last_or : (xs : List ℕ) (other : Option ℕ) → first_of (last_of None xs) ot
 last_or [] other = refl
 last_or (x ∷ xs) other = some_later x xs other
 
-module _ (rows : List Row) (lists : List (List ℕ)) where
+module _ (slots : List Row) (lists : List (List ℕ)) where
   -- ids end with those of the operation in a slot, or there are no ids
   abbrev pub EndsWith : Option ℕ → List ℕ → Type 0
   EndsWith None xs = xs ≡ []
-  EndsWith (Some k) xs = (ys : List ℕ) × (o : Op) × SpellsOp rows lists k o × (xs ≡ ys ++ ids o)
+  EndsWith (Some k) xs = (ys : List ℕ) × (o : Op) × SpellsOp slots lists k o × (xs ≡ ys ++ ids o)
 
-  ops_end : (other : Option ℕ) (zs : List ℕ) → EndsWith other zs → (ks : List ℕ) (os : Ops) → SpellsOps rows lists ks os → EndsWith (last_of other ks) (zs ++ ops_ids os)
+  ops_end : (other : Option ℕ) (zs : List ℕ) → EndsWith other zs → (ks : List ℕ) (os : Ops) → SpellsOps slots lists ks os → EndsWith (last_of other ks) (zs ++ ops_ids os)
   ops_end other zs w [] no_ops s = subst (EndsWith other) (sym (append-nil zs)) w
   ops_end other zs w [] (next o os) s = absurd s
   ops_end other zs w (k ∷ ks) no_ops s = absurd s
   ops_end other zs w (k ∷ ks) (next o os) s = subst (EndsWith (last_of (Some k) ks)) (append_assoc zs (ids o) (ops_ids os)) (ops_end (Some k) (zs ++ ids o) (zs, o, s.0, refl) ks os s.1)
 
-  regions_end : (other : Option ℕ) (zs : List ℕ) → EndsWith other zs → (xs : List RegionShape) (rs : Regions) → SpellsRegions rows lists xs rs → EndsWith (last_in lists other xs) (zs ++ regions_ids rs)
+  regions_end : (other : Option ℕ) (zs : List ℕ) → EndsWith other zs → (xs : List RegionShape) (rs : Regions) → SpellsRegions slots lists xs rs → EndsWith (last_in lists other xs) (zs ++ regions_ids rs)
   regions_end other zs w [] no_regions s = subst (EndsWith other) (sym (append-nil zs)) w
   regions_end other zs w [] (region g rs) s = absurd s
   regions_end other zs w (a ∷ xs) no_regions s = absurd s
@@ -45,8 +45,8 @@ module _ (rows : List Row) (lists : List (List ℕ)) where
       subst (EndsWith (last_in lists (later lists other (Some a)) xs)) (append_assoc zs (ops_ids os) (regions_ids rs))
       (regions_end (later lists other (Some a)) (zs ++ ops_ids os) (subst (λ z. EndsWith z (zs ++ ops_ids os)) (sym (last_or (list_at lists a.1) other)) (ops_end other zs w (list_at lists a.1) os s.0.1)) xs rs s.1)
 
-  op_end : (k : ℕ) (o : Op) → SpellsOp rows lists k o → (rest : List ℕ) × (ids o ≡ (row_at rows k).head.id ∷ rest) × EndsWith (last_in lists None (row_at rows k).shapes) rest
-  op_end k (op h rs) s = (regions_ids rs, ap (λ z. z.id ∷ regions_ids rs) (sym s.1.0), regions_end None [] refl (row_at rows k).shapes rs s.1.1)
+  op_end : (k : ℕ) (o : Op) → SpellsOp slots lists k o → (rest : List ℕ) × (ids o ≡ (row_at slots k).head.id ∷ rest) × EndsWith (last_in lists None (row_at slots k).shapes) rest
+  op_end k (op h rs) s = (regions_ids rs, ap (λ z. z.id ∷ regions_ids rs) (sym s.1.0), regions_end None [] refl (row_at slots k).shapes rs s.1.1)
 
 module _ (a : Inside) (w : Whole a) (x k : ℕ) (ek : Some k ≡ live_slot (rows_in a) (keys_in a) x) where
   abbrev t : Op

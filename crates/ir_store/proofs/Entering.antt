@@ -37,51 +37,51 @@ retold f g r = record r { head = f r.head; gone = g r.gone }
 pub same_at : (x : ℕ) (f : Head → Head) → Inner f → (h : Head) → (at x f h).id ≡ h.id
 same_at x f inner h = cond_both (eqb h.id x) (f h) h (λ z. z.id ≡ h.id) (λ _. inner.id h) (λ _. refl)
 
-module _ (rows : List Row) (keys : ℕ → Option ℕ) (sibs : Lists) (root : ℕ) (t : Op) (r : Right rows keys sibs root t) (s : SpellsOp rows sibs.lists root t)
-    (x k : ℕ) (fd : Found rows x k) (f : Head → Head) (g : Gone → Gone) (inner : Inner f) (rows' : List Row) (long' : length rows' ≡ length rows)
-    (same : (q : ℕ) → (q ≡ k → ⊥) → row_at rows' q ≡ row_at rows q) (own : row_at rows' k ≡ retold f g (row_at rows k)) where
-  alone : (q : ℕ) → Live rows q → (row_at rows q).head.id ≡ x → q ≡ k
-  alone = only rows keys sibs root t r s x k fd.live fd.id
+module _ (slots : List Row) (keys : ℕ → Option ℕ) (sibs : Lists) (root : ℕ) (t : Op) (r : Right slots keys sibs root t) (s : SpellsOp slots sibs.lists root t)
+    (x k : ℕ) (fd : Found slots x k) (f : Head → Head) (g : Gone → Gone) (inner : Inner f) (slots' : List Row) (long' : length slots' ≡ length slots)
+    (same : (q : ℕ) → (q ≡ k → ⊥) → row_at slots' q ≡ row_at slots q) (own : row_at slots' k ≡ retold f g (row_at slots k)) where
+  alone : (q : ℕ) → Live slots q → (row_at slots q).head.id ≡ x → q ≡ k
+  alone = only slots keys sibs root t r s x k fd.live fd.id
 
-  kept : {A : Type 0} (p : Row → A) → p (retold f g (row_at rows k)) ≡ p (row_at rows k) → (q : ℕ) → p (row_at rows' q) ≡ p (row_at rows q)
+  kept : {A : Type 0} (p : Row → A) → p (retold f g (row_at slots k)) ≡ p (row_at slots k) → (q : ℕ) → p (row_at slots' q) ≡ p (row_at slots q)
   kept p e q = ⊎_elim
-      (λ z. ap (λ w. p (row_at rows' w)) z ∙ ap p own ∙ e ∙ ap (λ w. p (row_at rows w)) (sym z))
+      (λ z. ap (λ w. p (row_at slots' w)) z ∙ ap p own ∙ e ∙ ap (λ w. p (row_at slots w)) (sym z))
       (λ n. ap p (same q n)) (cases_eq q k)
 
-  live_is : (q : ℕ) → (row_at rows' q).live ≡ (row_at rows q).live
+  live_is : (q : ℕ) → (row_at slots' q).live ≡ (row_at slots q).live
   live_is = kept (λ z. z.live) refl
 
-  id_is : (q : ℕ) → (row_at rows' q).head.id ≡ (row_at rows q).head.id
-  id_is = kept (λ z. z.head.id) (inner.id (row_at rows k).head)
+  id_is : (q : ℕ) → (row_at slots' q).head.id ≡ (row_at slots q).head.id
+  id_is = kept (λ z. z.head.id) (inner.id (row_at slots k).head)
 
-  shapes_are : (q : ℕ) → (row_at rows' q).shapes ≡ (row_at rows q).shapes
+  shapes_are : (q : ℕ) → (row_at slots' q).shapes ≡ (row_at slots q).shapes
   shapes_are = kept (λ z. z.shapes) refl
 
-  operands_are : (q : ℕ) → (row_at rows' q).head.operands ≡ (row_at rows q).head.operands
-  operands_are = kept (λ z. z.head.operands) (inner.operands (row_at rows k).head)
+  operands_are : (q : ℕ) → (row_at slots' q).head.operands ≡ (row_at slots q).head.operands
+  operands_are = kept (λ z. z.head.operands) (inner.operands (row_at slots k).head)
 
-  used_to : (q : ℕ) → Used rows q → Used rows' q
+  used_to : (q : ℕ) → Used slots q → Used slots' q
   used_to q u = record { used = kept (λ z. z.used) refl q ∙ u.used }
 
-  used_from : (q : ℕ) → Used rows' q → Used rows q
+  used_from : (q : ℕ) → Used slots' q → Used slots q
   used_from q u = record { used = sym (kept (λ z. z.used) refl q) ∙ u.used }
 
-  was : (q : ℕ) → Live rows' q → Live rows q
+  was : (q : ℕ) → Live slots' q → Live slots q
   was q l = record { live = sym (live_is q) ∙ l.live }
 
-  pub retold_spells : SpellsOp rows' sibs.lists root (each_head (at x f) t)
-  retold_spells = map_spells rows rows' (at x f) sibs.lists
+  pub retold_spells : SpellsOp slots' sibs.lists root (each_head (at x f) t)
+  retold_spells = map_spells slots slots' (at x f) sibs.lists
       (λ q l. record {
         live = live_is q ∙ l.live;
         shapes = shapes_are q;
         head = ⊎_elim
-            (λ e. subst (λ z. (row_at rows' z).head ≡ at x f (row_at rows z).head) (sym e)
-            (ap (λ z. z.head) own ∙ sym (cond-true (eqb (row_at rows k).head.id x) (f (row_at rows k).head) (row_at rows k).head (eq-eqb (row_at rows k).head.id x fd.id))))
-            (λ n. ap (λ z. z.head) (same q n) ∙ sym (cond-false (eqb (row_at rows q).head.id x) (f (row_at rows q).head) (row_at rows q).head (ne_eqb (row_at rows q).head.id x (λ z. n (alone q l z)))))
+            (λ e. subst (λ z. (row_at slots' z).head ≡ at x f (row_at slots z).head) (sym e)
+            (ap (λ z. z.head) own ∙ sym (cond-true (eqb (row_at slots k).head.id x) (f (row_at slots k).head) (row_at slots k).head (eq-eqb (row_at slots k).head.id x fd.id))))
+            (λ n. ap (λ z. z.head) (same q n) ∙ sym (cond-false (eqb (row_at slots q).head.id x) (f (row_at slots q).head) (row_at slots q).head (ne_eqb (row_at slots q).head.id x (λ z. n (alone q l z)))))
             (cases_eq q k);
       }) root t s
 
-  pub retold_right : Right rows' keys sibs root (each_head (at x f) t)
+  pub retold_right : Right slots' keys sibs root (each_head (at x f) t)
   retold_right = record {
     few = r.few;
     long = long' ∙ r.long;
@@ -98,54 +98,54 @@ module _ (rows : List Row) (keys : ℕ → Option ℕ) (sibs : Lists) (root : �
         record { out = old.out; bare = λ i a e. old.bare i a (sym (ap (λ z. slice_get z i) (shapes_are q)) ∙ e) };
     covers = λ q l.
         ap (λ z. has_id z (each_head (at x f) t)) (id_is q)
-        ∙ sym (has_is (row_at rows q).head.id (each_head (at x f) t)) ∙ has_each (at x f) (same_at x f inner) (row_at rows q).head.id t ∙ has_is (row_at rows q).head.id t ∙ r.covers q (was q l);
+        ∙ sym (has_is (row_at slots q).head.id (each_head (at x f) t)) ∙ has_each (at x f) (same_at x f inner) (row_at slots q).head.id t ∙ has_is (row_at slots q).head.id t ∙ r.covers q (was q l);
   }
 
-  pub retold_holds : (y : ℕ) → held_in rows (keys y) ≡ held_in rows' (keys y)
+  pub retold_holds : (y : ℕ) → held_in slots (keys y) ≡ held_in slots' (keys y)
   retold_holds y = go (keys y)
     where
-      go : (o : Option ℕ) → held_in rows o ≡ held_in rows' o
+      go : (o : Option ℕ) → held_in slots o ≡ held_in slots' o
       go None = refl
       go (Some q) = ⊎_elim
-          (λ e. let l : (row_at rows q).live ≡ true = ap (λ z. (row_at rows z).live) e ∙ fd.live.live in let l' : (row_at rows' q).live ≡ true = live_is q ∙ l in rw (l, l') refl)
+          (λ e. let l : (row_at slots q).live ≡ true = ap (λ z. (row_at slots z).live) e ∙ fd.live.live in let l' : (row_at slots' q).live ≡ true = live_is q ∙ l in rw (l, l') refl)
           (λ n. rw (same q n) refl) (cases_eq q k)
 
   at_key : keys x ≡ Some k
   at_key = ap keys (sym fd.id) ∙ r.keyed k (r.live_used k fd.live)
 
-  pub retold_gone : (m : finmap.FinMap nat_cmp Gone) → ((y : ℕ) → finmap.get m y ≡ gone_in rows (keys y)) → (y : ℕ) → finmap.get (change_gone_of x g (finmap.get m x) m) y ≡ gone_in rows' (keys y)
+  pub retold_gone : (m : finmap.FinMap nat_cmp Gone) → ((y : ℕ) → finmap.get m y ≡ gone_in slots (keys y)) → (y : ℕ) → finmap.get (change_gone_of x g (finmap.get m x) m) y ≡ gone_in slots' (keys y)
   retold_gone m h y =
-      let own_gone : finmap.get m x ≡ Some (row_at rows k).gone = h x ∙ ap (gone_in rows) at_key in
-      let new_gone : Gone = g (row_at rows k).gone in
+      let own_gone : finmap.get m x ≡ Some (row_at slots k).gone = h x ∙ ap (gone_in slots) at_key in
+      let new_gone : Gone = g (row_at slots k).gone in
       ap (λ z. finmap.get (change_gone_of x g z m) y) own_gone ∙ finmap.get-insert nat_cmp_total m x new_gone y ∙ ap (λ b. cond b (Some new_gone) (finmap.get m y)) (eq_nat y x) ∙ ⊎_elim
-      (λ e. cond-true (eqb y x) (Some new_gone) (finmap.get m y) (eq-eqb y x e) ∙ ap Some (sym (ap (λ z. z.gone) own)) ∙ ap (gone_in rows') (sym (ap keys e ∙ at_key)))
+      (λ e. cond-true (eqb y x) (Some new_gone) (finmap.get m y) (eq-eqb y x e) ∙ ap Some (sym (ap (λ z. z.gone) own)) ∙ ap (gone_in slots') (sym (ap keys e ∙ at_key)))
       (λ n. cond-false (eqb y x) (Some new_gone) (finmap.get m y) (ne_eqb y x n) ∙ h y ∙ others y n (keys y) refl)
       (cases_eq y x)
     where
-      others : (y : ℕ) → (y ≡ x → ⊥) → (o : Option ℕ) → keys y ≡ o → gone_in rows o ≡ gone_in rows' o
+      others : (y : ℕ) → (y ≡ x → ⊥) → (o : Option ℕ) → keys y ≡ o → gone_in slots o ≡ gone_in slots' o
       others y n None e = refl
-      others y n (Some q) e = ap Some (sym (ap (λ z. z.gone) (same q (λ z. n (sym (r.known y q e).id ∙ ap (λ w. (row_at rows w).head.id) z ∙ fd.id)))))
+      others y n (Some q) e = ap Some (sym (ap (λ z. z.gone) (same q (λ z. n (sym (r.known y q e).id ∙ ap (λ w. (row_at slots w).head.id) z ∙ fd.id)))))
 
-  pub retold_index : (homes : List ℕ) (cells : List (ℕ × ℕ)) → Index rows keys homes cells (lives rows) → Index rows' keys homes cells (lives rows')
-  retold_index homes cells ix = row_step rows rows'
+  pub retold_index : (homes : List ℕ) (cells : List (ℕ × ℕ)) → Index slots keys homes cells (lives slots) → Index slots' keys homes cells (lives slots')
+  retold_index homes cells ix = row_step slots slots'
       (record {
-        results = kept (λ z. z.head.results) (inner.results (row_at rows k).head);
+        results = kept (λ z. z.head.results) (inner.results (row_at slots k).head);
         shapes = shapes_are;
         values = kept (λ z. z.values) refl;
         uses = kept (λ z. z.uses) refl;
         used = kept (λ z. z.used) refl;
       })
-      keys homes cells (lives rows) (lives rows') ix
+      keys homes cells (lives slots) (lives slots') ix
       (λ q i w e. (w, sym (ap (λ z. slice_get z i) (operands_are q)) ∙ e))
       (λ q i w u e o. ap (λ z. slice_get z i) (operands_are q) ∙ e)
       (λ q i w u e. live_is q)
 
-  pub retold_below : (n : ℕ) → HasIdsBelow n rows → HasIdsBelow n rows'
+  pub retold_below : (n : ℕ) → HasIdsBelow n slots → HasIdsBelow n slots'
   retold_below n b q l = subst (λ z. z < n) (sym (id_is q)) (b q (was q l))
 
-  pub retold_owned : HasOwners rows keys → HasOwners rows' keys
+  pub retold_owned : HasOwners slots keys → HasOwners slots' keys
   retold_owned h q i w l e =
-      live_stays rows rows' keys keys (owner_of w).0 (λ p g lp. (g, record { live = live_is p ∙ lp.live }))
+      live_stays slots slots' keys keys (owner_of w).0 (λ p g lp. (g, record { live = live_is p ∙ lp.live }))
       (h q i w (was q l) (sym (ap (λ z. slice_get z i) (operands_are q)) ∙ e))
 
   pub retold_counted : op_count t ≡ op_count (each_head (at x f) t)

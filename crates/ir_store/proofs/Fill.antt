@@ -30,21 +30,21 @@ Named q bound k w (Arg y j i) h = (a : List ℕ × ℕ) × ((slice_get w.shapes 
 
 -- the heads of its values differ from all heads in use
 abbrev pub IsApart : Parts → (ℕ → Option ℕ) → ℕ → ℕ → Row → Type 0
-IsApart q keys bound k w = (u v : Value) (h : ℕ) → Named q bound k w u h → value_head q.rows keys v ≡ Some h → ⊥
+IsApart q keys bound k w = (u v : Value) (h : ℕ) → Named q bound k w u h → value_head q.slots keys v ≡ Some h → ⊥
 
 -- the heads of these are below a bound
-pub bound_apart : (q : Parts) (keys : ℕ → Option ℕ) (bound k : ℕ) (w : Row) → ((v : Value) (h : ℕ) → value_head q.rows keys v ≡ Some h → h < bound) → IsApart q keys bound k w
+pub bound_apart : (q : Parts) (keys : ℕ → Option ℕ) (bound k : ℕ) (w : Row) → ((v : Value) (h : ℕ) → value_head q.slots keys v ≡ Some h → h < bound) → IsApart q keys bound k w
 bound_apart q keys bound k w old (Result y i) v h n e = let l = old v h e in omega (arith, n.new, l)
 bound_apart q keys bound k w old (Arg y j i) v h n e = let l = old v h e in let m = n.1.1.new in omega (arith, m, l)
 
-module _ (q : Parts) (even : IsEven q) (few : length q.sibs.homes < free) (keys : ℕ → Option ℕ) (bound k x : ℕ) (w : Row) (ready : Ready q keys bound k x w) (r : Keyed q.rows keys q.sibs)
-    (rows' : List Row) (long' : length rows' ≡ length q.rows) (same : (y : ℕ) → (y ≡ k → ⊥) → row_at rows' y ≡ row_at q.rows y) (own : row_at rows' k ≡ w)
+module _ (q : Parts) (even : IsEven q) (few : length q.sibs.homes < free) (keys : ℕ → Option ℕ) (bound k x : ℕ) (w : Row) (ready : Ready q keys bound k x w) (r : Keyed q.slots keys q.sibs)
+    (slots' : List Row) (long' : length slots' ≡ length q.slots) (same : (y : ℕ) → (y ≡ k → ⊥) → row_at slots' y ≡ row_at q.slots y) (own : row_at slots' k ≡ w)
     (keys' : ℕ → Option ℕ) (here : keys' x ≡ Some k) (others : (y : ℕ) → (y ≡ x → ⊥) → keys' y ≡ keys y) where
-  used_not : (y : ℕ) → Used q.rows y → y ≡ k → ⊥
-  used_not y u e = false≢true (sym ready.spare.used ∙ ap (λ z. (row_at q.rows z).used) (sym e) ∙ u.used)
+  used_not : (y : ℕ) → Used q.slots y → y ≡ k → ⊥
+  used_not y u e = false≢true (sym ready.spare.used ∙ ap (λ z. (row_at q.slots z).used) (sym e) ∙ u.used)
 
-  live_not : (y : ℕ) → Live q.rows y → y ≡ k → ⊥
-  live_not y u e = false≢true (sym ready.spare.live ∙ ap (λ z. (row_at q.rows z).live) (sym e) ∙ u.live)
+  live_not : (y : ℕ) → Live q.slots y → y ≡ k → ⊥
+  live_not y u e = false≢true (sym ready.spare.live ∙ ap (λ z. (row_at q.slots z).live) (sym e) ∙ u.live)
 
   head_not : (h : ℕ) → IsHead q.sibs.homes h → h ≡ k → ⊥
   head_not h p e =
@@ -52,61 +52,61 @@ module _ (q : Parts) (even : IsEven q) (few : length q.sibs.homes < free) (keys 
       let l : h < length q.sibs.homes = p.inside in
       omega arith
 
-  used_was : (y : ℕ) → (y ≡ k → ⊥) → Used rows' y → Used q.rows y
+  used_was : (y : ℕ) → (y ≡ k → ⊥) → Used slots' y → Used q.slots y
   used_was y n u = record { used = sym (ap (λ z. z.used) (same y n)) ∙ u.used }
 
-  live_was : (y : ℕ) → Live rows' y → (y ≡ k → ⊥) × Live q.rows y
+  live_was : (y : ℕ) → Live slots' y → (y ≡ k → ⊥) × Live q.slots y
   live_was y l =
-      let n : y ≡ k → ⊥ = λ e. false≢true (sym ready.live ∙ ap (λ z. z.live) (sym own) ∙ ap (λ z. (row_at rows' z).live) (sym e) ∙ l.live) in
+      let n : y ≡ k → ⊥ = λ e. false≢true (sym ready.live ∙ ap (λ z. z.live) (sym own) ∙ ap (λ z. (row_at slots' z).live) (sym e) ∙ l.live) in
       (n, record { live = sym (ap (λ z. z.live) (same y n)) ∙ l.live })
 
-  not_x : (y : ℕ) → Used q.rows y → (row_at q.rows y).head.id ≡ x → ⊥
+  not_x : (y : ℕ) → Used q.slots y → (row_at q.slots y).head.id ≡ x → ⊥
   not_x y u e = let z : None ≡ Some y = sym ready.unknown ∙ ap keys (sym e) ∙ r.keyed y u in absurd cc
 
-  used_own : Used rows' k
+  used_own : Used slots' k
   used_own = record { used = ap (λ z. z.used) own ∙ ready.used }
 
-  block_row : (y i : ℕ) (a : List ℕ × ℕ) → IsHead q.sibs.homes a.1 → row_at rows' a.1 ≡ row_at q.rows a.1
+  block_row : (y i : ℕ) (a : List ℕ × ℕ) → IsHead q.sibs.homes a.1 → row_at slots' a.1 ≡ row_at q.slots a.1
   block_row y i a h = same a.1 (head_not a.1 h)
 
-  module _ (apart : IsApart q keys bound k w) (ix : Index q.rows keys q.homes q.cells (lives q.rows)) where
-    named : (v : Value) (h : ℕ) → slot_head rows' v k ≡ Some h → Named q bound k w v h
+  module _ (apart : IsApart q keys bound k w) (ix : Index q.slots keys q.homes q.cells (lives q.slots)) where
+    named : (v : Value) (h : ℕ) → slot_head slots' v k ≡ Some h → Named q bound k w v h
     named (Result y i) h e =
         let f = if_some (nat_lt i (length w.head.results)) (w.values + i) h (sym (ap (λ z. if nat_lt i (length z.head.results) then Some (z.values + i) else None) own) ∙ e) in
         subst (NewHead q bound k i) f.1 (ready.results i (ltb-true i (length w.head.results) f.0))
-    named (Arg y j i) h e = go (slice_get w.shapes j) refl (ap (λ z. option_and_then (argument_head rows' i) (slice_get z.shapes j)) (sym own) ∙ e)
+    named (Arg y j i) h e = go (slice_get w.shapes j) refl (ap (λ z. option_and_then (argument_head slots' i) (slice_get z.shapes j)) (sym own) ∙ e)
       where
-        go : (o : Option RegionShape) → slice_get w.shapes j ≡ o → option_and_then (argument_head rows' i) o ≡ Some h → (a : List ℕ × ℕ) × ((slice_get w.shapes j ≡ Some (Some a)) × NewHead q bound a.1 i h)
+        go : (o : Option RegionShape) → slice_get w.shapes j ≡ o → option_and_then (argument_head slots' i) o ≡ Some h → (a : List ℕ × ℕ) × ((slice_get w.shapes j ≡ Some (Some a)) × NewHead q bound a.1 i h)
         go None f g = absurd cc
         go (Some None) f g = absurd cc
         go (Some (Some a)) f g =
             let b = ready.blocks j a f in
-            let c = if_some (nat_lt i (length a.0)) ((row_at q.rows a.1).values + i) h (sym (ap (λ z. if nat_lt i (length a.0) then Some (z.values + i) else None) (block_row k j a b.head)) ∙ g) in
+            let c = if_some (nat_lt i (length a.0)) ((row_at q.slots a.1).values + i) h (sym (ap (λ z. if nat_lt i (length a.0) then Some (z.values + i) else None) (block_row k j a b.head)) ∙ g) in
             (a, (f, subst (NewHead q bound a.1 i) c.1 (b.arguments i (ltb-true i (length a.0) c.0))))
 
     -- the slot of a value
     abbrev Whose : Value → ℕ → Type 0
-    Whose v h = (((owner_of v).0 ≡ x) × Named q bound k w v h) ⊎ (value_head q.rows keys v ≡ Some h)
+    Whose v h = (((owner_of v).0 ≡ x) × Named q bound k w v h) ⊎ (value_head q.slots keys v ≡ Some h)
 
-    other_slot : (v : Value) (j : ℕ) → Used q.rows j → slot_head rows' v j ≡ slot_head q.rows v j
+    other_slot : (v : Value) (j : ℕ) → Used q.slots j → slot_head slots' v j ≡ slot_head q.slots v j
     other_slot (Result y i) j u = ap (λ z. if nat_lt i (length z.head.results) then Some (z.values + i) else None) (same j (used_not j u))
-    other_slot (Arg y n i) j u = ap (λ z. option_and_then (argument_head rows' i) (slice_get z.shapes n)) (same j (used_not j u)) ∙ go (slice_get (row_at q.rows j).shapes n) refl
+    other_slot (Arg y n i) j u = ap (λ z. option_and_then (argument_head slots' i) (slice_get z.shapes n)) (same j (used_not j u)) ∙ go (slice_get (row_at q.slots j).shapes n) refl
       where
-        go : (o : Option RegionShape) → slice_get (row_at q.rows j).shapes n ≡ o → option_and_then (argument_head rows' i) o ≡ option_and_then (argument_head q.rows i) o
+        go : (o : Option RegionShape) → slice_get (row_at q.slots j).shapes n ≡ o → option_and_then (argument_head slots' i) o ≡ option_and_then (argument_head q.slots i) o
         go None e = refl
         go (Some None) e = refl
         go (Some (Some a)) e = ap (λ z. if nat_lt i (length a.0) then Some (z.values + i) else None) (block_row j n a (r.blocks j n a u e).head)
 
-    old_head : (v : Value) → ((owner_of v).0 ≡ x → ⊥) → value_head rows' keys' v ≡ value_head q.rows keys v
-    old_head v n = ap (option_and_then (slot_head rows' v)) (others (owner_of v).0 n) ∙ go (keys (owner_of v).0) refl
+    old_head : (v : Value) → ((owner_of v).0 ≡ x → ⊥) → value_head slots' keys' v ≡ value_head q.slots keys v
+    old_head v n = ap (option_and_then (slot_head slots' v)) (others (owner_of v).0 n) ∙ go (keys (owner_of v).0) refl
       where
-        go : (o : Option ℕ) → keys (owner_of v).0 ≡ o → option_and_then (slot_head rows' v) o ≡ option_and_then (slot_head q.rows v) o
+        go : (o : Option ℕ) → keys (owner_of v).0 ≡ o → option_and_then (slot_head slots' v) o ≡ option_and_then (slot_head q.slots v) o
         go None e = refl
         go (Some j) e = other_slot v j (r.known (owner_of v).0 j e).used
 
-    whose : (v : Value) (h : ℕ) → value_head rows' keys' v ≡ Some h → Whose v h
+    whose : (v : Value) (h : ℕ) → value_head slots' keys' v ≡ Some h → Whose v h
     whose v h e = ⊎_elim
-        (λ z. inl (z, named v h (sym (ap (option_and_then (slot_head rows' v)) (ap keys' z ∙ here)) ∙ e)))
+        (λ z. inl (z, named v h (sym (ap (option_and_then (slot_head slots' v)) (ap keys' z ∙ here)) ∙ e)))
         (λ n. inr (sym (old_head v n) ∙ e))
         (cases_eq (owner_of v).0 x)
 
@@ -129,29 +129,29 @@ module _ (q : Parts) (even : IsEven q) (few : length q.sibs.homes < free) (keys 
         let p : ◌≡◌ {A = ℕ × ℕ} (a.0.1, i) (b.0.1, j) = sym a.1.1.cell ∙ b.1.1.cell in
         let f = ready.blocks m a.0 a.1.0 in
         let g = ready.blocks n b.0 b.1.0 in
-        let e : m ≡ n = sym f.region ∙ ap (λ z. (row_at q.rows z.0).region) p ∙ g.region in
+        let e : m ≡ n = sym f.region ∙ ap (λ z. (row_at q.slots z.0).region) p ∙ g.region in
         λ s. Arg ((eu ∙ sym ev) s) (e s) ((p s).1)
 
-    operand_was : (y : ℕ) (n : y ≡ k → ⊥) (j : ℕ) → operand_at rows' y j ≡ operand_at q.rows y j
+    operand_was : (y : ℕ) (n : y ≡ k → ⊥) (j : ℕ) → operand_at slots' y j ≡ operand_at q.slots y j
     operand_was y n j = ap (λ z. slice_get z.head.operands j) (same y n)
 
-    node_was : (y : ℕ) (n : y ≡ k → ⊥) (j : ℕ) → use_at rows' y j ≡ use_at q.rows y j
+    node_was : (y : ℕ) (n : y ≡ k → ⊥) (j : ℕ) → use_at slots' y j ≡ use_at q.slots y j
     node_was y n j = ap (λ z. z.uses + j) (same y n)
 
     -- an operand of the operation has a new node
-    own_use : (y j : ℕ) (v : Value) → y ≡ k → operand_at rows' y j ≡ Some v → NewUse q y j (use_at rows' y j)
+    own_use : (y j : ℕ) (v : Value) → y ≡ k → operand_at slots' y j ≡ Some v → NewUse q y j (use_at slots' y j)
     own_use y j v z e =
-        let f : slice_get w.head.operands j ≡ Some v = sym (ap (λ u. slice_get u.head.operands j) own) ∙ ap (λ u. operand_at rows' u j) (sym z) ∙ e in
-        let g : use_at rows' y j ≡ w.uses + j = ap (λ u. use_at rows' u j) z ∙ ap (λ u. u.uses + j) own in
+        let f : slice_get w.head.operands j ≡ Some v = sym (ap (λ u. slice_get u.head.operands j) own) ∙ ap (λ u. operand_at slots' u j) (sym z) ∙ e in
+        let g : use_at slots' y j ≡ w.uses + j = ap (λ u. use_at slots' u j) z ∙ ap (λ u. u.uses + j) own in
         subst (λ u. NewUse q y j u) (sym g) (subst (λ u. NewUse q u j (w.uses + j)) (sym z) (ready.operands j v f))
 
-    own_live : (y : ℕ) → y ≡ k → (row_at rows' y).live ≡ false
-    own_live y z = ap (λ u. (row_at rows' u).live) z ∙ ap (λ u. u.live) own ∙ ready.live
+    own_live : (y : ℕ) → y ≡ k → (row_at slots' y).live ≡ false
+    own_live y z = ap (λ u. (row_at slots' u).live) z ∙ ap (λ u. u.live) own ∙ ready.live
 
-    owner_not : (v : Value) (h : ℕ) → value_head q.rows keys v ≡ Some h → (owner_of v).0 ≡ x → ⊥
-    owner_not v h e z = let f : None ≡ Some h = sym (ap (option_and_then (slot_head q.rows v)) (ap keys z ∙ ready.unknown)) ∙ e in absurd cc
+    owner_not : (v : Value) (h : ℕ) → value_head q.slots keys v ≡ Some h → (owner_of v).0 ≡ x → ⊥
+    owner_not v h e z = let f : None ≡ Some h = sym (ap (option_and_then (slot_head q.slots v)) (ap keys z ∙ ready.unknown)) ∙ e in absurd cc
 
-    pub fill_index : Index rows' keys' q.homes q.cells (lives rows')
+    pub fill_index : Index slots' keys' q.homes q.cells (lives slots')
     fill_index = record {
       counted = ix.counted;
       cell = λ y j v u e. ⊎_elim
@@ -164,7 +164,7 @@ module _ (q : Parts) (even : IsEven q) (few : length q.sibs.homes < free) (keys 
           (λ z. absurd (false≢true (sym (own_live y z) ∙ o)))
           (λ n.
           let l = ix.linked y j v (used_was y n u) (sym (operand_was y n j) ∙ e) (sym (ap (λ z. z.live) (same y n)) ∙ o) in
-          subst (λ z. LinkedTo rows' keys' q.homes z v) (sym (node_was y n j)) (record { item = l.item; home = old_head v (owner_not v (home_at q.homes (use_at q.rows y j)) l.home) ∙ l.home }))
+          subst (λ z. LinkedTo slots' keys' q.homes z v) (sym (node_was y n j)) (record { item = l.item; home = old_head v (owner_not v (home_at q.homes (use_at q.slots y j)) l.home) ∙ l.home }))
           (cases_eq y k);
       unlinked_home = λ y j v u e o. ⊎_elim
           (λ z. (own_use y j v z e).unlinked_home)
@@ -198,11 +198,11 @@ module _ (q : Parts) (even : IsEven q) (few : length q.sibs.homes < free) (keys 
     }
 
   -- the cells of its heads have their owners
-  pub fill_celled : Celled q.rows q.cells → Celled rows' q.cells
+  pub fill_celled : Celled q.slots q.cells → Celled slots' q.cells
   fill_celled c = record {
     results = λ y i u l. ⊎_elim
         (λ z.
-        let f = ap (row_at rows') z ∙ own in
+        let f = ap (row_at slots') z ∙ own in
         let m : i < length w.head.results = subst (λ v. i < length v.head.results) f l in
         ap (λ v. cell_at q.cells (v.values + i)) f ∙ (ready.results i m).cell ∙ ap (λ v. (v, i)) (sym z))
         (λ n.
@@ -211,7 +211,7 @@ module _ (q : Parts) (even : IsEven q) (few : length q.sibs.homes < free) (keys 
         (cases_eq y k);
     arguments = λ y j i a u e l. ⊎_elim
         (λ z.
-        let b = ready.blocks j a (sym (ap (λ v. slice_get v.shapes j) (ap (row_at rows') z ∙ own)) ∙ e) in
+        let b = ready.blocks j a (sym (ap (λ v. slice_get v.shapes j) (ap (row_at slots') z ∙ own)) ∙ e) in
         ap (λ v. cell_at q.cells (v.values + i)) (block_row y j a b.head) ∙ (b.arguments i l).cell)
         (λ n.
         let g = sym (ap (λ v. slice_get v.shapes j) (same y n)) ∙ e in
@@ -221,78 +221,78 @@ module _ (q : Parts) (even : IsEven q) (few : length q.sibs.homes < free) (keys 
   }
 
 module _ (q : Parts) (even : IsEven q) (few : length q.sibs.homes < free) (keys : ℕ → Option ℕ) (bound k x : ℕ) (w : Row) (ready : Ready q keys bound k x w)
-    (root : ℕ) (t : Op) (r : Right q.rows keys q.sibs root t)
-    (rows' : List Row) (long' : length rows' ≡ length q.rows) (same : (y : ℕ) → (y ≡ k → ⊥) → row_at rows' y ≡ row_at q.rows y) (own : row_at rows' k ≡ w)
+    (root : ℕ) (t : Op) (r : Right q.slots keys q.sibs root t)
+    (slots' : List Row) (long' : length slots' ≡ length q.slots) (same : (y : ℕ) → (y ≡ k → ⊥) → row_at slots' y ≡ row_at q.slots y) (own : row_at slots' k ≡ w)
     (keys' : ℕ → Option ℕ) (here : keys' x ≡ Some k) (others : (y : ℕ) → (y ≡ x → ⊥) → keys' y ≡ keys y) where
-  kd : Keyed q.rows keys q.sibs
-  kd = keyed_of q.rows keys q.sibs root t r
+  kd : Keyed q.slots keys q.sibs
+  kd = keyed_of q.slots keys q.sibs root t r
 
-  pub fill_spells : SpellsOp q.rows q.sibs.lists root t → SpellsOp rows' q.sibs.lists root t
-  fill_spells s = same_spells q.rows rows' q.sibs.lists q.sibs.lists (λ y l. same y (live_not q even few keys bound k x w ready kd rows' long' same own keys' here others y l)) (λ h. refl) root t s
+  pub fill_spells : SpellsOp q.slots q.sibs.lists root t → SpellsOp slots' q.sibs.lists root t
+  fill_spells s = same_spells q.slots slots' q.sibs.lists q.sibs.lists (λ y l. same y (live_not q even few keys bound k x w ready kd slots' long' same own keys' here others y l)) (λ h. refl) root t s
 
-  pub fill_right : Right rows' keys' q.sibs root t
+  pub fill_right : Right slots' keys' q.sibs root t
   fill_right = record {
     few = few;
     long = long' ∙ even.long;
     live_used = λ y l.
-        let v = live_was q even few keys bound k x w ready kd rows' long' same own keys' here others y l in
+        let v = live_was q even few keys bound k x w ready kd slots' long' same own keys' here others y l in
         record { used = ap (λ z. z.used) (same y v.0) ∙ (r.live_used y v.1).used };
     keyed = λ y u. ⊎_elim
-        (λ e. ap (λ z. keys' (row_at rows' z).head.id) e ∙ ap (λ z. keys' z.head.id) own ∙ ap keys' ready.id ∙ here ∙ ap Some (sym e))
+        (λ e. ap (λ z. keys' (row_at slots' z).head.id) e ∙ ap (λ z. keys' z.head.id) own ∙ ap keys' ready.id ∙ here ∙ ap Some (sym e))
         (λ n.
-        let v = used_was q even few keys bound k x w ready kd rows' long' same own keys' here others y n u in
-        ap (λ z. keys' z.head.id) (same y n) ∙ others (row_at q.rows y).head.id (not_x q even few keys bound k x w ready kd rows' long' same own keys' here others y v) ∙ r.keyed y v)
+        let v = used_was q even few keys bound k x w ready kd slots' long' same own keys' here others y n u in
+        ap (λ z. keys' z.head.id) (same y n) ∙ others (row_at q.slots y).head.id (not_x q even few keys bound k x w ready kd slots' long' same own keys' here others y v) ∙ r.keyed y v)
         (cases_eq y k);
     known = λ y j e. ⊎_elim
         (λ z.
         let f : k ≡ j = same_Some k j (sym here ∙ ap keys' (sym z) ∙ e) in
-        subst (HoldsId rows' y) f (record { used = used_own q even few keys bound k x w ready kd rows' long' same own keys' here others; id = ap (λ v. v.head.id) own ∙ ready.id ∙ sym z }))
+        subst (HoldsId slots' y) f (record { used = used_own q even few keys bound k x w ready kd slots' long' same own keys' here others; id = ap (λ v. v.head.id) own ∙ ready.id ∙ sym z }))
         (λ n.
         let h = r.known y j (sym (others y n) ∙ e) in
-        let f = same j (used_not q even few keys bound k x w ready kd rows' long' same own keys' here others j h.used) in
+        let f = same j (used_not q even few keys bound k x w ready kd slots' long' same own keys' here others j h.used) in
         record { used = record { used = ap (λ z. z.used) f ∙ h.used.used }; id = ap (λ z. z.head.id) f ∙ h.id })
         (cases_eq y x);
     top = r.top;
     blocks = λ y i a u e. ⊎_elim
         (λ z.
-        let b = ready.blocks i a (sym (ap (λ v. slice_get v.shapes i) own) ∙ ap (λ v. slice_get (row_at rows' v).shapes i) (sym z) ∙ e) in
-        let f = block_row q even few keys bound k x w ready kd rows' long' same own keys' here others y i a b.head in
+        let b = ready.blocks i a (sym (ap (λ v. slice_get v.shapes i) own) ∙ ap (λ v. slice_get (row_at slots' v).shapes i) (sym z) ∙ e) in
+        let f = block_row q even few keys bound k x w ready kd slots' long' same own keys' here others y i a b.head in
         record { head = b.head; owner = ap (λ v. v.owner) f ∙ b.owner ∙ sym z; region = ap (λ v. v.region) f ∙ b.region })
         (λ n.
-        let b = r.blocks y i a (used_was q even few keys bound k x w ready kd rows' long' same own keys' here others y n u) (sym (ap (λ v. slice_get v.shapes i) (same y n)) ∙ e) in
-        let f = block_row q even few keys bound k x w ready kd rows' long' same own keys' here others y i a b.head in
+        let b = r.blocks y i a (used_was q even few keys bound k x w ready kd slots' long' same own keys' here others y n u) (sym (ap (λ v. slice_get v.shapes i) (same y n)) ∙ e) in
+        let f = block_row q even few keys bound k x w ready kd slots' long' same own keys' here others y i a b.head in
         record { head = b.head; owner = ap (λ v. v.owner) f ∙ b.owner; region = ap (λ v. v.region) f ∙ b.region })
         (cases_eq y k);
-    items = λ y l ne. r.items y (live_was q even few keys bound k x w ready kd rows' long' same own keys' here others y l).1 ne;
+    items = λ y l ne. r.items y (live_was q even few keys bound k x w ready kd slots' long' same own keys' here others y l).1 ne;
     held = λ y u e. ⊎_elim
         (λ z. record {
           out = subst (IsFree q.sibs.homes) (sym z) ready.out;
-          bare = λ i a f. (ready.blocks i a (sym (ap (λ v. slice_get v.shapes i) own) ∙ ap (λ v. slice_get (row_at rows' v).shapes i) (sym z) ∙ f)).bare;
+          bare = λ i a f. (ready.blocks i a (sym (ap (λ v. slice_get v.shapes i) own) ∙ ap (λ v. slice_get (row_at slots' v).shapes i) (sym z) ∙ f)).bare;
         })
         (λ n.
-        let h = r.held y (used_was q even few keys bound k x w ready kd rows' long' same own keys' here others y n u) (sym (ap (λ v. v.live) (same y n)) ∙ e) in
+        let h = r.held y (used_was q even few keys bound k x w ready kd slots' long' same own keys' here others y n u) (sym (ap (λ v. v.live) (same y n)) ∙ e) in
         record { out = h.out; bare = λ i a f. h.bare i a (sym (ap (λ v. slice_get v.shapes i) (same y n)) ∙ f) })
         (cases_eq y k);
-    covers = λ y l. let v = live_was q even few keys bound k x w ready kd rows' long' same own keys' here others y l in ap (λ z. has_id z.head.id t) (same y v.0) ∙ r.covers y v.1;
+    covers = λ y l. let v = live_was q even few keys bound k x w ready kd slots' long' same own keys' here others y l in ap (λ z. has_id z.head.id t) (same y v.0) ∙ r.covers y v.1;
   }
 
   -- the operation is held, and has no removed keys
-  pub fill_holds : (m : finmap.FinMap nat_cmp Op) → ((y : ℕ) → finmap.get m y ≡ held_in q.rows (keys y)) → (y : ℕ) → finmap.get (finmap.insert m x (bare w)) y ≡ held_in rows' (keys' y)
+  pub fill_holds : (m : finmap.FinMap nat_cmp Op) → ((y : ℕ) → finmap.get m y ≡ held_in q.slots (keys y)) → (y : ℕ) → finmap.get (finmap.insert m x (bare w)) y ≡ held_in slots' (keys' y)
   fill_holds m h y = finmap.get-insert nat_cmp_total m x (bare w) y ∙ ap (λ b. cond b (Some (bare w)) (finmap.get m y)) (eq_nat y x) ∙ ⊎_elim
-      (λ e. cond-true (eqb y x) (Some (bare w)) (finmap.get m y) (eq-eqb y x e) ∙ sym (ap (held_in rows') (ap keys' e ∙ here) ∙ ap (λ z. if z.live then None else Some (bare z)) own ∙ ap (λ b. if b then None else Some (bare w)) ready.live))
-      (λ n. cond-false (eqb y x) (Some (bare w)) (finmap.get m y) (ne_eqb y x n) ∙ h y ∙ go y (keys y) refl ∙ ap (held_in rows') (sym (others y n)))
+      (λ e. cond-true (eqb y x) (Some (bare w)) (finmap.get m y) (eq-eqb y x e) ∙ sym (ap (held_in slots') (ap keys' e ∙ here) ∙ ap (λ z. if z.live then None else Some (bare z)) own ∙ ap (λ b. if b then None else Some (bare w)) ready.live))
+      (λ n. cond-false (eqb y x) (Some (bare w)) (finmap.get m y) (ne_eqb y x n) ∙ h y ∙ go y (keys y) refl ∙ ap (held_in slots') (sym (others y n)))
       (cases_eq y x)
     where
-      go : (y : ℕ) (o : Option ℕ) → keys y ≡ o → held_in q.rows o ≡ held_in rows' o
+      go : (y : ℕ) (o : Option ℕ) → keys y ≡ o → held_in q.slots o ≡ held_in slots' o
       go y None e = refl
-      go y (Some j) e = ap (λ z. if z.live then None else Some (bare z)) (sym (same j (used_not q even few keys bound k x w ready kd rows' long' same own keys' here others j (r.known y j e).used)))
+      go y (Some j) e = ap (λ z. if z.live then None else Some (bare z)) (sym (same j (used_not q even few keys bound k x w ready kd slots' long' same own keys' here others j (r.known y j e).used)))
 
-  pub fill_gone : (m : finmap.FinMap nat_cmp Gone) → ((y : ℕ) → finmap.get m y ≡ gone_in q.rows (keys y)) → (y : ℕ) → finmap.get (finmap.insert m x w.gone) y ≡ gone_in rows' (keys' y)
+  pub fill_gone : (m : finmap.FinMap nat_cmp Gone) → ((y : ℕ) → finmap.get m y ≡ gone_in q.slots (keys y)) → (y : ℕ) → finmap.get (finmap.insert m x w.gone) y ≡ gone_in slots' (keys' y)
   fill_gone m h y = finmap.get-insert nat_cmp_total m x w.gone y ∙ ap (λ b. cond b (Some w.gone) (finmap.get m y)) (eq_nat y x) ∙ ⊎_elim
-      (λ e. cond-true (eqb y x) (Some w.gone) (finmap.get m y) (eq-eqb y x e) ∙ sym (ap (gone_in rows') (ap keys' e ∙ here) ∙ ap (λ z. Some z.gone) own))
-      (λ n. cond-false (eqb y x) (Some w.gone) (finmap.get m y) (ne_eqb y x n) ∙ h y ∙ go y (keys y) refl ∙ ap (gone_in rows') (sym (others y n)))
+      (λ e. cond-true (eqb y x) (Some w.gone) (finmap.get m y) (eq-eqb y x e) ∙ sym (ap (gone_in slots') (ap keys' e ∙ here) ∙ ap (λ z. Some z.gone) own))
+      (λ n. cond-false (eqb y x) (Some w.gone) (finmap.get m y) (ne_eqb y x n) ∙ h y ∙ go y (keys y) refl ∙ ap (gone_in slots') (sym (others y n)))
       (cases_eq y x)
     where
-      go : (y : ℕ) (o : Option ℕ) → keys y ≡ o → gone_in q.rows o ≡ gone_in rows' o
+      go : (y : ℕ) (o : Option ℕ) → keys y ≡ o → gone_in q.slots o ≡ gone_in slots' o
       go y None e = refl
-      go y (Some j) e = ap (λ z. Some z.gone) (sym (same j (used_not q even few keys bound k x w ready kd rows' long' same own keys' here others j (r.known y j e).used)))
+      go y (Some j) e = ap (λ z. Some z.gone) (sym (same j (used_not q even few keys bound k x w ready kd slots' long' same own keys' here others j (r.known y j e).used)))

@@ -59,7 +59,7 @@ pub spare_mark : (b : Row) → b.used ≡ false → b.live ≡ false → mark b 
 spare_mark b e f = ap (λ l. if l then (if has_gone b.gone then Some 1 else None) else (if b.used then Some 0 else None)) f ∙ ap (λ u. if u then Some 0 else None) e
 
 abbrev pub parts : Inside → Parts
-parts a = parts_of a.rows a.sibs a.uses a.cells.items
+parts a = parts_of a.slots a.sibs a.uses a.cells.items
 
 module _ (a : Inside) (w : Whole a) where
   pub is_even : Laws a.sibs.lists a.sibs.homes → IsEven (parts a)
@@ -91,28 +91,28 @@ module _ (a : Inside) (w : Whole a) where
           (cases_Bool (row_at (rows_in a) k).live)
 
   module _ (q : Parts) (wide : Wider (parts a) q) (few : length q.sibs.homes < free) (uses_few : length q.homes < free) where
-    spells : SpellsOp q.rows q.sibs.lists a.root a.represented.0
+    spells : SpellsOp q.slots q.sibs.lists a.root a.represented.0
     spells = wide_spells (parts a) q wide (keys_in a) a.root a.represented.0 w.right a.represented.1
 
-    right : Right q.rows (keys_in a) q.sibs a.root a.represented.0
+    right : Right q.slots (keys_in a) q.sibs a.root a.represented.0
     right = wide_right (parts a) q wide (keys_in a) a.root a.represented.0 w.right few
 
-    index : Index q.rows (keys_in a) q.homes q.cells (lives q.rows)
+    index : Index q.slots (keys_in a) q.homes q.cells (lives q.slots)
     index = wide_index (parts a) q wide (keys_in a) keyed w.index
 
-    more_rows : {A : Type 0} (f : Row → A) → ((b : Row) → b.used ≡ false → b.live ≡ false → f b ≡ f no_row) → (k : ℕ) → f (row_at q.rows k) ≡ f (row_at (rows_in a) k)
+    more_rows : {A : Type 0} (f : Row → A) → ((b : Row) → b.used ≡ false → b.live ≡ false → f b ≡ f no_row) → (k : ℕ) → f (row_at q.slots k) ≡ f (row_at (rows_in a) k)
     more_rows f e k = ⊎_elim
         (λ l. ap f (wide.row k l))
-        (λ g. let z = wide.spare k g in e (row_at q.rows k) z.used z.live ∙ ap f (sym (get_or_past (rows_in a) k no_row g)))
+        (λ g. let z = wide.spare k g in e (row_at q.slots k) z.used z.live ∙ ap f (sym (get_or_past (rows_in a) k no_row g)))
         (cases_lt k (length (rows_in a)))
 
-    marked : Marked q.rows a.marks.homes
-    marked = marked_same (rows_in a) q.rows a.marks.homes w.marked (more_rows mark spare_mark) (more_rows (λ z. z.used) (λ b e f. e))
+    marked : Marked q.slots a.marks.homes
+    marked = marked_same (rows_in a) q.slots a.marks.homes w.marked (more_rows mark spare_mark) (more_rows (λ z. z.used) (λ b e f. e))
 
     pub grow_can_mark : (mid : List ℕ) → Reaches a.marks.homes mid → (k : ℕ) → node_of_slot k < length mid → CanMark mid k
-    grow_can_mark mid reached k l = can_mark q.rows mid k (marked_more q.rows a.marks.homes mid marked reached) l
+    grow_can_mark mid reached k l = can_mark q.slots mid k (marked_more q.slots a.marks.homes mid marked reached) l
 
-    celled : Celled q.rows q.cells
+    celled : Celled q.slots q.cells
     celled = wide_celled (parts a) q wide (keys_in a) keyed w.index w.celled
 
     -- the call failed
@@ -120,33 +120,33 @@ module _ (a : Inside) (w : Whole a) where
       all_keys : keys ≡ keys_in a
       all_keys = λ i y. ek y i
 
-      holds : (y : ℕ) → finmap.get a.holds.0 y ≡ held_in q.rows (keys y)
-      holds y = a.holds.1 y ∙ wide_holds (parts a) q wide (keys_in a) a.root a.represented.0 w.right y ∙ ap (held_in q.rows) (sym (ek y))
+      holds : (y : ℕ) → finmap.get a.holds.0 y ≡ held_in q.slots (keys y)
+      holds y = a.holds.1 y ∙ wide_holds (parts a) q wide (keys_in a) a.root a.represented.0 w.right y ∙ ap (held_in q.slots) (sym (ek y))
 
-      gone : (y : ℕ) → finmap.get a.lacks.0 y ≡ gone_in q.rows (keys y)
-      gone y = a.lacks.1 y ∙ wide_gone (parts a) q wide (keys_in a) a.root a.represented.0 w.right y ∙ ap (gone_in q.rows) (sym (ek y))
+      gone : (y : ℕ) → finmap.get a.lacks.0 y ≡ gone_in q.slots (keys y)
+      gone y = a.lacks.1 y ∙ wide_gone (parts a) q wide (keys_in a) a.root a.represented.0 w.right y ∙ ap (gone_in q.slots) (sym (ek y))
 
-      pub wide_given : Represented q.rows q.sibs.lists a.root × (HoldsOf q.rows keys × (GoneOf q.rows keys × Unit {0}))
+      pub wide_given : Represented q.slots q.sibs.lists a.root × (HoldsOf q.slots keys × (GoneOf q.slots keys × Unit {0}))
       wide_given = ((a.represented.0, spells), ((a.holds.0, holds), ((a.lacks.0, gone), tt)))
 
-      pub wide_fits : (s : Represented q.rows q.sibs.lists a.root) (marks : List ℕ) → Reaches a.marks.homes marks → Fits q.rows keys q.sibs a.root s.0 q.homes q.cells a.count a.next marks
+      pub wide_fits : (s : Represented q.slots q.sibs.lists a.root) (marks : List ℕ) → Reaches a.marks.homes marks → Fits q.slots keys q.sibs a.root s.0 q.homes q.cells a.count a.next marks
       wide_fits s marks reached = record {
-        right = subst (Right q.rows keys q.sibs a.root) (sym (rendered_is q.rows q.sibs.lists a.root s a.represented.0 spells)) (subst (λ z. Right q.rows z q.sibs a.root a.represented.0) (sym all_keys) right);
+        right = subst (Right q.slots keys q.sibs a.root) (sym (rendered_is q.slots q.sibs.lists a.root s a.represented.0 spells)) (subst (λ z. Right q.slots z q.sibs a.root a.represented.0) (sym all_keys) right);
         few = uses_few;
-        index = subst (λ z. Index q.rows z q.homes q.cells (lives q.rows)) (sym all_keys) index;
-        distinct = subst HasDistinctIds (sym (rendered_is q.rows q.sibs.lists a.root s a.represented.0 spells)) w.distinct;
-        counted = w.counted ∙ ap op_count (sym (rendered_is q.rows q.sibs.lists a.root s a.represented.0 spells));
+        index = subst (λ z. Index q.slots z q.homes q.cells (lives q.slots)) (sym all_keys) index;
+        distinct = subst HasDistinctIds (sym (rendered_is q.slots q.sibs.lists a.root s a.represented.0 spells)) w.distinct;
+        counted = w.counted ∙ ap op_count (sym (rendered_is q.slots q.sibs.lists a.root s a.represented.0 spells));
         below = wide_below (parts a) q wide (keys_in a) a.next w.below;
-        owned = subst (HasOwners q.rows) (sym all_keys) (wide_owned (parts a) q wide (keys_in a) w.owned);
-        marked = marked_more q.rows a.marks.homes marks marked reached;
+        owned = subst (HasOwners q.slots) (sym all_keys) (wide_owned (parts a) q wide (keys_in a) w.owned);
+        marked = marked_more q.slots a.marks.homes marks marked reached;
         celled = celled;
       }
 
-      pub wide_done : (s : Represented q.rows q.sibs.lists a.root) (h : HoldsOf q.rows keys) (g : GoneOf q.rows keys) → ◌≡◌ {A = Stored} (record { module_of = record { tree = s.0; next = a.next }; held = h.0; gone = g.0 }) (stored a)
+      pub wide_done : (s : Represented q.slots q.sibs.lists a.root) (h : HoldsOf q.slots keys) (g : GoneOf q.slots keys) → ◌≡◌ {A = Stored} (record { module_of = record { tree = s.0; next = a.next }; held = h.0; gone = g.0 }) (stored a)
       wide_done s h g =
-          let e1 = rendered_is q.rows q.sibs.lists a.root s a.represented.0 spells in
-          let e2 = map_is (λ y. held_in q.rows (keys y)) h a.holds.0 holds in
-          let e3 = map_is (λ y. gone_in q.rows (keys y)) g a.lacks.0 gone in
+          let e1 = rendered_is q.slots q.sibs.lists a.root s a.represented.0 spells in
+          let e2 = map_is (λ y. held_in q.slots (keys y)) h a.holds.0 holds in
+          let e3 = map_is (λ y. gone_in q.slots (keys y)) g a.lacks.0 gone in
           λ i. record { module_of = record { tree = e1 i; next = a.next }; held = e2 i; gone = e3 i }
 
     -- new heads differ from all others
@@ -160,42 +160,42 @@ module _ (a : Inside) (w : Whole a) where
     -- a row is written
     module _ (x : ℕ) (o : Op) (k : ℕ) (v : Row) (none : keys_in a x ≡ None) (bound : ℕ) (grown : Grown bound q x o k v) (apart : IsApart q (keys_in a) bound k v)
         (keys : ℕ → Option ℕ) (here : keys x ≡ Some k) (others : (y : ℕ) → (y ≡ x → ⊥) → keys y ≡ keys_in a y)
-        (rows' : List Row) (long' : length rows' ≡ length q.rows) (same : (y : ℕ) → (y ≡ k → ⊥) → row_at rows' y ≡ row_at q.rows y) (own : row_at rows' k ≡ v) where
+        (slots' : List Row) (long' : length slots' ≡ length q.slots) (same : (y : ℕ) → (y ≡ k → ⊥) → row_at slots' y ≡ row_at q.slots y) (own : row_at slots' k ≡ v) where
       ready : Ready q (keys_in a) bound k x v
       ready = grown.ready (keys_in a) none
 
-      spells' : SpellsOp rows' q.sibs.lists a.root a.represented.0
-      spells' = fill_spells q wide.even few (keys_in a) bound k x v ready a.root a.represented.0 right rows' long' same own keys here others spells
+      spells' : SpellsOp slots' q.sibs.lists a.root a.represented.0
+      spells' = fill_spells q wide.even few (keys_in a) bound k x v ready a.root a.represented.0 right slots' long' same own keys here others spells
 
-      holds' : (y : ℕ) → finmap.get (finmap.insert a.holds.0 x (bare v)) y ≡ held_in rows' (keys y)
-      holds' = fill_holds q wide.even few (keys_in a) bound k x v ready a.root a.represented.0 right rows' long' same own keys here others a.holds.0
+      holds' : (y : ℕ) → finmap.get (finmap.insert a.holds.0 x (bare v)) y ≡ held_in slots' (keys y)
+      holds' = fill_holds q wide.even few (keys_in a) bound k x v ready a.root a.represented.0 right slots' long' same own keys here others a.holds.0
           (λ y. a.holds.1 y ∙ wide_holds (parts a) q wide (keys_in a) a.root a.represented.0 w.right y)
 
-      gone' : (y : ℕ) → finmap.get (finmap.insert a.lacks.0 x v.gone) y ≡ gone_in rows' (keys y)
-      gone' = fill_gone q wide.even few (keys_in a) bound k x v ready a.root a.represented.0 right rows' long' same own keys here others a.lacks.0
+      gone' : (y : ℕ) → finmap.get (finmap.insert a.lacks.0 x v.gone) y ≡ gone_in slots' (keys y)
+      gone' = fill_gone q wide.even few (keys_in a) bound k x v ready a.root a.represented.0 right slots' long' same own keys here others a.lacks.0
           (λ y. a.lacks.1 y ∙ wide_gone (parts a) q wide (keys_in a) a.root a.represented.0 w.right y)
 
-      pub grow_given : Represented rows' q.sibs.lists a.root × (HoldsOf rows' keys × (GoneOf rows' keys × Unit {0}))
+      pub grow_given : Represented slots' q.sibs.lists a.root × (HoldsOf slots' keys × (GoneOf slots' keys × Unit {0}))
       grow_given = ((a.represented.0, spells'), ((finmap.insert a.holds.0 x (bare v), holds'), ((finmap.insert a.lacks.0 x v.gone, gone'), tt)))
 
-      pub grow_fits : (s : Represented rows' q.sibs.lists a.root) (mid marks : List ℕ) → Reaches a.marks.homes mid → node_of_slot k < length mid → marks ≡ set mid (node_of_slot k) (home_of (mark (row_at rows' k))) → Fits rows' keys q.sibs a.root s.0 q.homes q.cells a.count a.next marks
+      pub grow_fits : (s : Represented slots' q.sibs.lists a.root) (mid marks : List ℕ) → Reaches a.marks.homes mid → node_of_slot k < length mid → marks ≡ set mid (node_of_slot k) (home_of (mark (row_at slots' k))) → Fits slots' keys q.sibs a.root s.0 q.homes q.cells a.count a.next marks
       grow_fits s mid marks reached there em = record {
-        right = subst (Right rows' keys q.sibs a.root) (sym (rendered_is rows' q.sibs.lists a.root s a.represented.0 spells'))
-            (fill_right q wide.even few (keys_in a) bound k x v ready a.root a.represented.0 right rows' long' same own keys here others);
+        right = subst (Right slots' keys q.sibs a.root) (sym (rendered_is slots' q.sibs.lists a.root s a.represented.0 spells'))
+            (fill_right q wide.even few (keys_in a) bound k x v ready a.root a.represented.0 right slots' long' same own keys here others);
         few = uses_few;
-        index = fill_index q wide.even few (keys_in a) bound k x v ready (keyed_of q.rows (keys_in a) q.sibs a.root a.represented.0 right) rows' long' same own keys here others
+        index = fill_index q wide.even few (keys_in a) bound k x v ready (keyed_of q.slots (keys_in a) q.sibs a.root a.represented.0 right) slots' long' same own keys here others
             apart index;
-        distinct = subst HasDistinctIds (sym (rendered_is rows' q.sibs.lists a.root s a.represented.0 spells')) w.distinct;
-        counted = w.counted ∙ ap op_count (sym (rendered_is rows' q.sibs.lists a.root s a.represented.0 spells'));
-        below = fill_below q (keys_in a) bound k x v ready rows' same own keys others a.next (wide_below (parts a) q wide (keys_in a) a.next w.below);
-        owned = fill_owned q (keys_in a) bound k x v ready rows' same own keys others (wide_owned (parts a) q wide (keys_in a) w.owned);
-        marked = marked_edit q.rows rows' mid marks k (marked_more q.rows a.marks.homes mid marked reached) there same em;
-        celled = fill_celled q wide.even few (keys_in a) bound k x v ready (keyed_of q.rows (keys_in a) q.sibs a.root a.represented.0 right) rows' long' same own keys here others celled;
+        distinct = subst HasDistinctIds (sym (rendered_is slots' q.sibs.lists a.root s a.represented.0 spells')) w.distinct;
+        counted = w.counted ∙ ap op_count (sym (rendered_is slots' q.sibs.lists a.root s a.represented.0 spells'));
+        below = fill_below q (keys_in a) bound k x v ready slots' same own keys others a.next (wide_below (parts a) q wide (keys_in a) a.next w.below);
+        owned = fill_owned q (keys_in a) bound k x v ready slots' same own keys others (wide_owned (parts a) q wide (keys_in a) w.owned);
+        marked = marked_edit q.slots slots' mid marks k (marked_more q.slots a.marks.homes mid marked reached) there same em;
+        celled = fill_celled q wide.even few (keys_in a) bound k x v ready (keyed_of q.slots (keys_in a) q.sibs a.root a.represented.0 right) slots' long' same own keys here others celled;
       }
 
-      pub grow_done : (s : Represented rows' q.sibs.lists a.root) (h : HoldsOf rows' keys) (g : GoneOf rows' keys) → ◌≡◌ {A = Stored} (record { module_of = record { tree = s.0; next = a.next }; held = h.0; gone = g.0 }) (after_grow x o (stored a))
+      pub grow_done : (s : Represented slots' q.sibs.lists a.root) (h : HoldsOf slots' keys) (g : GoneOf slots' keys) → ◌≡◌ {A = Stored} (record { module_of = record { tree = s.0; next = a.next }; held = h.0; gone = g.0 }) (after_grow x o (stored a))
       grow_done s h g =
-          let e1 = rendered_is rows' q.sibs.lists a.root s a.represented.0 spells' in
-          let e2 = map_is (λ y. held_in rows' (keys y)) h (finmap.insert a.holds.0 x (bare v)) holds' ∙ ap (finmap.insert a.holds.0 x) grown.is in
-          let e3 = map_is (λ y. gone_in rows' (keys y)) g (finmap.insert a.lacks.0 x v.gone) gone' ∙ ap (finmap.insert a.lacks.0 x) grown.gone in
+          let e1 = rendered_is slots' q.sibs.lists a.root s a.represented.0 spells' in
+          let e2 = map_is (λ y. held_in slots' (keys y)) h (finmap.insert a.holds.0 x (bare v)) holds' ∙ ap (finmap.insert a.holds.0 x) grown.is in
+          let e3 = map_is (λ y. gone_in slots' (keys y)) g (finmap.insert a.lacks.0 x v.gone) gone' ∙ ap (finmap.insert a.lacks.0 x) grown.gone in
           λ i. record { module_of = record { tree = e1 i; next = a.next }; held = e2 i; gone = e3 i }

@@ -22,34 +22,34 @@ use Rattle.ir_store.proofs.Join.{joins, joined_same, joined_other, AtHome, Names
 use Rattle.std.proofs.lemmas.Option.{same_Some}
 
 -- slot k has operation x, which is held
-pub record FoundHeld (rows : List Row) (x k : ℕ) : Type 0 where
-  pub used : Used rows k
-  pub out : (row_at rows k).live ≡ false
-  pub id : (row_at rows k).head.id ≡ x
+pub record FoundHeld (slots : List Row) (x k : ℕ) : Type 0 where
+  pub used : Used slots k
+  pub out : (row_at slots k).live ≡ false
+  pub id : (row_at slots k).head.id ≡ x
 
 -- the slot of the head n before which it is inserted
 abbrev pub Before : List Row → List ℕ → ℕ → Option ℕ → Option ℕ → Type 0
-Before rows homes n None None = Unit {0}
-Before rows homes n None (Some b) = ⊥
-Before rows homes n (Some t) None = ⊥
-Before rows homes n (Some t) (Some b) = Found rows b t × (IsItem homes t × (home_at homes t ≡ n))
+Before slots homes n None None = Unit {0}
+Before slots homes n None (Some b) = ⊥
+Before slots homes n (Some t) None = ⊥
+Before slots homes n (Some t) (Some b) = Found slots b t × (IsItem homes t × (home_at homes t ≡ n))
 
 -- a place of the tree: the slot of the parent, its block, and the next slot
-pub record Point (rows : List Row) (homes : List ℕ) (place : Place) (a : List ℕ × ℕ) (at : Option ℕ) : Type 0 where
+pub record Point (slots : List Row) (homes : List ℕ) (place : Place) (a : List ℕ × ℕ) (at : Option ℕ) : Type 0 where
   pub parent : ℕ
-  pub found : Found rows place.parent parent
-  pub shape : slice_get (row_at rows parent).shapes place.region ≡ Some (Some a)
-  pub before : Before rows homes a.1 at place.before
+  pub found : Found slots place.parent parent
+  pub shaped_as : slice_get (row_at slots parent).shapes place.region ≡ Some (Some a)
+  pub before : Before slots homes a.1 at place.before
 
-pub bare_spells : (rows : List Row) (lists : List (List ℕ)) (xs : List RegionShape) → ((r : ℕ) (a : List ℕ × ℕ) → slice_get xs r ≡ Some (Some a) → list_at lists a.1 ≡ []) → SpellsRegions rows lists xs (bare_regions xs)
-bare_spells rows lists [] f = tt
-bare_spells rows lists (None ∷ xs) f = (tt, bare_spells rows lists xs (λ r. f (suc r)))
-bare_spells rows lists (Some a ∷ xs) f = ((refl, subst (λ l. SpellsOps rows lists l no_ops) (sym (f 0 a refl)) tt), bare_spells rows lists xs (λ r. f (suc r)))
+pub bare_spells : (slots : List Row) (lists : List (List ℕ)) (xs : List RegionShape) → ((r : ℕ) (a : List ℕ × ℕ) → slice_get xs r ≡ Some (Some a) → list_at lists a.1 ≡ []) → SpellsRegions slots lists xs (bare_regions xs)
+bare_spells slots lists [] f = tt
+bare_spells slots lists (None ∷ xs) f = (tt, bare_spells slots lists xs (λ r. f (suc r)))
+bare_spells slots lists (Some a ∷ xs) f = ((refl, subst (λ l. SpellsOps slots lists l no_ops) (sym (f 0 a refl)) tt), bare_spells slots lists xs (λ r. f (suc r)))
 
-module _ (rows : List Row) (keys : ℕ → Option ℕ) (sibs : Lists) (root : ℕ) (t : Op) (r : Right rows keys sibs root t) (s : SpellsOp rows sibs.lists root t) (laws : Laws sibs.lists sibs.homes)
-    (x k : ℕ) (fk : FoundHeld rows x k) (place : Place) (a : List ℕ × ℕ) (at : Option ℕ) (point : Point rows sibs.homes place a at) where
-  block_of : BlockOf rows sibs.homes point.parent place.region a
-  block_of = r.blocks point.parent place.region a (r.live_used point.parent point.found.live) point.shape
+module _ (slots : List Row) (keys : ℕ → Option ℕ) (sibs : Lists) (root : ℕ) (t : Op) (r : Right slots keys sibs root t) (s : SpellsOp slots sibs.lists root t) (laws : Laws sibs.lists sibs.homes)
+    (x k : ℕ) (fk : FoundHeld slots x k) (place : Place) (a : List ℕ × ℕ) (at : Option ℕ) (point : Point slots sibs.homes place a at) where
+  block_of : BlockOf slots sibs.homes point.parent place.region a
+  block_of = r.blocks point.parent place.region a (r.live_used point.parent point.found.live) point.shaped_as
 
   pub point_head : IsHead sibs.homes a.1
   point_head = block_of.head
@@ -57,44 +57,44 @@ module _ (rows : List Row) (keys : ℕ → Option ℕ) (sibs : Lists) (root : �
   pub slot_free : IsFree sibs.homes k
   slot_free = (r.held k fk.used fk.out).out
 
-  live_out : (q : ℕ) → Live rows q → q ≡ k → ⊥
-  live_out q l e = false≢true (sym fk.out ∙ ap (λ z. (row_at rows z).live) (sym e) ∙ l.live)
+  live_out : (q : ℕ) → Live slots q → q ≡ k → ⊥
+  live_out q l e = false≢true (sym fk.out ∙ ap (λ z. (row_at slots z).live) (sym e) ∙ l.live)
 
-  same_slot : (q : ℕ) → Used rows q → (row_at rows q).head.id ≡ x → q ≡ k
+  same_slot : (q : ℕ) → Used slots q → (row_at slots q).head.id ≡ x → q ≡ k
   same_slot q u e = same_Some q k (sym (r.keyed q u) ∙ ap keys (e ∙ sym fk.id) ∙ r.keyed k fk.used)
 
   pub x_out : has_op x t ≡ false
   x_out = ⊎_elim
-      (λ y. let w = has_live rows sibs.lists x root t s y in absurd (live_out w.0 w.1.0 (same_slot w.0 (r.live_used w.0 w.1.0) w.1.1)))
+      (λ y. let w = has_live slots sibs.lists x root t s y in absurd (live_out w.0 w.1.0 (same_slot w.0 (r.live_used w.0 w.1.0) w.1.1)))
       (λ n. n) (cases_Bool (has_op x t))
 
-  module _ (rows' : List Row) (long' : length rows' ≡ length rows)
-      (same : (q : ℕ) → (q ≡ k → ⊥) → row_at rows' q ≡ row_at rows q) (come : row_at rows' k ≡ record (row_at rows k) { live = true })
+  module _ (slots' : List Row) (long' : length slots' ≡ length slots)
+      (same : (q : ℕ) → (q ≡ k → ⊥) → row_at slots' q ≡ row_at slots q) (come : row_at slots' k ≡ record (row_at slots k) { live = true })
       (sibs' : Lists) (el : sibs'.lists ≡ joined k a.1 at sibs.lists) (eh : sibs'.homes ≡ set sibs.homes k a.1) where
     abbrev pub o : Op
-    o = bare (row_at rows k)
+    o = bare (row_at slots k)
 
-    kept : {A : Type 0} (f : Row → A) → f (record (row_at rows k) { live = true }) ≡ f (row_at rows k) → (q : ℕ) → f (row_at rows' q) ≡ f (row_at rows q)
+    kept : {A : Type 0} (f : Row → A) → f (record (row_at slots k) { live = true }) ≡ f (row_at slots k) → (q : ℕ) → f (row_at slots' q) ≡ f (row_at slots q)
     kept f e q = ⊎_elim
-        (λ z. ap (λ w. f (row_at rows' w)) z ∙ ap f come ∙ e ∙ ap (λ w. f (row_at rows w)) (sym z))
+        (λ z. ap (λ w. f (row_at slots' w)) z ∙ ap f come ∙ e ∙ ap (λ w. f (row_at slots w)) (sym z))
         (λ n. ap f (same q n)) (cases_eq q k)
 
-    used_to : (q : ℕ) → Used rows q → Used rows' q
+    used_to : (q : ℕ) → Used slots q → Used slots' q
     used_to q u = record { used = kept (λ z. z.used) refl q ∙ u.used }
 
-    used_from : (q : ℕ) → Used rows' q → Used rows q
+    used_from : (q : ℕ) → Used slots' q → Used slots q
     used_from q u = record { used = sym (kept (λ z. z.used) refl q) ∙ u.used }
 
-    was : (q : ℕ) → (q ≡ k → ⊥) → Live rows' q → Live rows q
+    was : (q : ℕ) → (q ≡ k → ⊥) → Live slots' q → Live slots q
     was q ne l = record { live = sym (ap (λ z. z.live) (same q ne)) ∙ l.live }
 
-    live_used' : (q : ℕ) → Live rows' q → Used rows' q
-    live_used' q l = used_to q (⊎_elim (λ e. subst (Used rows) (sym e) fk.used) (λ ne. r.live_used q (was q ne l)) (cases_eq q k))
+    live_used' : (q : ℕ) → Live slots' q → Used slots' q
+    live_used' q l = used_to q (⊎_elim (λ e. subst (Used slots) (sym e) fk.used) (λ ne. r.live_used q (was q ne l)) (cases_eq q k))
 
     in_lists : a.1 < length sibs.lists
     in_lists = omega (arith, point_head.inside, laws.counted)
 
-    at_home : (c : Option ℕ) (b : Option ℕ) → Before rows sibs.homes a.1 c b → AtHome sibs.lists a.1 c
+    at_home : (c : Option ℕ) (b : Option ℕ) → Before slots sibs.homes a.1 c b → AtHome sibs.lists a.1 c
     at_home None b z = tt
     at_home (Some q) None z = absurd z
     at_home (Some q) (Some b) z = λ m n. ⊎_elim (λ y. absurd (n (sym (laws.members m q y).0 ∙ z.1.1))) (λ y. y) (cases_Bool (has q (list_at sibs.lists m)))
@@ -106,25 +106,25 @@ module _ (rows : List Row) (keys : ℕ → Option ℕ) (sibs : Lists) (root : �
     list_else m n = ap (λ z. list_at z m) el ∙ joined_other k a.1 at sibs.lists (at_home at place.before point.before) m n
 
     -- a block with this head is the block of the place
-    owner_is : (q i : ℕ) (c : List ℕ × ℕ) → Used rows q → slice_get (row_at rows q).shapes i ≡ Some (Some c) → c.1 ≡ a.1 → (q ≡ point.parent) × (i ≡ place.region)
+    owner_is : (q i : ℕ) (c : List ℕ × ℕ) → Used slots q → slice_get (row_at slots q).shapes i ≡ Some (Some c) → c.1 ≡ a.1 → (q ≡ point.parent) × (i ≡ place.region)
     owner_is q i c u e z =
         let b = r.blocks q i c u e in
-        (sym b.owner ∙ ap (λ w. (row_at rows w).owner) z ∙ block_of.owner, sym b.region ∙ ap (λ w. (row_at rows w).region) z ∙ block_of.region)
+        (sym b.owner ∙ ap (λ w. (row_at slots w).owner) z ∙ block_of.owner, sym b.region ∙ ap (λ w. (row_at slots w).region) z ∙ block_of.region)
 
-    bare_still : (q : ℕ) → Used rows q → (q ≡ point.parent → ⊥) → (i : ℕ) (c : List ℕ × ℕ) → slice_get (row_at rows q).shapes i ≡ Some (Some c) → list_at sibs'.lists c.1 ≡ list_at sibs.lists c.1
+    bare_still : (q : ℕ) → Used slots q → (q ≡ point.parent → ⊥) → (i : ℕ) (c : List ℕ × ℕ) → slice_get (row_at slots q).shapes i ≡ Some (Some c) → list_at sibs'.lists c.1 ≡ list_at sibs.lists c.1
     bare_still q u ne i c e = list_else c.1 (λ z. ne (owner_is q i c u e z).0)
 
-    come_spelt : SpellsOp rows' sibs'.lists k o
+    come_spelt : SpellsOp slots' sibs'.lists k o
     come_spelt = (
       ap (λ z. z.live) come,
       (
         ap (λ z. z.head) come,
-        subst (λ z. SpellsRegions rows' sibs'.lists z (bare_regions (row_at rows k).shapes)) (sym (ap (λ z. z.shapes) come))
-            (bare_spells rows' sibs'.lists (row_at rows k).shapes (λ i c e. bare_still k fk.used (λ z. live_out point.parent point.found.live (sym z)) i c e ∙ (r.held k fk.used fk.out).bare i c e)),
+        subst (λ z. SpellsRegions slots' sibs'.lists z (bare_regions (row_at slots k).shapes)) (sym (ap (λ z. z.shapes) come))
+            (bare_spells slots' sibs'.lists (row_at slots k).shapes (λ i c e. bare_still k fk.used (λ z. live_out point.parent point.found.live (sym z)) i c e ∙ (r.held k fk.used fk.out).bare i c e)),
       ),
     )
 
-    names : (c b : Option ℕ) → Before rows sibs.homes a.1 c b → Names rows' c b
+    names : (c b : Option ℕ) → Before slots sibs.homes a.1 c b → Names slots' c b
     names None None z = tt
     names None (Some b) z = absurd z
     names (Some q) None z = absurd z
@@ -133,67 +133,67 @@ module _ (rows : List Row) (keys : ℕ → Option ℕ) (sibs : Lists) (root : �
       λ w l e. same_Some w q (sym (r.keyed w (used_from w (live_used' w l))) ∙ ap keys (sym (kept (λ y. y.head.id) refl w) ∙ e ∙ sym z.0.id) ∙ r.keyed q (r.live_used q z.0.live)),
     )
 
-    shapes_of : (q i : ℕ) (c : List ℕ × ℕ) → slice_get (row_at rows' q).shapes i ≡ Some (Some c) → slice_get (row_at rows q).shapes i ≡ Some (Some c)
+    shapes_of : (q i : ℕ) (c : List ℕ × ℕ) → slice_get (row_at slots' q).shapes i ≡ Some (Some c) → slice_get (row_at slots q).shapes i ≡ Some (Some c)
     shapes_of q i c e = sym (ap (λ z. slice_get z i) (kept (λ z. z.shapes) refl q)) ∙ e
 
-    pub join_spells : SpellsOp rows' sibs'.lists root (put place o t)
-    join_spells = lists_spells rows' sibs.lists sibs'.lists (put_here place o) step root t
-        (rows_spells rows rows' sibs.lists x (λ q l n. same q (live_out q l)) root t x_out s)
+    pub join_spells : SpellsOp slots' sibs'.lists root (put place o t)
+    join_spells = lists_spells slots' sibs.lists sibs'.lists (put_here place o) step root t
+        (rows_spells slots slots' sibs.lists x (λ q l n. same q (live_out q l)) root t x_out s)
       where
-        step : (q i : ℕ) (c : List ℕ × ℕ) (os : Ops) → Live rows' q → slice_get (row_at rows' q).shapes i ≡ Some (Some c) → SpellsOps rows' sibs'.lists (list_at sibs.lists c.1) os
-            → SpellsOps rows' sibs'.lists (list_at sibs'.lists c.1) (put_here place o (row_at rows' q).head.id i os)
+        step : (q i : ℕ) (c : List ℕ × ℕ) (os : Ops) → Live slots' q → slice_get (row_at slots' q).shapes i ≡ Some (Some c) → SpellsOps slots' sibs'.lists (list_at sibs.lists c.1) os
+            → SpellsOps slots' sibs'.lists (list_at sibs'.lists c.1) (put_here place o (row_at slots' q).head.id i os)
         step q i c os l e z = ⊎_elim
             (λ y.
             let w = owner_is q i c (used_from q (live_used' q l)) (shapes_of q i c e) y in
-            let id : eqb (row_at rows' q).head.id place.parent ≡ true = eq-eqb (row_at rows' q).head.id place.parent (kept (λ v. v.head.id) refl q ∙ ap (λ v. (row_at rows v).head.id) w.0 ∙ point.found.id) in
+            let id : eqb (row_at slots' q).head.id place.parent ≡ true = eq-eqb (row_at slots' q).head.id place.parent (kept (λ v. v.head.id) refl q ∙ ap (λ v. (row_at slots v).head.id) w.0 ∙ point.found.id) in
             let reg : eqb i place.region ≡ true = eq-eqb i place.region w.1 in
-            let here : is_in_block place (row_at rows' q).head.id i ≡ true = rw (id, reg) refl in
-            subst (λ v. SpellsOps rows' sibs'.lists v (put_here place o (row_at rows' q).head.id i os)) (sym (ap (list_at sibs'.lists) y ∙ list_here))
-            (subst (λ v. SpellsOps rows' sibs'.lists (joins k at (list_at sibs.lists a.1)) v) (sym (cond-true (is_in_block place (row_at rows' q).head.id i) (put_in place.before o os) os here))
-            (put_spells rows' sibs'.lists k o come_spelt at place.before (names at place.before point.before) (list_at sibs.lists a.1) os (laws.once a.1)
-            (subst (λ v. SpellsOps rows' sibs'.lists (list_at sibs.lists v) os) y z))))
+            let here : is_in_block place (row_at slots' q).head.id i ≡ true = rw (id, reg) refl in
+            subst (λ v. SpellsOps slots' sibs'.lists v (put_here place o (row_at slots' q).head.id i os)) (sym (ap (list_at sibs'.lists) y ∙ list_here))
+            (subst (λ v. SpellsOps slots' sibs'.lists (joins k at (list_at sibs.lists a.1)) v) (sym (cond-true (is_in_block place (row_at slots' q).head.id i) (put_in place.before o os) os here))
+            (put_spells slots' sibs'.lists k o come_spelt at place.before (names at place.before point.before) (list_at sibs.lists a.1) os (laws.once a.1)
+            (subst (λ v. SpellsOps slots' sibs'.lists (list_at sibs.lists v) os) y z))))
             (λ y.
-            let here : is_in_block place (row_at rows' q).head.id i ≡ false = not_here q i c l e y in
-            subst (λ v. SpellsOps rows' sibs'.lists v (put_here place o (row_at rows' q).head.id i os)) (sym (list_else c.1 y))
-            (subst (λ v. SpellsOps rows' sibs'.lists (list_at sibs.lists c.1) v) (sym (cond-false (is_in_block place (row_at rows' q).head.id i) (put_in place.before o os) os here)) z))
+            let here : is_in_block place (row_at slots' q).head.id i ≡ false = not_here q i c l e y in
+            subst (λ v. SpellsOps slots' sibs'.lists v (put_here place o (row_at slots' q).head.id i os)) (sym (list_else c.1 y))
+            (subst (λ v. SpellsOps slots' sibs'.lists (list_at sibs.lists c.1) v) (sym (cond-false (is_in_block place (row_at slots' q).head.id i) (put_in place.before o os) os here)) z))
             (cases_eq c.1 a.1)
           where
-            not_here : (q i : ℕ) (c : List ℕ × ℕ) → Live rows' q → slice_get (row_at rows' q).shapes i ≡ Some (Some c) → (c.1 ≡ a.1 → ⊥) → is_in_block place (row_at rows' q).head.id i ≡ false
+            not_here : (q i : ℕ) (c : List ℕ × ℕ) → Live slots' q → slice_get (row_at slots' q).shapes i ≡ Some (Some c) → (c.1 ≡ a.1 → ⊥) → is_in_block place (row_at slots' q).head.id i ≡ false
             not_here q i c l e y = ⊎_elim
                 (λ f. ⊎_elim
                 (λ g.
                 let p : q ≡ point.parent = same_Some q point.parent (sym (r.keyed q (used_from q (live_used' q l))) ∙ ap keys (sym (kept (λ v. v.head.id) refl q) ∙ f ∙ sym point.found.id) ∙ r.keyed point.parent (r.live_used point.parent point.found.live)) in
-                let m : Some (Some c) ≡ Some (Some a) = sym (shapes_of q i c e) ∙ ap (λ v. slice_get (row_at rows v).shapes i) p ∙ ap (slice_get (row_at rows point.parent).shapes) g ∙ point.shape in
+                let m : Some (Some c) ≡ Some (Some a) = sym (shapes_of q i c e) ∙ ap (λ v. slice_get (row_at slots v).shapes i) p ∙ ap (slice_get (row_at slots point.parent).shapes) g ∙ point.shaped_as in
                 let n : c ≡ a = cc in
                 absurd (y (ap (λ v. v.1) n)))
-                (λ g. rw (ne_eqb i place.region g) (both_false (eqb (row_at rows' q).head.id place.parent)))
+                (λ g. rw (ne_eqb i place.region g) (both_false (eqb (row_at slots' q).head.id place.parent)))
                 (cases_eq i place.region))
-                (λ f. rw (ne_eqb (row_at rows' q).head.id place.parent f) refl)
-                (cases_eq (row_at rows' q).head.id place.parent)
+                (λ f. rw (ne_eqb (row_at slots' q).head.id place.parent f) refl)
+                (cases_eq (row_at slots' q).head.id place.parent)
               where
                 both_false : (b : Bool) → (b && false) ≡ false
                 both_false true = refl
                 both_false false = refl
 
-    is_at : (c b : Option ℕ) → Before rows sibs.homes a.1 c b → has k (joins k c (list_at sibs.lists a.1)) ≡ true
+    is_at : (c b : Option ℕ) → Before slots sibs.homes a.1 c b → has k (joins k c (list_at sibs.lists a.1)) ≡ true
     is_at None b z = has_end k (list_at sibs.lists a.1)
     is_at (Some q) None z = absurd z
     is_at (Some q) (Some b) z = has_new k q (list_at sibs.lists a.1) (subst (λ v. has q (list_at sibs.lists v) ≡ true) z.1.1 (laws.covers q z.1.0))
 
     comes : has_op x (put place o t) ≡ true
     comes = within place.parent x (put place o t) (go (find place.parent (put place o t)) refl
-        (find_spelt rows' sibs'.lists place.parent point.parent
+        (find_spelt slots' sibs'.lists place.parent point.parent
         (λ q l e. same_Some q point.parent (sym (r.keyed q (used_from q (live_used' q l))) ∙ ap keys (sym (kept (λ v. v.head.id) refl q) ∙ e ∙ sym point.found.id) ∙ r.keyed point.parent (r.live_used point.parent point.found.live)))
-        root (put place o t) join_spells (has_put place o place.parent t (there rows keys sibs root t r s place.parent point.parent point.found))))
+        root (put place o t) join_spells (has_put place o place.parent t (there slots keys sibs root t r s place.parent point.parent point.found))))
       where
-        go : (m : Option Op) → find place.parent (put place o t) ≡ m → Spelt rows' sibs'.lists point.parent m → In place.parent x m
+        go : (m : Option Op) → find place.parent (put place o t) ≡ m → Spelt slots' sibs'.lists point.parent m → In place.parent x m
         go None e w = absurd w
         go (Some p) e w =
             subst (λ v. has_op v p ≡ true) (kept (λ v. v.head.id) refl k ∙ fk.id)
-            (listed_op rows' sibs'.lists k point.parent p w place.region a (ap (λ z. slice_get z place.region) (kept (λ z. z.shapes) refl point.parent) ∙ point.shape)
+            (listed_op slots' sibs'.lists k point.parent p w place.region a (ap (λ z. slice_get z place.region) (kept (λ z. z.shapes) refl point.parent) ∙ point.shaped_as)
             (ap (has k) list_here ∙ is_at at place.before point.before))
 
-    pub join_right : Right rows' keys sibs' root (put place o t)
+    pub join_right : Right slots' keys sibs' root (put place o t)
     join_right =
         let long : length sibs'.homes ≡ length sibs.homes = ap length eh ∙ length-set sibs.homes k a.1 in
         let home : (q : ℕ) → (q ≡ k → ⊥) → home_at sibs'.homes q ≡ home_at sibs.homes q = λ q ne. ap (λ z. home_at z q) eh ∙ get_or-set_other sibs.homes k q a.1 free ne in
@@ -228,21 +228,21 @@ module _ (rows : List Row) (keys : ℕ → Option ℕ) (sibs : Lists) (root : �
               })
               (cases_eq q k);
           held = λ q w d.
-              let ne : q ≡ k → ⊥ = λ e. false≢true (sym d ∙ ap (λ z. (row_at rows' z).live) e ∙ ap (λ z. z.live) come) in
-              let out : (row_at rows q).live ≡ false = sym (ap (λ z. z.live) (same q ne)) ∙ d in
+              let ne : q ≡ k → ⊥ = λ e. false≢true (sym d ∙ ap (λ z. (row_at slots' z).live) e ∙ ap (λ z. z.live) come) in
+              let out : (row_at slots q).live ≡ false = sym (ap (λ z. z.live) (same q ne)) ∙ d in
               let old = r.held q (used_from q w) out in
               record {
                 out = record { inside = omega (arith, old.out.inside, long); unlinked = home q ne ∙ old.out.unlinked };
                 bare = λ i c f.
                     let g = shapes_of q i c f in
-                    bare_still q (used_from q w) (λ e. false≢true (sym out ∙ ap (λ z. (row_at rows z).live) e ∙ point.found.live.live)) i c g ∙ old.bare i c g;
+                    bare_still q (used_from q w) (λ e. false≢true (sym out ∙ ap (λ z. (row_at slots z).live) e ∙ point.found.live.live)) i c g ∙ old.bare i c g;
               };
           covers = λ q l. ⊎_elim
               (λ e.
-              let id : (row_at rows' q).head.id ≡ x = ap (λ z. (row_at rows' z).head.id) e ∙ kept (λ z. z.head.id) refl k ∙ fk.id in
+              let id : (row_at slots' q).head.id ≡ x = ap (λ z. (row_at slots' z).head.id) e ∙ kept (λ z. z.head.id) refl k ∙ fk.id in
               ap (λ z. has_id z (put place o t)) id ∙ sym (has_is x (put place o t)) ∙ comes)
               (λ ne.
-              let id = (row_at rows q).head.id in
+              let id = (row_at slots q).head.id in
               ap (λ z. has_id z.head.id (put place o t)) (same q ne) ∙ sym (has_is id (put place o t)) ∙ has_put place o id t (has_is id t ∙ r.covers q (was q ne l)))
               (cases_eq q k);
         }
@@ -250,30 +250,30 @@ module _ (rows : List Row) (keys : ℕ → Option ℕ) (sibs : Lists) (root : �
         root_not : root ≡ k → ⊥
         root_not e = live_out root (go t s) e
           where
-            go : (w : Op) → SpellsOp rows sibs.lists root w → Live rows root
+            go : (w : Op) → SpellsOp slots sibs.lists root w → Live slots root
             go (op h rs) z = record { live = z.0 }
 
     -- the operation isn't held any more
-    pub join_holds : (m : finmap.FinMap nat_cmp Op) → ((y : ℕ) → finmap.get m y ≡ held_in rows (keys y)) → (y : ℕ) → finmap.get (finmap.remove m x) y ≡ held_in rows' (keys y)
+    pub join_holds : (m : finmap.FinMap nat_cmp Op) → ((y : ℕ) → finmap.get m y ≡ held_in slots (keys y)) → (y : ℕ) → finmap.get (finmap.remove m x) y ≡ held_in slots' (keys y)
     join_holds m h y = finmap.get-remove nat_cmp_total m x y ∙ ap (λ b. cond b None (finmap.get m y)) (eq_nat y x) ∙ ⊎_elim
         (λ e.
         let here : keys y ≡ Some k = ap keys (e ∙ sym fk.id) ∙ r.keyed k fk.used in
-        let w : held_in rows' (Some k) ≡ None = rw come refl in
-        cond-true (eqb y x) None (finmap.get m y) (eq-eqb y x e) ∙ sym w ∙ ap (held_in rows') (sym here))
+        let w : held_in slots' (Some k) ≡ None = rw come refl in
+        cond-true (eqb y x) None (finmap.get m y) (eq-eqb y x e) ∙ sym w ∙ ap (held_in slots') (sym here))
         (λ n. cond-false (eqb y x) None (finmap.get m y) (ne_eqb y x n) ∙ h y ∙ others y n (keys y) refl)
         (cases_eq y x)
       where
-        others : (y : ℕ) → (y ≡ x → ⊥) → (m : Option ℕ) → keys y ≡ m → held_in rows m ≡ held_in rows' m
+        others : (y : ℕ) → (y ≡ x → ⊥) → (m : Option ℕ) → keys y ≡ m → held_in slots m ≡ held_in slots' m
         others y n None f = refl
-        others y n (Some q) f = rw (same q (λ e. n (sym (r.known y q f).id ∙ ap (λ z. (row_at rows z).head.id) e ∙ fk.id))) refl
+        others y n (Some q) f = rw (same q (λ e. n (sym (r.known y q f).id ∙ ap (λ z. (row_at slots z).head.id) e ∙ fk.id))) refl
 
     -- the operation was held
-    pub was_held : (m : finmap.FinMap nat_cmp Op) → ((y : ℕ) → finmap.get m y ≡ held_in rows (keys y)) → finmap.get m x ≡ Some o
-    was_held m h = h x ∙ ap (held_in rows) (ap keys (sym fk.id) ∙ r.keyed k fk.used) ∙ rw fk.out refl
+    pub was_held : (m : finmap.FinMap nat_cmp Op) → ((y : ℕ) → finmap.get m y ≡ held_in slots (keys y)) → finmap.get m x ≡ Some o
+    was_held m h = h x ∙ ap (held_in slots) (ap keys (sym fk.id) ∙ r.keyed k fk.used) ∙ rw fk.out refl
 
-    pub join_gone : (y : ℕ) → gone_in rows (keys y) ≡ gone_in rows' (keys y)
+    pub join_gone : (y : ℕ) → gone_in slots (keys y) ≡ gone_in slots' (keys y)
     join_gone y = go (keys y)
       where
-        go : (m : Option ℕ) → gone_in rows m ≡ gone_in rows' m
+        go : (m : Option ℕ) → gone_in slots m ≡ gone_in slots' m
         go None = refl
         go (Some q) = ap Some (sym (kept (λ z. z.gone) refl q))

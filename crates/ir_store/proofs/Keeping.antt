@@ -46,28 +46,28 @@ shuffle true false false r = refl
 shuffle false l b r = refl
 
 -- the walk tests the slot of each id
-module _ (rows : List Row) (lists : List (List ℕ)) (f : ℕ → ℕ → Bool) (keys : ℕ → Option ℕ) (keyed : (k : ℕ) → Live rows k → keys (row_at rows k).head.id ≡ Some k) where
+module _ (slots : List Row) (lists : List (List ℕ)) (f : ℕ → ℕ → Bool) (keys : ℕ → Option ℕ) (keyed : (k : ℕ) → Live slots k → keys (row_at slots k).head.id ≡ Some k) where
   abbrev pub args_all : List RegionShape → Bool
   args_all [] = true
   args_all (None ∷ xs) = args_all xs
-  args_all (Some a ∷ xs) = f (row_at rows a.1).values (length a.0) && args_all xs
+  args_all (Some a ∷ xs) = f (row_at slots a.1).values (length a.0) && args_all xs
 
   abbrev pub row_test : Option ℕ → Bool
   row_test None = true
-  row_test (Some q) = f (row_at rows q).values (length (row_at rows q).head.results) && args_all (row_at rows q).shapes
+  row_test (Some q) = f (row_at slots q).values (length (row_at slots q).head.results) && args_all (row_at slots q).shapes
 
   abbrev pub test : ℕ → Bool
   test y = row_test (keys y)
 
   mutual
-    pub keeps_is : (n k : ℕ) (o : Op) → depth o < n → SpellsOp rows lists k o → slot_keeps rows lists f n k ≡ list_all test (ids o)
+    pub keeps_is : (n k : ℕ) (o : Op) → depth o < n → SpellsOp slots lists k o → slot_keeps slots lists f n k ≡ list_all test (ids o)
     keeps_is zero k o l s = absurd (omega (arith, l))
     keeps_is (suc n) k (op h rs) l s =
-        (λ i. s.0 i && (f (row_at rows k).values (length (row_at rows k).head.results) && regions_keep n (row_at rows k).shapes rs (omega (arith, l)) s.1.1 i))
-        ∙ and_assoc (f (row_at rows k).values (length (row_at rows k).head.results)) (args_all (row_at rows k).shapes) (list_all test (regions_ids rs))
+        (λ i. s.0 i && (f (row_at slots k).values (length (row_at slots k).head.results) && regions_keep n (row_at slots k).shapes rs (omega (arith, l)) s.1.1 i))
+        ∙ and_assoc (f (row_at slots k).values (length (row_at slots k).head.results)) (args_all (row_at slots k).shapes) (list_all test (regions_ids rs))
         ∙ ap (λ o. row_test o && list_all test (regions_ids rs)) (sym (ap keys (ap (λ z. z.id) (sym s.1.0)) ∙ keyed k (record { live = s.0 })))
 
-    regions_keep : (n : ℕ) (xs : List RegionShape) (rs : Regions) → regions_depth rs ≤ n → SpellsRegions rows lists xs rs → shapes_keep rows lists f (slot_keeps rows lists f n) xs ≡ (args_all xs && list_all test (regions_ids rs))
+    regions_keep : (n : ℕ) (xs : List RegionShape) (rs : Regions) → regions_depth rs ≤ n → SpellsRegions slots lists xs rs → shapes_keep slots lists f (slot_keeps slots lists f n) xs ≡ (args_all xs && list_all test (regions_ids rs))
     regions_keep n [] no_regions l s = refl
     regions_keep n [] (region g rs) l s = absurd s
     regions_keep n (a ∷ xs) no_regions l s = absurd s
@@ -75,12 +75,12 @@ module _ (rows : List Row) (lists : List (List ℕ)) (f : ℕ → ℕ → Bool) 
     regions_keep n (None ∷ xs) (region (block args os) rs) l s = absurd s.0
     regions_keep n (Some a ∷ xs) (region empty rs) l s = absurd s.0
     regions_keep n (Some a ∷ xs) (region (block args os) rs) l s =
-        let own = f (row_at rows a.1).values (length a.0) in
+        let own = f (row_at slots a.1).values (length a.0) in
         (λ i. own && (ops_keep n (list_at lists a.1) os (omega (arith, l)) s.0.1 i && regions_keep n xs rs (omega (arith, l)) s.1 i))
         ∙ shuffle own (list_all test (ops_ids os)) (args_all xs) (list_all test (regions_ids rs))
         ∙ ap (λ b. (own && args_all xs) && b) (sym (list_all-append test (ops_ids os) (regions_ids rs)))
 
-    ops_keep : (n : ℕ) (ks : List ℕ) (os : Ops) → ops_depth os ≤ n → SpellsOps rows lists ks os → list_all (slot_keeps rows lists f n) ks ≡ list_all test (ops_ids os)
+    ops_keep : (n : ℕ) (ks : List ℕ) (os : Ops) → ops_depth os ≤ n → SpellsOps slots lists ks os → list_all (slot_keeps slots lists f n) ks ≡ list_all test (ops_ids os)
     ops_keep n [] no_ops l s = refl
     ops_keep n [] (next o os) l s = absurd s
     ops_keep n (k ∷ ks) no_ops l s = absurd s
@@ -109,12 +109,12 @@ all_any p y (x ∷ xs) e h =
     ⊎_elim (λ s. ap p (sym (eqb-true x y s)) ∙ b.0) (λ m. all_any p y xs b.1 m) (or_cases (eqb x y) (list_any (λ z. eqb z y) xs) h)
 
 -- the values of a slot, by their heads
-module _ (rows : List Row) (sibs lists : List (List ℕ)) (p : ℕ → Bool) (keys : ℕ → Option ℕ) (keyed : (k : ℕ) → Live rows k → keys (row_at rows k).head.id ≡ Some k) where
+module _ (slots : List Row) (sibs lists : List (List ℕ)) (p : ℕ → Bool) (keys : ℕ → Option ℕ) (keyed : (k : ℕ) → Live slots k → keys (row_at slots k).head.id ≡ Some k) where
   abbrev pub args_pass : List RegionShape → Bool
-  args_pass = args_all rows sibs (lists_pass lists p) keys keyed
+  args_pass = args_all slots sibs (lists_pass lists p) keys keyed
 
   abbrev pub row_passes : Option ℕ → Bool
-  row_passes = row_test rows sibs (lists_pass lists p) keys keyed
+  row_passes = row_test slots sibs (lists_pass lists p) keys keyed
 
   pass_at : (b n i : ℕ) → lists_pass lists p b n ≡ true → i < n → list_all p (list_at lists (b + i)) ≡ true
   pass_at b zero i e l = absurd (omega (arith, l))
@@ -128,17 +128,17 @@ module _ (rows : List Row) (sibs lists : List (List ℕ)) (p : ℕ → Bool) (ke
       (λ f. let r = fail_at (b + 1) n f in (suc r.0, omega (arith, r.1), ap (λ z. list_all p (list_at lists z)) (omega arith) ∙ r.2))
       (and_cases (list_all p (list_at lists b)) (lists_pass lists p (b + 1) n) e)
 
-  args_at : (xs : List RegionShape) (r : ℕ) (a : List ℕ × ℕ) → args_pass xs ≡ true → slice_get xs r ≡ Some (Some a) → lists_pass lists p (row_at rows a.1).values (length a.0) ≡ true
+  args_at : (xs : List RegionShape) (r : ℕ) (a : List ℕ × ℕ) → args_pass xs ≡ true → slice_get xs r ≡ Some (Some a) → lists_pass lists p (row_at slots a.1).values (length a.0) ≡ true
   args_at [] r a e f = absurd cc
   args_at (None ∷ xs) zero a e f = absurd cc
   args_at (None ∷ xs) (suc r) a e f = args_at xs r a e f
   args_at (Some c ∷ xs) zero a e f =
       let same : c ≡ a = cc in
-      subst (λ z. lists_pass lists p (row_at rows z.1).values (length z.0) ≡ true) same (both (lists_pass lists p (row_at rows c.1).values (length c.0)) (args_pass xs) e).0
-  args_at (Some c ∷ xs) (suc r) a e f = args_at xs r a (both (lists_pass lists p (row_at rows c.1).values (length c.0)) (args_pass xs) e).1 f
+      subst (λ z. lists_pass lists p (row_at slots z.1).values (length z.0) ≡ true) same (both (lists_pass lists p (row_at slots c.1).values (length c.0)) (args_pass xs) e).0
+  args_at (Some c ∷ xs) (suc r) a e f = args_at xs r a (both (lists_pass lists p (row_at slots c.1).values (length c.0)) (args_pass xs) e).1 f
 
   abbrev FailingArg : List RegionShape → Type 0
-  FailingArg xs = (r : ℕ) × (a : List ℕ × ℕ) × (slice_get xs r ≡ Some (Some a)) × (lists_pass lists p (row_at rows a.1).values (length a.0) ≡ false)
+  FailingArg xs = (r : ℕ) × (a : List ℕ × ℕ) × (slice_get xs r ≡ Some (Some a)) × (lists_pass lists p (row_at slots a.1).values (length a.0) ≡ false)
 
   fail_arg : (xs : List RegionShape) → args_pass xs ≡ false → FailingArg xs
   fail_arg [] e = absurd (true≢false e)
@@ -146,58 +146,58 @@ module _ (rows : List Row) (sibs lists : List (List ℕ)) (p : ℕ → Bool) (ke
   fail_arg (Some c ∷ xs) e = ⊎_elim
       (λ f. (0, c, refl, f))
       (λ f. let w = fail_arg xs f in (suc w.0, w.1, w.2, w.3))
-      (and_cases (lists_pass lists p (row_at rows c.1).values (length c.0)) (args_pass xs) e)
+      (and_cases (lists_pass lists p (row_at slots c.1).values (length c.0)) (args_pass xs) e)
 
   -- if a slot passes, the use list of each of its values passes
-  pub value_passes : (k : ℕ) → row_passes (Some k) ≡ true → (v : Value) (h : ℕ) → slot_head rows v k ≡ Some h → list_all p (list_at lists h) ≡ true
+  pub value_passes : (k : ℕ) → row_passes (Some k) ≡ true → (v : Value) (h : ℕ) → slot_head slots v k ≡ Some h → list_all p (list_at lists h) ≡ true
   value_passes k e (ResultOf x i) h f =
-      let b = both (lists_pass lists p (row_at rows k).values (length (row_at rows k).head.results)) (args_pass (row_at rows k).shapes) e in
-      let g = if_some (nat_lt i (length (row_at rows k).head.results)) ((row_at rows k).values + i) h f in
-      subst (λ z. list_all p (list_at lists z) ≡ true) g.1 (pass_at (row_at rows k).values (length (row_at rows k).head.results) i b.0 (ltb-true i (length (row_at rows k).head.results) g.0))
-  value_passes k e (Arg x r i) h f = go (slice_get (row_at rows k).shapes r) refl f
+      let b = both (lists_pass lists p (row_at slots k).values (length (row_at slots k).head.results)) (args_pass (row_at slots k).shapes) e in
+      let g = if_some (nat_lt i (length (row_at slots k).head.results)) ((row_at slots k).values + i) h f in
+      subst (λ z. list_all p (list_at lists z) ≡ true) g.1 (pass_at (row_at slots k).values (length (row_at slots k).head.results) i b.0 (ltb-true i (length (row_at slots k).head.results) g.0))
+  value_passes k e (Arg x r i) h f = go (slice_get (row_at slots k).shapes r) refl f
     where
-      go : (o : Option RegionShape) → slice_get (row_at rows k).shapes r ≡ o → option_and_then (argument_head rows i) o ≡ Some h → list_all p (list_at lists h) ≡ true
+      go : (o : Option RegionShape) → slice_get (row_at slots k).shapes r ≡ o → option_and_then (argument_head slots i) o ≡ Some h → list_all p (list_at lists h) ≡ true
       go None m f = absurd cc
       go (Some None) m f = absurd cc
       go (Some (Some a)) m f =
-          let b = both (lists_pass lists p (row_at rows k).values (length (row_at rows k).head.results)) (args_pass (row_at rows k).shapes) e in
-          let g = if_some (nat_lt i (length a.0)) ((row_at rows a.1).values + i) h f in
-          subst (λ z. list_all p (list_at lists z) ≡ true) g.1 (pass_at (row_at rows a.1).values (length a.0) i (args_at (row_at rows k).shapes r a b.1 m) (ltb-true i (length a.0) g.0))
+          let b = both (lists_pass lists p (row_at slots k).values (length (row_at slots k).head.results)) (args_pass (row_at slots k).shapes) e in
+          let g = if_some (nat_lt i (length a.0)) ((row_at slots a.1).values + i) h f in
+          subst (λ z. list_all p (list_at lists z) ≡ true) g.1 (pass_at (row_at slots a.1).values (length a.0) i (args_at (row_at slots k).shapes r a b.1 m) (ltb-true i (length a.0) g.0))
 
   -- if a slot doesn't pass, some value of it has a use list that doesn't
   pub record Failing (k x : ℕ) : Type 0 where
     pub value : Value
     pub head_at : ℕ
     pub own : (owner_of value).0 ≡ x
-    pub here : slot_head rows value k ≡ Some head_at
+    pub here : slot_head slots value k ≡ Some head_at
     pub fails : list_all p (list_at lists head_at) ≡ false
 
   pub failing_value : (k x : ℕ) → row_passes (Some k) ≡ false → Failing k x
   failing_value k x e = ⊎_elim
       (λ f.
-      let w = fail_at (row_at rows k).values (length (row_at rows k).head.results) f in
+      let w = fail_at (row_at slots k).values (length (row_at slots k).head.results) f in
       record {
         value = ResultOf x w.0;
-        head_at = (row_at rows k).values + w.0;
+        head_at = (row_at slots k).values + w.0;
         own = refl;
-        here = ap (λ c. if c then Some ((row_at rows k).values + w.0) else None) (is_below w.0 (length (row_at rows k).head.results) w.1);
+        here = ap (λ c. if c then Some ((row_at slots k).values + w.0) else None) (is_below w.0 (length (row_at slots k).head.results) w.1);
         fails = w.2;
       })
       (λ f.
-      let y = fail_arg (row_at rows k).shapes f in
-      let w = fail_at (row_at rows y.1.1).values (length y.1.0) y.3 in
+      let y = fail_arg (row_at slots k).shapes f in
+      let w = fail_at (row_at slots y.1.1).values (length y.1.0) y.3 in
       record {
         value = Arg x y.0 w.0;
-        head_at = (row_at rows y.1.1).values + w.0;
+        head_at = (row_at slots y.1.1).values + w.0;
         own = refl;
-        here = ap (option_and_then (argument_head rows w.0)) y.2 ∙ ap (λ c. if c then Some ((row_at rows y.1.1).values + w.0) else None) (is_below w.0 (length y.1.0) w.1);
+        here = ap (option_and_then (argument_head slots w.0)) y.2 ∙ ap (λ c. if c then Some ((row_at slots y.1.1).values + w.0) else None) (is_below w.0 (length y.1.0) w.1);
         fails = w.2;
       })
-      (and_cases (lists_pass lists p (row_at rows k).values (length (row_at rows k).head.results)) (args_pass (row_at rows k).shapes) e)
+      (and_cases (lists_pass lists p (row_at slots k).values (length (row_at slots k).head.results)) (args_pass (row_at slots k).shapes) e)
 
 module _ (a : Inside) (w : Whole a) (laws : Laws a.uses.lists a.uses.homes) (x k : ℕ) (ek : Some k ≡ live_slot (rows_in a) (keys_in a) x) where
-  abbrev rows : List Row
-  rows = rows_in a
+  abbrev slots : List Row
+  slots = rows_in a
 
   abbrev cells : List (ℕ × ℕ)
   cells = cells_of a.cells.items

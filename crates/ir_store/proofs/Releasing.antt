@@ -81,95 +81,95 @@ pub live_not_given : (from : ℕ) (b : Row) → b.live ≡ true → is_given fro
 live_not_given from b e = live_given b.used b.live (not (nat_lt b.head.id from)) e
 
 -- a tree is represented by other rows too, if the live rows have the same heads and shapes
-module _ (rows rows' : List Row) (lists : List (List ℕ)) (live : (k : ℕ) → (row_at rows' k).live ≡ (row_at rows k).live) (heads : (k : ℕ) → Live rows k → (row_at rows' k).head ≡ (row_at rows k).head) (shapes : (k : ℕ) → Live rows k → (row_at rows' k).shapes ≡ (row_at rows k).shapes) where
+module _ (slots slots' : List Row) (lists : List (List ℕ)) (live : (k : ℕ) → (row_at slots' k).live ≡ (row_at slots k).live) (heads : (k : ℕ) → Live slots k → (row_at slots' k).head ≡ (row_at slots k).head) (shapes : (k : ℕ) → Live slots k → (row_at slots' k).shapes ≡ (row_at slots k).shapes) where
   mutual
-    pub still_spells : (k : ℕ) (t : Op) → SpellsOp rows lists k t → SpellsOp rows' lists k t
+    pub still_spells : (k : ℕ) (t : Op) → SpellsOp slots lists k t → SpellsOp slots' lists k t
     still_spells k (op h rs) s =
-        let l : Live rows k = record { live = s.0 } in
-        (live k ∙ s.0, (heads k l ∙ s.1.0, subst (λ z. SpellsRegions rows' lists z rs) (sym (shapes k l)) (still_regions (row_at rows k).shapes rs s.1.1)))
+        let l : Live slots k = record { live = s.0 } in
+        (live k ∙ s.0, (heads k l ∙ s.1.0, subst (λ z. SpellsRegions slots' lists z rs) (sym (shapes k l)) (still_regions (row_at slots k).shapes rs s.1.1)))
 
-    still_regions : (xs : List RegionShape) (rs : Regions) → SpellsRegions rows lists xs rs → SpellsRegions rows' lists xs rs
+    still_regions : (xs : List RegionShape) (rs : Regions) → SpellsRegions slots lists xs rs → SpellsRegions slots' lists xs rs
     still_regions [] no_regions s = tt
     still_regions [] (region g rs) s = absurd s
     still_regions (a ∷ xs) no_regions s = absurd s
     still_regions (a ∷ xs) (region g rs) s = (still_region a g s.0, still_regions xs rs s.1)
 
-    still_region : (a : RegionShape) (g : Region) → SpellsRegion rows lists a g → SpellsRegion rows' lists a g
+    still_region : (a : RegionShape) (g : Region) → SpellsRegion slots lists a g → SpellsRegion slots' lists a g
     still_region None empty s = tt
     still_region None (block args os) s = absurd s
     still_region (Some a) empty s = absurd s
     still_region (Some a) (block args os) s = (s.0, still_ops (list_at lists a.1) os s.1)
 
-    still_ops : (ks : List ℕ) (os : Ops) → SpellsOps rows lists ks os → SpellsOps rows' lists ks os
+    still_ops : (ks : List ℕ) (os : Ops) → SpellsOps slots lists ks os → SpellsOps slots' lists ks os
     still_ops [] no_ops s = tt
     still_ops [] (next o os) s = absurd s
     still_ops (k ∷ ks) no_ops s = absurd s
     still_ops (k ∷ ks) (next o os) s = (still_spells k o s.0, still_ops ks os s.1)
 
-module _ (from : ℕ) (rows : List Row) (keys : ℕ → Option ℕ) (sibs : Lists) (root : ℕ) (t : Op) (r : Right rows keys sibs root t) (s : SpellsOp rows sibs.lists root t)
-    (rows' : List Row) (long' : length rows' ≡ length rows) (all : (q : ℕ) → row_at rows' q ≡ released from (row_at rows q))
-    (keys' : ℕ → Option ℕ) (left : (y : ℕ) → keys' y ≡ key_left from rows (keys y)) where
-  kept : {A : Type 0} (f : Row → A) → ((b : Row) → f (vacated b) ≡ f b) → ((b : Row) → f (record b { gone = none_gone }) ≡ f b) → (q : ℕ) → f (row_at rows' q) ≡ f (row_at rows q)
-  kept f e g q = let b = row_at rows q in ap f (all q) ∙ any_field f b (e b) (g b) (is_given from b) (b.live && eqb from 0)
+module _ (from : ℕ) (slots : List Row) (keys : ℕ → Option ℕ) (sibs : Lists) (root : ℕ) (t : Op) (r : Right slots keys sibs root t) (s : SpellsOp slots sibs.lists root t)
+    (slots' : List Row) (long' : length slots' ≡ length slots) (all : (q : ℕ) → row_at slots' q ≡ released from (row_at slots q))
+    (keys' : ℕ → Option ℕ) (left : (y : ℕ) → keys' y ≡ key_left from slots (keys y)) where
+  kept : {A : Type 0} (f : Row → A) → ((b : Row) → f (vacated b) ≡ f b) → ((b : Row) → f (record b { gone = none_gone }) ≡ f b) → (q : ℕ) → f (row_at slots' q) ≡ f (row_at slots q)
+  kept f e g q = let b = row_at slots q in ap f (all q) ∙ any_field f b (e b) (g b) (is_given from b) (b.live && eqb from 0)
 
   -- a row that isn't freed keeps everything but its removed keys
-  kept_in : {A : Type 0} (f : Row → A) → ((b : Row) → f (record b { gone = none_gone }) ≡ f b) → (q : ℕ) → is_given from (row_at rows q) ≡ false → f (row_at rows' q) ≡ f (row_at rows q)
+  kept_in : {A : Type 0} (f : Row → A) → ((b : Row) → f (record b { gone = none_gone }) ≡ f b) → (q : ℕ) → is_given from (row_at slots q) ≡ false → f (row_at slots' q) ≡ f (row_at slots q)
   kept_in f g q n =
-      let b = row_at rows q in
+      let b = row_at slots q in
       ap f (all q) ∙ ap (λ c. f (if c then vacated b else (if b.live && eqb from 0 then record b { gone = none_gone } else b))) n ∙ test (b.live && eqb from 0) (g b)
     where
-      test : (d : Bool) → f (record (row_at rows q) { gone = none_gone }) ≡ f (row_at rows q) → f (if d then record (row_at rows q) { gone = none_gone } else row_at rows q) ≡ f (row_at rows q)
+      test : (d : Bool) → f (record (row_at slots q) { gone = none_gone }) ≡ f (row_at slots q) → f (if d then record (row_at slots q) { gone = none_gone } else row_at slots q) ≡ f (row_at slots q)
       test true e = e
       test false e = refl
 
-  live_was : (q : ℕ) → Live rows' q → Live rows q
+  live_was : (q : ℕ) → Live slots' q → Live slots q
   live_was q l = record { live = sym (kept (λ z. z.live) (λ b. refl) (λ b. refl) q) ∙ l.live }
 
-  left_in : (q : ℕ) → Used rows' q → (is_given from (row_at rows q) ≡ false) × Used rows q
+  left_in : (q : ℕ) → Used slots' q → (is_given from (row_at slots q) ≡ false) × Used slots q
   left_in q u =
-      let b = row_at rows q in
+      let b = row_at slots q in
       let w = both_of (is_given from b) b.used (sym (used_field b (is_given from b) (b.live && eqb from 0)) ∙ sym (ap (λ z. z.used) (all q)) ∙ u.used) in
       (w.0, record { used = w.1 })
 
-  used_still : (q : ℕ) → is_given from (row_at rows q) ≡ false → Used rows q → Used rows' q
+  used_still : (q : ℕ) → is_given from (row_at slots q) ≡ false → Used slots q → Used slots' q
   used_still q n u =
-      let b = row_at rows q in
+      let b = row_at slots q in
       record { used = ap (λ z. z.used) (all q) ∙ used_field b (is_given from b) (b.live && eqb from 0) ∙ ap (λ c. not c && b.used) n ∙ u.used }
 
-  key_was : (y q : ℕ) → keys' y ≡ Some q → (keys y ≡ Some q) × (is_given from (row_at rows q) ≡ false)
+  key_was : (y q : ℕ) → keys' y ≡ Some q → (keys y ≡ Some q) × (is_given from (row_at slots q) ≡ false)
   key_was y q e = go (keys y) refl (sym (left y) ∙ e)
     where
-      test : (k : ℕ) (b : Bool) → is_given from (row_at rows k) ≡ b → (if b then None else Some k) ≡ Some q → (◌≡◌ {A = Option ℕ} (Some k) (Some q)) × (is_given from (row_at rows q) ≡ false)
+      test : (k : ℕ) (b : Bool) → is_given from (row_at slots k) ≡ b → (if b then None else Some k) ≡ Some q → (◌≡◌ {A = Option ℕ} (Some k) (Some q)) × (is_given from (row_at slots q) ≡ false)
       test k true f g = absurd cc
-      test k false f g = (g, subst (λ z. is_given from (row_at rows z) ≡ false) (some_same k q g) f)
+      test k false f g = (g, subst (λ z. is_given from (row_at slots z) ≡ false) (some_same k q g) f)
 
-      go : (o : Option ℕ) → keys y ≡ o → key_left from rows o ≡ Some q → (keys y ≡ Some q) × (is_given from (row_at rows q) ≡ false)
+      go : (o : Option ℕ) → keys y ≡ o → key_left from slots o ≡ Some q → (keys y ≡ Some q) × (is_given from (row_at slots q) ≡ false)
       go None f g = absurd cc
-      go (Some k) f g = let w = test k (is_given from (row_at rows k)) refl g in (f ∙ w.0, w.1)
+      go (Some k) f g = let w = test k (is_given from (row_at slots k)) refl g in (f ∙ w.0, w.1)
 
-  key_still : (y q : ℕ) → keys y ≡ Some q → is_given from (row_at rows q) ≡ false → keys' y ≡ Some q
-  key_still y q e n = left y ∙ ap (key_left from rows) e ∙ ap {A = Bool} {B = Option ℕ} (λ b. if b then None else Some q) n
+  key_still : (y q : ℕ) → keys y ≡ Some q → is_given from (row_at slots q) ≡ false → keys' y ≡ Some q
+  key_still y q e n = left y ∙ ap (key_left from slots) e ∙ ap {A = Bool} {B = Option ℕ} (λ b. if b then None else Some q) n
 
-  live_key : (y q : ℕ) → keys y ≡ Some q → Live rows q → keys' y ≡ Some q
-  live_key y q e l = key_still y q e (live_not_given from (row_at rows q) l.live)
+  live_key : (y q : ℕ) → keys y ≡ Some q → Live slots q → keys' y ≡ Some q
+  live_key y q e l = key_still y q e (live_not_given from (row_at slots q) l.live)
 
-  live_out : (q : ℕ) → Live rows q → is_given from (row_at rows q) ≡ false
-  live_out q l = live_not_given from (row_at rows q) l.live
+  live_out : (q : ℕ) → Live slots q → is_given from (row_at slots q) ≡ false
+  live_out q l = live_not_given from (row_at slots q) l.live
 
-  pub release_spells : SpellsOp rows' sibs.lists root t
-  release_spells = still_spells rows rows' sibs.lists (kept (λ z. z.live) (λ b. refl) (λ b. refl)) (λ q l. kept_in (λ z. z.head) (λ b. refl) q (live_out q l)) (λ q l. kept_in (λ z. z.shapes) (λ b. refl) q (live_out q l)) root t s
+  pub release_spells : SpellsOp slots' sibs.lists root t
+  release_spells = still_spells slots slots' sibs.lists (kept (λ z. z.live) (λ b. refl) (λ b. refl)) (λ q l. kept_in (λ z. z.head) (λ b. refl) q (live_out q l)) (λ q l. kept_in (λ z. z.shapes) (λ b. refl) q (live_out q l)) root t s
 
-  shapes_same : (q i : ℕ) → is_given from (row_at rows q) ≡ false → slice_get (row_at rows' q).shapes i ≡ slice_get (row_at rows q).shapes i
+  shapes_same : (q i : ℕ) → is_given from (row_at slots q) ≡ false → slice_get (row_at slots' q).shapes i ≡ slice_get (row_at slots q).shapes i
   shapes_same q i n = ap (λ z. slice_get z i) (kept_in (λ z. z.shapes) (λ b. refl) q n)
 
-  pub release_right : Right rows' keys' sibs root t
+  pub release_right : Right slots' keys' sibs root t
   release_right = record {
     few = r.few;
     long = long' ∙ r.long;
-    live_used = λ q l. let w = live_was q l in used_still q (live_not_given from (row_at rows q) w.live) (r.live_used q w);
+    live_used = λ q l. let w = live_was q l in used_still q (live_not_given from (row_at slots q) w.live) (r.live_used q w);
     keyed = λ q u.
         let w = left_in q u in
-        ap keys' (kept (λ z. z.head.id) (λ b. refl) (λ b. refl) q) ∙ key_still (row_at rows q).head.id q (r.keyed q w.1) w.0;
+        ap keys' (kept (λ z. z.head.id) (λ b. refl) (λ b. refl) q) ∙ key_still (row_at slots q).head.id q (r.keyed q w.1) w.0;
     known = λ y q e.
         let w = key_was y q e in
         let h = r.known y q w.0 in
@@ -190,29 +190,29 @@ module _ (from : ℕ) (rows : List Row) (keys : ℕ → Option ℕ) (sibs : List
   no_none true = refl
   no_none false = refl
 
-  pub release_holds : (m : finmap.FinMap nat_cmp Op) → ((y : ℕ) → finmap.get m y ≡ held_in rows (keys y)) → (y : ℕ) → finmap.get (finmap.retain_keys m (λ x. nat_lt x from)) y ≡ held_in rows' (keys' y)
-  release_holds m h y = get-retained m (λ x. nat_lt x from) y ∙ ap (λ o. cond (nat_lt y from) o None) (h y) ∙ go (keys y) refl ∙ ap (held_in rows') (sym (left y))
+  pub release_holds : (m : finmap.FinMap nat_cmp Op) → ((y : ℕ) → finmap.get m y ≡ held_in slots (keys y)) → (y : ℕ) → finmap.get (finmap.retain_keys m (λ x. nat_lt x from)) y ≡ held_in slots' (keys' y)
+  release_holds m h y = get-retained m (λ x. nat_lt x from) y ∙ ap (λ o. cond (nat_lt y from) o None) (h y) ∙ go (keys y) refl ∙ ap (held_in slots') (sym (left y))
     where
-      test : (k : ℕ) (u l b : Bool) → u ≡ true → cond b (if l then None else Some (bare (row_at rows k))) None ≡ (if u && (not l && not b) then None else (if l then None else Some (bare (row_at rows k))))
+      test : (k : ℕ) (u l b : Bool) → u ≡ true → cond b (if l then None else Some (bare (row_at slots k))) None ≡ (if u && (not l && not b) then None else (if l then None else Some (bare (row_at slots k))))
       test k true true b e = no_none b
       test k true false true e = refl
       test k true false false e = refl
       test k false l b e = absurd (false≢true e)
 
-      pass : (k : ℕ) (c : Bool) → is_given from (row_at rows k) ≡ c → (if c then None else held_in rows (Some k)) ≡ held_in rows' (if c then None else Some k)
+      pass : (k : ℕ) (c : Bool) → is_given from (row_at slots k) ≡ c → (if c then None else held_in slots (Some k)) ≡ held_in slots' (if c then None else Some k)
       pass k true n = refl
       pass k false n =
           let e = kept_in bare (λ b. refl) k n in
           let f = kept (λ z. z.live) (λ b. refl) (λ b. refl) k in
           λ i. if sym f i then None else Some (sym e i)
 
-      go : (o : Option ℕ) → keys y ≡ o → cond (nat_lt y from) (held_in rows o) None ≡ held_in rows' (key_left from rows o)
+      go : (o : Option ℕ) → keys y ≡ o → cond (nat_lt y from) (held_in slots o) None ≡ held_in slots' (key_left from slots o)
       go None e = no_none (nat_lt y from)
       go (Some k) e =
           let w = r.known y k e in
-          let b = row_at rows k in
+          let b = row_at slots k in
           test k b.used b.live (nat_lt y from) w.used.used
-          ∙ ap (λ z. if b.used && (not b.live && not (nat_lt z from)) then None else held_in rows (Some k)) (sym w.id)
+          ∙ ap (λ z. if b.used && (not b.live && not (nat_lt z from)) then None else held_in slots (Some k)) (sym w.id)
           ∙ pass k (is_given from b) refl
 
   -- the removed keys
@@ -225,14 +225,14 @@ module _ (from : ℕ) (rows : List Row) (keys : ℕ → Option ℕ) (sibs : List
   none_below : (x : ℕ) → eqb from 0 ≡ true → nat_lt x from ≡ false
   none_below x e = grind (arith, nat_tests)
 
-  gone_was : (k : ℕ) → Used rows k → is_given from (row_at rows k) ≡ false → (row_at rows' k).gone ≡ lack (row_at rows k).gone
+  gone_was : (k : ℕ) → Used slots k → is_given from (row_at slots k) ≡ false → (row_at slots' k).gone ≡ lack (row_at slots k).gone
   gone_was k u n =
-      let b = row_at rows k in
+      let b = row_at slots k in
       ap (λ z. z.gone) (all k) ∙ ap (λ c. (if c then vacated b else (if b.live && eqb from 0 then record b { gone = none_gone } else b)).gone) n
       ∙ test b.used b.live (eqb from 0) (nat_lt b.head.id from) u.used n (none_below b.head.id)
     where
       test : (u l z b : Bool) → u ≡ true → (u && (not l && not b)) ≡ false → (z ≡ true → b ≡ false)
-          → (if l && z then record (row_at rows k) { gone = none_gone } else row_at rows k).gone ≡ (if z then none_gone else (row_at rows k).gone)
+          → (if l && z then record (row_at slots k) { gone = none_gone } else row_at slots k).gone ≡ (if z then none_gone else (row_at slots k).gone)
       test false l z b e f g = absurd (false≢true e)
       test true true true b e f g = refl
       test true true false b e f g = refl
@@ -240,99 +240,99 @@ module _ (from : ℕ) (rows : List Row) (keys : ℕ → Option ℕ) (sibs : List
       test true false true false e f g = absurd (false≢true (sym f))
       test true false false b e f g = refl
 
-  pub release_gone : (m : finmap.FinMap nat_cmp Gone) → ((y : ℕ) → finmap.get m y ≡ gone_in rows (keys y)) → (y : ℕ) → finmap.get (lacks_left m) y ≡ gone_in rows' (keys' y)
+  pub release_gone : (m : finmap.FinMap nat_cmp Gone) → ((y : ℕ) → finmap.get m y ≡ gone_in slots (keys y)) → (y : ℕ) → finmap.get (lacks_left m) y ≡ gone_in slots' (keys' y)
   release_gone m h y = get-retained (all_changed lack m) (λ z. is_some (keys' z)) y ∙ ap (λ o. cond (is_some (keys' y)) o None) (get-changed lack m y ∙ ap (option_map lack) (h y)) ∙ go (keys' y) refl
     where
-      go : (o : Option ℕ) → keys' y ≡ o → cond (is_some o) (option_map lack (gone_in rows (keys y))) None ≡ gone_in rows' o
+      go : (o : Option ℕ) → keys' y ≡ o → cond (is_some o) (option_map lack (gone_in slots (keys y))) None ≡ gone_in slots' o
       go None e = refl
-      go (Some k) e = let w = key_was y k e in ap (λ z. option_map lack (gone_in rows z)) w.0 ∙ ap Some (sym (gone_was k (r.known y k w.0).used w.1))
+      go (Some k) e = let w = key_was y k e in ap (λ z. option_map lack (gone_in slots z)) w.0 ∙ ap Some (sym (gone_was k (r.known y k w.0).used w.1))
 
   -- the removed keys, as the contract describes them
-  pub gone_is : (x : ℕ) → gone_in rows' (keys' x) ≡ (if has_id x t then gone_left from (gone_in rows (keys x)) else (if nat_lt x from then gone_in rows (keys x) else None))
-  gone_is x = go (keys x) refl ∙ ap (λ b. if b then gone_left from (gone_in rows (keys x)) else (if nat_lt x from then gone_in rows (keys x) else None)) (in_tree_is rows keys sibs root t r s x)
+  pub gone_is : (x : ℕ) → gone_in slots' (keys' x) ≡ (if has_id x t then gone_left from (gone_in slots (keys x)) else (if nat_lt x from then gone_in slots (keys x) else None))
+  gone_is x = go (keys x) refl ∙ ap (λ b. if b then gone_left from (gone_in slots (keys x)) else (if nat_lt x from then gone_in slots (keys x) else None)) (in_tree_is slots keys sibs root t r s x)
     where
       nothing : (a b : Bool) → ◌≡◌ {A = Option Gone} None (if a then None else (if b then None else None))
       nothing true b = refl
       nothing false true = refl
       nothing false false = refl
 
-      held_gone : (k : ℕ) → Used rows k → (l b : Bool) → (row_at rows k).live ≡ l → nat_lt (row_at rows k).head.id from ≡ b
-          → gone_in rows' (if is_given from (row_at rows k) then None else Some k) ≡ (if l then Some (lack (row_at rows k).gone) else (if b then Some (row_at rows k).gone else None))
+      held_gone : (k : ℕ) → Used slots k → (l b : Bool) → (row_at slots k).live ≡ l → nat_lt (row_at slots k).head.id from ≡ b
+          → gone_in slots' (if is_given from (row_at slots k) then None else Some k) ≡ (if l then Some (lack (row_at slots k).gone) else (if b then Some (row_at slots k).gone else None))
       held_gone k u true b f g =
-          let n = live_not_given from (row_at rows k) f in
-          ap (λ c. gone_in rows' (if c then None else Some k)) n ∙ ap Some (gone_was k u n)
-      held_gone k u false false f g = ap (λ c. gone_in rows' (if c then None else Some k)) (λ i. u.used i && (not (f i) && not (g i)))
+          let n = live_not_given from (row_at slots k) f in
+          ap (λ c. gone_in slots' (if c then None else Some k)) n ∙ ap Some (gone_was k u n)
+      held_gone k u false false f g = ap (λ c. gone_in slots' (if c then None else Some k)) (λ i. u.used i && (not (f i) && not (g i)))
       held_gone k u false true f g =
-          let b = row_at rows k in
+          let b = row_at slots k in
           let n : is_given from b ≡ false = λ i. u.used i && (not (f i) && not (g i)) in
-          ap (λ c. gone_in rows' (if c then None else Some k)) n
+          ap (λ c. gone_in slots' (if c then None else Some k)) n
           ∙ ap Some (ap (λ z. z.gone) (all k) ∙ ap (λ c. (if c then vacated b else (if b.live && eqb from 0 then record b { gone = none_gone } else b)).gone) n
           ∙ ap (λ c. (if c && eqb from 0 then record b { gone = none_gone } else b).gone) f)
 
-      go : (o : Option ℕ) → keys x ≡ o → gone_in rows' (keys' x) ≡ (if is_some (if_live rows (keys x)) then gone_left from (gone_in rows (keys x)) else (if nat_lt x from then gone_in rows (keys x) else None))
-      go None e = ap (gone_in rows') (left x ∙ ap (key_left from rows) e) ∙ nothing (is_some (if_live rows None)) (nat_lt x from)
-          ∙ ap (λ o. if is_some (if_live rows o) then gone_left from (gone_in rows o) else (if nat_lt x from then gone_in rows o else None)) (sym e)
+      go : (o : Option ℕ) → keys x ≡ o → gone_in slots' (keys' x) ≡ (if is_some (if_live slots (keys x)) then gone_left from (gone_in slots (keys x)) else (if nat_lt x from then gone_in slots (keys x) else None))
+      go None e = ap (gone_in slots') (left x ∙ ap (key_left from slots) e) ∙ nothing (is_some (if_live slots None)) (nat_lt x from)
+          ∙ ap (λ o. if is_some (if_live slots o) then gone_left from (gone_in slots o) else (if nat_lt x from then gone_in slots o else None)) (sym e)
       go (Some k) e =
           let w = r.known x k e in
-          let b = row_at rows k in
-          ap (gone_in rows') (left x ∙ ap (key_left from rows) e)
+          let b = row_at slots k in
+          ap (gone_in slots') (left x ∙ ap (key_left from slots) e)
           ∙ shown k b.live (nat_lt x from) (held_gone k w.used b.live (nat_lt x from) refl (ap (λ z. nat_lt z from) w.id))
-          ∙ ap (λ o. if is_some (if_live rows o) then gone_left from (gone_in rows o) else (if nat_lt x from then gone_in rows o else None)) (sym e)
+          ∙ ap (λ o. if is_some (if_live slots o) then gone_left from (gone_in slots o) else (if nat_lt x from then gone_in slots o else None)) (sym e)
         where
-          shown : (k : ℕ) (l b : Bool) {X : Option Gone} → X ≡ (if l then Some (lack (row_at rows k).gone) else (if b then Some (row_at rows k).gone else None))
-              → X ≡ (if is_some (if l then Some k else None) then gone_left from (Some (row_at rows k).gone) else (if b then Some (row_at rows k).gone else None))
+          shown : (k : ℕ) (l b : Bool) {X : Option Gone} → X ≡ (if l then Some (lack (row_at slots k).gone) else (if b then Some (row_at slots k).gone else None))
+              → X ≡ (if is_some (if l then Some k else None) then gone_left from (Some (row_at slots k).gone) else (if b then Some (row_at slots k).gone else None))
           shown k true b e = e
           shown k false b e = e
 
   -- the heads of values are unchanged
-  argument_same : (i : ℕ) (a : RegionShape) → argument_head rows' i a ≡ argument_head rows i a
+  argument_same : (i : ℕ) (a : RegionShape) → argument_head slots' i a ≡ argument_head slots i a
   argument_same i None = refl
   argument_same i (Some a) = ap (λ z. argument_with z i a) (kept (λ z. z.values) (λ b. refl) (λ b. refl) a.1)
 
-  slot_same : (v : Value) (q : ℕ) → is_given from (row_at rows q) ≡ false → slot_head rows' v q ≡ slot_head rows v q
+  slot_same : (v : Value) (q : ℕ) → is_given from (row_at slots q) ≡ false → slot_head slots' v q ≡ slot_head slots v q
   slot_same (Result y i) q g = λ j. result_with i (kept_in (λ z. z.head) (λ b. refl) q g j) (kept (λ z. z.values) (λ b. refl) (λ b. refl) q j)
-  slot_same (Arg y n i) q g = ap (λ z. option_and_then (argument_head rows' i) z) (shapes_same q n g) ∙ arguments_same (slice_get (row_at rows q).shapes n)
+  slot_same (Arg y n i) q g = ap (λ z. option_and_then (argument_head slots' i) z) (shapes_same q n g) ∙ arguments_same (slice_get (row_at slots q).shapes n)
     where
-      arguments_same : (o : Option RegionShape) → option_and_then (argument_head rows' i) o ≡ option_and_then (argument_head rows i) o
+      arguments_same : (o : Option RegionShape) → option_and_then (argument_head slots' i) o ≡ option_and_then (argument_head slots i) o
       arguments_same None = refl
       arguments_same (Some a) = argument_same i a
 
-  head_was : (v : Value) (h : ℕ) → value_head rows' keys' v ≡ Some h → value_head rows keys v ≡ Some h
+  head_was : (v : Value) (h : ℕ) → value_head slots' keys' v ≡ Some h → value_head slots keys v ≡ Some h
   head_was v h e = go (keys' (owner_of v).0) refl e
     where
-      go : (o : Option ℕ) → keys' (owner_of v).0 ≡ o → option_and_then (slot_head rows' v) o ≡ Some h → value_head rows keys v ≡ Some h
+      go : (o : Option ℕ) → keys' (owner_of v).0 ≡ o → option_and_then (slot_head slots' v) o ≡ Some h → value_head slots keys v ≡ Some h
       go None f g = absurd cc
-      go (Some q) f g = let w = key_was (owner_of v).0 q f in ap (option_and_then (slot_head rows v)) w.0 ∙ sym (slot_same v q w.1) ∙ g
+      go (Some q) f g = let w = key_was (owner_of v).0 q f in ap (option_and_then (slot_head slots v)) w.0 ∙ sym (slot_same v q w.1) ∙ g
 
-  head_still : (v : Value) (q : ℕ) → keys (owner_of v).0 ≡ Some q → Live rows q → value_head rows' keys' v ≡ value_head rows keys v
-  head_still v q e l = ap (option_and_then (slot_head rows' v)) (live_key (owner_of v).0 q e l) ∙ slot_same v q (live_out q l) ∙ sym (ap (option_and_then (slot_head rows v)) e)
+  head_still : (v : Value) (q : ℕ) → keys (owner_of v).0 ≡ Some q → Live slots q → value_head slots' keys' v ≡ value_head slots keys v
+  head_still v q e l = ap (option_and_then (slot_head slots' v)) (live_key (owner_of v).0 q e l) ∙ slot_same v q (live_out q l) ∙ sym (ap (option_and_then (slot_head slots v)) e)
 
-  operand_same : (q j : ℕ) → is_given from (row_at rows q) ≡ false → operand_at rows' q j ≡ operand_at rows q j
+  operand_same : (q j : ℕ) → is_given from (row_at slots q) ≡ false → operand_at slots' q j ≡ operand_at slots q j
   operand_same q j n = ap (λ z. slice_get z.operands j) (kept_in (λ z. z.head) (λ b. refl) q n)
 
-  uses_same : (q : ℕ) → (row_at rows' q).uses ≡ (row_at rows q).uses
+  uses_same : (q : ℕ) → (row_at slots' q).uses ≡ (row_at slots q).uses
   uses_same q = kept (λ z. z.uses) (λ b. refl) (λ b. refl) q
 
-  module _ (homes : List ℕ) (cells : List (ℕ × ℕ)) (ix : Index rows keys homes cells (lives rows)) (owned : HasOwners rows keys) where
-    pub release_index : Index rows' keys' homes cells (lives rows')
+  module _ (homes : List ℕ) (cells : List (ℕ × ℕ)) (ix : Index slots keys homes cells (lives slots)) (owned : HasOwners slots keys) where
+    pub release_index : Index slots' keys' homes cells (lives slots')
     release_index = record {
       counted = ix.counted;
       cell = λ q j v u e.
           let old = ix.cell q j v (left_in q u).1 (sym (operand_same q j (left_in q u).0) ∙ e) in
-          let at : (row_at rows' q).uses ≡ (row_at rows q).uses = uses_same q in
+          let at : (row_at slots' q).uses ≡ (row_at slots q).uses = uses_same q in
           record { inside = omega (arith, old.inside, at); cell = ap (λ z. cell_of (z + j)) at ∙ old.cell };
       linked = λ q j v u e o.
           let l = live_was q (record { live = o }) in
           let f = sym (operand_same q j (left_in q u).0) ∙ e in
           let old = ix.linked q j v (left_in q u).1 f l.live in
-          let w = some_live rows keys (owner_of v).0 (owned q j v l f) in
-          subst (λ z. LinkedTo rows' keys' homes (z + j) v) (sym (uses_same q))
+          let w = some_live slots keys (owner_of v).0 (owned q j v l f) in
+          subst (λ z. LinkedTo slots' keys' homes (z + j) v) (sym (uses_same q))
           (record { item = old.item; home = head_still v w.0 w.1.0 w.1.1 ∙ old.home });
       unlinked_home = λ q j v u e o.
           ap (λ z. home_at homes (z + j)) (uses_same q) ∙ ix.unlinked_home q j v (left_in q u).1 (sym (operand_same q j (left_in q u).0) ∙ e) (sym (kept (λ z. z.live) (λ b. refl) (λ b. refl) q) ∙ o);
       users = λ u i.
           let s = ix.users u i in
-          let n = live_not_given from (row_at rows s.row) s.put in
+          let n = live_not_given from (row_at slots s.row) s.put in
           record {
             row = s.row;
             place = s.place;
@@ -347,57 +347,57 @@ module _ (from : ℕ) (rows : List Row) (keys : ℕ → Option ℕ) (sibs : List
         cell_of : ℕ → ℕ × ℕ
         cell_of = cell_at cells
 
-    pub release_owned : HasOwners rows' keys'
+    pub release_owned : HasOwners slots' keys'
     release_owned q j v l e =
-        live_stays rows rows' keys keys' (owner_of v).0 (λ p g lp. (live_key (owner_of v).0 p g lp, record { live = kept (λ z. z.live) (λ b. refl) (λ b. refl) p ∙ lp.live }))
+        live_stays slots slots' keys keys' (owner_of v).0 (λ p g lp. (live_key (owner_of v).0 p g lp, record { live = kept (λ z. z.live) (λ b. refl) (λ b. refl) p ∙ lp.live }))
         (owned q j v (live_was q l) (sym (operand_same q j (live_out q (live_was q l))) ∙ e))
 
-  pub release_celled : (cells : List (ℕ × ℕ)) → Celled rows cells → Celled rows' cells
-  release_celled cells c = celled_same rows rows' cells c (λ q u. (left_in q u).1) (λ q u. kept_in (λ z. z.head.results) (λ b. refl) q (left_in q u).0) (λ q u. kept_in (λ z. z.shapes) (λ b. refl) q (left_in q u).0) (kept (λ z. z.values) (λ b. refl) (λ b. refl))
+  pub release_celled : (cells : List (ℕ × ℕ)) → Celled slots cells → Celled slots' cells
+  release_celled cells c = celled_same slots slots' cells c (λ q u. (left_in q u).1) (λ q u. kept_in (λ z. z.head.results) (λ b. refl) q (left_in q u).0) (λ q u. kept_in (λ z. z.shapes) (λ b. refl) q (left_in q u).0) (kept (λ z. z.values) (λ b. refl) (λ b. refl))
 
-  pub release_below : (n : ℕ) → HasIdsBelow n rows → HasIdsBelow n rows'
+  pub release_below : (n : ℕ) → HasIdsBelow n slots → HasIdsBelow n slots'
   release_below n b q l = subst (λ z. z < n) (sym (kept (λ z. z.head.id) (λ b. refl) (λ b. refl) q)) (b q (live_was q l))
 
 -- the same, in the form of the call's contract
-module _ (a : Inside) (w : Whole a) (from : ℕ) (rows' : List Row) (long : length rows' ≡ length (rows_in a)) (all : (q : ℕ) → row_at rows' q ≡ released from (row_at (rows_in a) q))
+module _ (a : Inside) (w : Whole a) (from : ℕ) (slots' : List Row) (long : length slots' ≡ length (rows_in a)) (all : (q : ℕ) → row_at slots' q ≡ released from (row_at (rows_in a) q))
     (keys' : ℕ → Option ℕ) (left : (y : ℕ) → keys' y ≡ key_left from (rows_in a) (keys_in a y)) where
-  spells : SpellsOp rows' a.sibs.lists a.root a.represented.0
-  spells = release_spells from (rows_in a) (keys_in a) a.sibs a.root a.represented.0 w.right a.represented.1 rows' long all keys' left
+  spells : SpellsOp slots' a.sibs.lists a.root a.represented.0
+  spells = release_spells from (rows_in a) (keys_in a) a.sibs a.root a.represented.0 w.right a.represented.1 slots' long all keys' left
 
-  holds : (y : ℕ) → finmap.get (finmap.retain_keys a.holds.0 (λ x. nat_lt x from)) y ≡ held_in rows' (keys' y)
-  holds = release_holds from (rows_in a) (keys_in a) a.sibs a.root a.represented.0 w.right a.represented.1 rows' long all keys' left a.holds.0 a.holds.1
+  holds : (y : ℕ) → finmap.get (finmap.retain_keys a.holds.0 (λ x. nat_lt x from)) y ≡ held_in slots' (keys' y)
+  holds = release_holds from (rows_in a) (keys_in a) a.sibs a.root a.represented.0 w.right a.represented.1 slots' long all keys' left a.holds.0 a.holds.1
 
   abbrev lacked : finmap.FinMap nat_cmp Gone
-  lacked = lacks_left from (rows_in a) (keys_in a) a.sibs a.root a.represented.0 w.right a.represented.1 rows' long all keys' left a.lacks.0
+  lacked = lacks_left from (rows_in a) (keys_in a) a.sibs a.root a.represented.0 w.right a.represented.1 slots' long all keys' left a.lacks.0
 
-  lacks : (y : ℕ) → finmap.get lacked y ≡ gone_in rows' (keys' y)
-  lacks = release_gone from (rows_in a) (keys_in a) a.sibs a.root a.represented.0 w.right a.represented.1 rows' long all keys' left a.lacks.0 a.lacks.1
+  lacks : (y : ℕ) → finmap.get lacked y ≡ gone_in slots' (keys' y)
+  lacks = release_gone from (rows_in a) (keys_in a) a.sibs a.root a.represented.0 w.right a.represented.1 slots' long all keys' left a.lacks.0 a.lacks.1
 
-  pub release_given : Represented rows' a.sibs.lists a.root × (HoldsOf rows' keys' × (GoneOf rows' keys' × Unit {0}))
+  pub release_given : Represented slots' a.sibs.lists a.root × (HoldsOf slots' keys' × (GoneOf slots' keys' × Unit {0}))
   release_given = ((a.represented.0, spells), ((finmap.retain_keys a.holds.0 (λ x. nat_lt x from), holds), ((lacked, lacks), tt)))
 
-  pub release_fits : (s : Represented rows' a.sibs.lists a.root) (marks : List ℕ) → Marked rows' marks → Fits rows' keys' a.sibs a.root s.0 a.uses.homes (cells_of a.cells.items) a.count a.next marks
+  pub release_fits : (s : Represented slots' a.sibs.lists a.root) (marks : List ℕ) → Marked slots' marks → Fits slots' keys' a.sibs a.root s.0 a.uses.homes (cells_of a.cells.items) a.count a.next marks
   release_fits s marks m =
-      let e = rendered_is rows' a.sibs.lists a.root s a.represented.0 spells in
+      let e = rendered_is slots' a.sibs.lists a.root s a.represented.0 spells in
       record {
-        right = subst (Right rows' keys' a.sibs a.root) (sym e) (release_right from (rows_in a) (keys_in a) a.sibs a.root a.represented.0 w.right a.represented.1 rows' long all keys' left);
+        right = subst (Right slots' keys' a.sibs a.root) (sym e) (release_right from (rows_in a) (keys_in a) a.sibs a.root a.represented.0 w.right a.represented.1 slots' long all keys' left);
         few = w.few;
-        index = release_index from (rows_in a) (keys_in a) a.sibs a.root a.represented.0 w.right a.represented.1 rows' long all keys' left a.uses.homes (cells_of a.cells.items) w.index w.owned;
+        index = release_index from (rows_in a) (keys_in a) a.sibs a.root a.represented.0 w.right a.represented.1 slots' long all keys' left a.uses.homes (cells_of a.cells.items) w.index w.owned;
         distinct = subst HasDistinctIds (sym e) w.distinct;
         counted = w.counted ∙ ap op_count (sym e);
-        below = release_below from (rows_in a) (keys_in a) a.sibs a.root a.represented.0 w.right a.represented.1 rows' long all keys' left a.next w.below;
-        owned = release_owned from (rows_in a) (keys_in a) a.sibs a.root a.represented.0 w.right a.represented.1 rows' long all keys' left a.uses.homes (cells_of a.cells.items) w.index w.owned;
+        below = release_below from (rows_in a) (keys_in a) a.sibs a.root a.represented.0 w.right a.represented.1 slots' long all keys' left a.next w.below;
+        owned = release_owned from (rows_in a) (keys_in a) a.sibs a.root a.represented.0 w.right a.represented.1 slots' long all keys' left a.uses.homes (cells_of a.cells.items) w.index w.owned;
         marked = m;
-        celled = release_celled from (rows_in a) (keys_in a) a.sibs a.root a.represented.0 w.right a.represented.1 rows' long all keys' left (cells_of a.cells.items) w.celled;
+        celled = release_celled from (rows_in a) (keys_in a) a.sibs a.root a.represented.0 w.right a.represented.1 slots' long all keys' left (cells_of a.cells.items) w.celled;
       }
 
-  pub release_done : (s : Represented rows' a.sibs.lists a.root) (h : HoldsOf rows' keys') (g : GoneOf rows' keys')
+  pub release_done : (s : Represented slots' a.sibs.lists a.root) (h : HoldsOf slots' keys') (g : GoneOf slots' keys')
       → Releases from (stored a) (record { module_of = record { tree = s.0; next = a.next }; held = h.0; gone = g.0 })
   release_done s h g =
-      let e = rendered_is rows' a.sibs.lists a.root s a.represented.0 spells in
+      let e = rendered_is slots' a.sibs.lists a.root s a.represented.0 spells in
       record {
         module_of = λ i. record { tree = e i; next = a.next };
-        held = map_is (λ y. held_in rows' (keys' y)) h (finmap.retain_keys a.holds.0 (λ x. nat_lt x from)) holds;
-        gone = λ x. g.1 x ∙ gone_is from (rows_in a) (keys_in a) a.sibs a.root a.represented.0 w.right a.represented.1 rows' long all keys' left x
+        held = map_is (λ y. held_in slots' (keys' y)) h (finmap.retain_keys a.holds.0 (λ x. nat_lt x from)) holds;
+        gone = λ x. g.1 x ∙ gone_is from (rows_in a) (keys_in a) a.sibs a.root a.represented.0 w.right a.represented.1 slots' long all keys' left x
             ∙ ap (λ o. if has_id x a.represented.0 then gone_left from o else (if nat_lt x from then o else None)) (sym (a.lacks.1 x));
       }

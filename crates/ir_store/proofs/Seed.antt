@@ -30,7 +30,7 @@ use Rattle.ir_store_reads.proofs.Celled.{celled_edit}
 use Rattle.std.proofs.lemmas.Option.{same_Some}
 
 abbrev pub nothing : Parts
-nothing = record { rows = []; sibs = record { lists = []; homes = []; headroom = 0 }; homes = []; cells = [] }
+nothing = record { slots = []; sibs = record { lists = []; homes = []; headroom = 0 }; homes = []; cells = [] }
 
 pub nothing_even : IsEven nothing
 nothing_even = record { long = refl; lists = refl; counted = refl }
@@ -57,7 +57,7 @@ nothing_index = record {
 
 module _ (q : Parts) (wide : Wider nothing q) (few : length q.sibs.homes < free) (uses_few : length q.homes < free) (x : ℕ) (o : Op) (k : ℕ) (v : Row) (grown : Grown 0 q x o k v)
     (keys : ℕ → Option ℕ) (ek : (y : ℕ) → keys y ≡ cond (eqb x y) (Some k) None) (bare_head : v.head.operands ≡ [])
-    (rows' : List Row) (long' : length rows' ≡ length q.rows) (same : (y : ℕ) → (y ≡ k → ⊥) → row_at rows' y ≡ row_at q.rows y) (own : row_at rows' k ≡ record v { live = true }) where
+    (slots' : List Row) (long' : length slots' ≡ length q.slots) (same : (y : ℕ) → (y ≡ k → ⊥) → row_at slots' y ≡ row_at q.slots y) (own : row_at slots' k ≡ record v { live = true }) where
   ready : Ready q no_keys 0 k x v
   ready = grown.ready no_keys refl
 
@@ -67,13 +67,13 @@ module _ (q : Parts) (wide : Wider nothing q) (few : length q.sibs.homes < free)
   others : (y : ℕ) → (y ≡ x → ⊥) → keys y ≡ None
   others y n = ek y ∙ cond-false (eqb x y) (Some k) None (ne_eqb x y (λ e. n (sym e)))
 
-  spare : (y : ℕ) → Spare q.rows y
+  spare : (y : ℕ) → Spare q.slots y
   spare y = wide.spare y (omega arith)
 
-  only_used : (y : ℕ) → Used rows' y → y ≡ k
+  only_used : (y : ℕ) → Used slots' y → y ≡ k
   only_used y u = ⊎_elim (λ e. e) (λ n. absurd (false≢true (sym (ap (λ z. z.used) (same y n) ∙ (spare y).used) ∙ u.used))) (cases_eq y k)
 
-  only_live : (y : ℕ) → Live rows' y → y ≡ k
+  only_live : (y : ℕ) → Live slots' y → y ≡ k
   only_live y u = ⊎_elim (λ e. e) (λ n. absurd (false≢true (sym (ap (λ z. z.live) (same y n) ∙ (spare y).live) ∙ u.live))) (cases_eq y k)
 
   key_is : (y j : ℕ) → keys y ≡ Some j → (y ≡ x) × (j ≡ k)
@@ -92,60 +92,60 @@ module _ (q : Parts) (wide : Wider nothing q) (few : length q.sibs.homes < free)
   abbrev pub seed : Op
   seed = bare v
 
-  pub seed_spells : SpellsOp rows' q.sibs.lists k seed
+  pub seed_spells : SpellsOp slots' q.sibs.lists k seed
   seed_spells = (
     ap (λ z. z.live) own,
     (
       ap (λ z. z.head) own,
-      subst (λ z. SpellsRegions rows' q.sibs.lists z (bare_regions v.shapes)) (sym (ap (λ z. z.shapes) own))
-          (bare_spells rows' q.sibs.lists v.shapes (λ i a e. (ready.blocks i a e).bare)),
+      subst (λ z. SpellsRegions slots' q.sibs.lists z (bare_regions v.shapes)) (sym (ap (λ z. z.shapes) own))
+          (bare_spells slots' q.sibs.lists v.shapes (λ i a e. (ready.blocks i a e).bare)),
     ),
   )
 
-  pub seed_right : Right rows' keys q.sibs k seed
+  pub seed_right : Right slots' keys q.sibs k seed
   seed_right = record {
     few = few;
     long = long' ∙ wide.even.long;
-    live_used = λ y l. let e = only_live y l in record { used = ap (λ z. (row_at rows' z).used) e ∙ ap (λ z. z.used) own ∙ ready.used };
-    keyed = λ y u. let e = only_used y u in ap (λ z. keys (row_at rows' z).head.id) e ∙ ap (λ z. keys z.head.id) own ∙ ap keys ready.id ∙ here ∙ ap Some (sym e);
+    live_used = λ y l. let e = only_live y l in record { used = ap (λ z. (row_at slots' z).used) e ∙ ap (λ z. z.used) own ∙ ready.used };
+    keyed = λ y u. let e = only_used y u in ap (λ z. keys (row_at slots' z).head.id) e ∙ ap (λ z. keys z.head.id) own ∙ ap keys ready.id ∙ here ∙ ap Some (sym e);
     known = λ y j e.
         let f = key_is y j e in
-        subst (HoldsId rows' y) (sym f.1) (record { used = record { used = ap (λ z. z.used) own ∙ ready.used }; id = ap (λ z. z.head.id) own ∙ ready.id ∙ sym f.0 });
+        subst (HoldsId slots' y) (sym f.1) (record { used = record { used = ap (λ z. z.used) own ∙ ready.used }; id = ap (λ z. z.head.id) own ∙ ready.id ∙ sym f.0 });
     top = ready.out;
     blocks = λ y i a u e.
         let z = only_used y u in
-        let f = sym (ap (λ s. slice_get s.shapes i) own) ∙ ap (λ s. slice_get (row_at rows' s).shapes i) (sym z) ∙ e in
+        let f = sym (ap (λ s. slice_get s.shapes i) own) ∙ ap (λ s. slice_get (row_at slots' s).shapes i) (sym z) ∙ e in
         let b = ready.blocks i a f in
         let g = same a.1 (block_not i a f) in
         record { head = b.head; owner = ap (λ s. s.owner) g ∙ b.owner ∙ sym z; region = ap (λ s. s.region) g ∙ b.region };
     items = λ y l ne. absurd (ne (only_live y l));
-    held = λ y u e. absurd (false≢true (sym e ∙ ap (λ z. (row_at rows' z).live) (only_used y u) ∙ ap (λ z. z.live) own));
-    covers = λ y l. ap (λ z. has_id (row_at rows' z).head.id seed) (only_live y l) ∙ ap (λ z. has_id z.head.id seed) own ∙ or_left (eqb v.head.id v.head.id) _ (eq-eqb v.head.id v.head.id refl);
+    held = λ y u e. absurd (false≢true (sym e ∙ ap (λ z. (row_at slots' z).live) (only_used y u) ∙ ap (λ z. z.live) own));
+    covers = λ y l. ap (λ z. has_id (row_at slots' z).head.id seed) (only_live y l) ∙ ap (λ z. has_id z.head.id seed) own ∙ or_left (eqb v.head.id v.head.id) _ (eq-eqb v.head.id v.head.id refl);
   }
 
-  pub seed_holds : (y : ℕ) → finmap.get (finmap.empty {X = Op} {R = nat_cmp}) y ≡ held_in rows' (keys y)
+  pub seed_holds : (y : ℕ) → finmap.get (finmap.empty {X = Op} {R = nat_cmp}) y ≡ held_in slots' (keys y)
   seed_holds y = finmap.get-empty nat_cmp y ∙ sym (⊎_elim
-      (λ e. ap (held_in rows') (ap keys e ∙ here) ∙ ap (λ b. cond b None (Some (bare (row_at rows' k)))) (ap (λ z. z.live) own))
-      (λ n. ap (held_in rows') (others y n))
+      (λ e. ap (held_in slots') (ap keys e ∙ here) ∙ ap (λ b. cond b None (Some (bare (row_at slots' k)))) (ap (λ z. z.live) own))
+      (λ n. ap (held_in slots') (others y n))
       (cases_eq y x))
 
-  pub seed_gone : (y : ℕ) → finmap.get (finmap.insert {R = nat_cmp} finmap.empty x none_gone) y ≡ gone_in rows' (keys y)
+  pub seed_gone : (y : ℕ) → finmap.get (finmap.insert {R = nat_cmp} finmap.empty x none_gone) y ≡ gone_in slots' (keys y)
   seed_gone y = finmap.get-insert nat_cmp_total finmap.empty x none_gone y ∙ ap (λ b. cond b (Some none_gone) (finmap.get (finmap.empty {X = Gone} {R = nat_cmp}) y)) (eq_nat y x) ∙ ⊎_elim
-      (λ e. cond-true (eqb y x) (Some none_gone) (finmap.get (finmap.empty {X = Gone} {R = nat_cmp}) y) (eq-eqb y x e) ∙ sym (ap (gone_in rows') (ap keys e ∙ here) ∙ ap (λ z. Some z.gone) own ∙ ap Some grown.gone))
-      (λ n. cond-false (eqb y x) (Some none_gone) (finmap.get (finmap.empty {X = Gone} {R = nat_cmp}) y) (ne_eqb y x n) ∙ finmap.get-empty nat_cmp y ∙ sym (ap (gone_in rows') (others y n)))
+      (λ e. cond-true (eqb y x) (Some none_gone) (finmap.get (finmap.empty {X = Gone} {R = nat_cmp}) y) (eq-eqb y x e) ∙ sym (ap (gone_in slots') (ap keys e ∙ here) ∙ ap (λ z. Some z.gone) own ∙ ap Some grown.gone))
+      (λ n. cond-false (eqb y x) (Some none_gone) (finmap.get (finmap.empty {X = Gone} {R = nat_cmp}) y) (ne_eqb y x n) ∙ finmap.get-empty nat_cmp y ∙ sym (ap (gone_in slots') (others y n)))
       (cases_eq y x)
 
   -- the root is first held
   held_rows : List Row
-  held_rows = set q.rows k v
+  held_rows = set q.slots k v
 
-  held_same : (y : ℕ) → (y ≡ k → ⊥) → row_at (set q.rows k v) y ≡ row_at q.rows y
-  held_same y n = get_or-set_other q.rows k y v no_row n
+  held_same : (y : ℕ) → (y ≡ k → ⊥) → row_at (set q.slots k v) y ≡ row_at q.slots y
+  held_same y n = get_or-set_other q.slots k y v no_row n
 
-  held_own : row_at (set q.rows k v) k ≡ v
-  held_own = get_or-set_same q.rows k v no_row ready.inside
+  held_own : row_at (set q.slots k v) k ≡ v
+  held_own = get_or-set_same q.slots k v no_row ready.inside
 
-  spare_keyed : Keyed q.rows no_keys q.sibs
+  spare_keyed : Keyed q.slots no_keys q.sibs
   spare_keyed = record {
     long = wide.even.long;
     keyed = λ y u. absurd (false≢true (sym (spare y).used ∙ u.used));
@@ -153,29 +153,29 @@ module _ (q : Parts) (wide : Wider nothing q) (few : length q.sibs.homes < free)
     blocks = λ y i a u e. absurd (false≢true (sym (spare y).used ∙ u.used));
   }
 
-  held_index : Index (set q.rows k v) keys q.homes q.cells (lives (set q.rows k v))
-  held_index = fill_index q wide.even few no_keys 0 k x v ready spare_keyed (set q.rows k v) (length-set q.rows k v) held_same held_own keys here others
+  held_index : Index (set q.slots k v) keys q.homes q.cells (lives (set q.slots k v))
+  held_index = fill_index q wide.even few no_keys 0 k x v ready spare_keyed (set q.slots k v) (length-set q.slots k v) held_same held_own keys here others
       (bound_apart q no_keys 0 k v (wide_bound nothing q wide no_keys nothing_keyed nothing_index)) (wide_index nothing q wide no_keys nothing_keyed nothing_index)
 
-  held_celled : Celled (set q.rows k v) q.cells
-  held_celled = fill_celled q wide.even few no_keys 0 k x v ready spare_keyed (set q.rows k v) (length-set q.rows k v) held_same held_own keys here others
+  held_celled : Celled (set q.slots k v) q.cells
+  held_celled = fill_celled q wide.even few no_keys 0 k x v ready spare_keyed (set q.slots k v) (length-set q.slots k v) held_same held_own keys here others
       (record { results = λ y i u l. absurd (false≢true (sym (spare y).used ∙ u.used)); arguments = λ y j i a u e l. absurd (false≢true (sym (spare y).used ∙ u.used)) })
 
-  no_operands : (row_at (set q.rows k v) k).head.operands ≡ []
+  no_operands : (row_at (set q.slots k v) k).head.operands ≡ []
   no_operands = ap (λ z. z.head.operands) held_own ∙ bare_head
 
-  pub seed_index : Index rows' keys q.homes q.cells (lives rows')
-  seed_index = subst (λ os. Index rows' keys (all_led (value_head (set q.rows k v) keys) (row_at (set q.rows k v) k).uses os q.homes) q.cells (lives rows')) no_operands
-      (join_index (set q.rows k v) keys q.homes q.cells uses_few held_index k (record { used = ap (λ z. z.used) held_own ∙ ready.used }) rows'
+  pub seed_index : Index slots' keys q.homes q.cells (lives slots')
+  seed_index = subst (λ os. Index slots' keys (all_led (value_head (set q.slots k v) keys) (row_at (set q.slots k v) k).uses os q.homes) q.cells (lives slots')) no_operands
+      (join_index (set q.slots k v) keys q.homes q.cells uses_few held_index k (record { used = ap (λ z. z.used) held_own ∙ ready.used }) slots'
       (λ y n. same y n ∙ sym (held_same y n)) true (own ∙ ap {A = Row} {B = Row} (λ z. record z { live = true }) (sym held_own)) refl (ap (λ z. z.live) held_own ∙ ready.live)
       (λ i w e. (let z : None ≡ Some w = sym (ap (λ os. slice_get os i) no_operands) ∙ e in absurd cc)))
 
-  seed_row : (y : ℕ) → Live rows' y → row_at rows' y ≡ record v { live = true }
-  seed_row y l = ap (row_at rows') (only_live y l) ∙ own
+  seed_row : (y : ℕ) → Live slots' y → row_at slots' y ≡ record v { live = true }
+  seed_row y l = ap (row_at slots') (only_live y l) ∙ own
 
-  pub seed_fits : (free_id : ℕ) → x < free_id → (s : (t : Op) × SpellsOp rows' q.sibs.lists k t) → s.0 ≡ seed → (marks more : List ℕ) → marks ≡ 0 ∷ 1 ∷ [] → Reaches marks more → node_of_slot k < length more → Fits rows' keys q.sibs k s.0 q.homes q.cells 1 free_id more
+  pub seed_fits : (free_id : ℕ) → x < free_id → (s : (t : Op) × SpellsOp slots' q.sibs.lists k t) → s.0 ≡ seed → (marks more : List ℕ) → marks ≡ 0 ∷ 1 ∷ [] → Reaches marks more → node_of_slot k < length more → Fits slots' keys q.sibs k s.0 q.homes q.cells 1 free_id more
   seed_fits free_id below s e marks more em reached there = record {
-    right = subst (Right rows' keys q.sibs k) (sym e) seed_right;
+    right = subst (Right slots' keys q.sibs k) (sym e) seed_right;
     few = uses_few;
     index = seed_index;
     distinct = subst HasDistinctIds (sym e) (bare_own v);
@@ -184,10 +184,10 @@ module _ (q : Parts) (wide : Wider nothing q) (few : length q.sibs.homes < free)
     owned = λ y j u l f. (let z : None ≡ Some u = sym (ap (λ os. slice_get os j) (ap (λ z. z.head.operands) (seed_row y l) ∙ bare_head)) ∙ f in absurd cc);
     marked =
         let none = marked_none marks more em reached in
-        let old = marked_same [] q.rows more none (λ y. let z = wide.spare y (omega arith) in spare_mark (row_at q.rows y) z.used z.live) (λ y. (wide.spare y (omega arith)).used) in
-        let out : mark (row_at rows' k) ≡ None = ap mark own ∙ ap (λ g. if has_gone g then Some 1 else None) grown.gone in
-        marked_edit q.rows rows' more more k old there same (sym (ap (λ o. set more (node_of_slot k) (home_of o)) out ∙ set_as_is more (node_of_slot k) (reached.same (node_of_slot k) ∙ ap (λ z. home_at z (node_of_slot k)) em) there));
-    celled = celled_edit (set q.rows k v) rows' q.cells k held_celled (λ y n. same y n ∙ sym (held_same y n)) (ap (λ z. z.used) own ∙ sym (ap (λ z. z.used) held_own))
+        let old = marked_same [] q.slots more none (λ y. let z = wide.spare y (omega arith) in spare_mark (row_at q.slots y) z.used z.live) (λ y. (wide.spare y (omega arith)).used) in
+        let out : mark (row_at slots' k) ≡ None = ap mark own ∙ ap (λ g. if has_gone g then Some 1 else None) grown.gone in
+        marked_edit q.slots slots' more more k old there same (sym (ap (λ o. set more (node_of_slot k) (home_of o)) out ∙ set_as_is more (node_of_slot k) (reached.same (node_of_slot k) ∙ ap (λ z. home_at z (node_of_slot k)) em) there));
+    celled = celled_edit (set q.slots k v) slots' q.cells k held_celled (λ y n. same y n ∙ sym (held_same y n)) (ap (λ z. z.used) own ∙ sym (ap (λ z. z.used) held_own))
         (ap (λ z. z.head.results) own ∙ sym (ap (λ z. z.head.results) held_own)) (ap (λ z. z.shapes) own ∙ sym (ap (λ z. z.shapes) held_own)) (ap (λ z. z.values) own ∙ sym (ap (λ z. z.values) held_own));
   }
 

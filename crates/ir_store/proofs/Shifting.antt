@@ -32,37 +32,37 @@ use Rattle.ir_store_reads.proofs.of_trees.Counts.{and_false}
 use Rattle.std.proofs.lemmas.Option.{same_Some}
 
 -- only lists of the blocks of operation y have changed
-module _ (rows : List Row) (lists lists' : List (List ℕ)) (y : ℕ)
-    (stay : (q i : ℕ) (c : List ℕ × ℕ) → Live rows q → ((row_at rows q).head.id ≡ y → ⊥) → slice_get (row_at rows q).shapes i ≡ Some (Some c) → list_at lists' c.1 ≡ list_at lists c.1) where
+module _ (slots : List Row) (lists lists' : List (List ℕ)) (y : ℕ)
+    (remains : (q i : ℕ) (c : List ℕ × ℕ) → Live slots q → ((row_at slots q).head.id ≡ y → ⊥) → slice_get (row_at slots q).shapes i ≡ Some (Some c) → list_at lists' c.1 ≡ list_at lists c.1) where
   mutual
-    pub same_spells : (k : ℕ) (t : Op) → has_op y t ≡ false → SpellsOp rows lists k t → SpellsOp rows lists' k t
+    pub same_spells : (k : ℕ) (t : Op) → has_op y t ≡ false → SpellsOp slots lists k t → SpellsOp slots lists' k t
     same_spells k (op h rs) n s =
         let b = neither (eqb h.id y) (has_regions y rs) n in (
           s.0,
           (
             s.1.0,
-            same_regions k (record { live = s.0 }) (λ e. eqb-false h.id y b.0 (sym (ap (λ z. z.id) s.1.0) ∙ e)) 0 (row_at rows k).shapes rs (λ i. ap (slice_get (row_at rows k).shapes) (omega arith)) b.1 s.1.1,
+            same_regions k (record { live = s.0 }) (λ e. eqb-false h.id y b.0 (sym (ap (λ z. z.id) s.1.0) ∙ e)) 0 (row_at slots k).shapes rs (λ i. ap (slice_get (row_at slots k).shapes) (omega arith)) b.1 s.1.1,
           ),
         )
 
-    same_regions : (k : ℕ) → Live rows k → ((row_at rows k).head.id ≡ y → ⊥) → (r : ℕ) (xs : List RegionShape) (rs : Regions) → ((i : ℕ) → slice_get xs i ≡ slice_get (row_at rows k).shapes (i + r)) → has_regions y rs ≡ false
-        → SpellsRegions rows lists xs rs → SpellsRegions rows lists' xs rs
+    same_regions : (k : ℕ) → Live slots k → ((row_at slots k).head.id ≡ y → ⊥) → (r : ℕ) (xs : List RegionShape) (rs : Regions) → ((i : ℕ) → slice_get xs i ≡ slice_get (row_at slots k).shapes (i + r)) → has_regions y rs ≡ false
+        → SpellsRegions slots lists xs rs → SpellsRegions slots lists' xs rs
     same_regions k l ne r [] no_regions e n s = tt
     same_regions k l ne r [] (region g rs) e n s = absurd s
     same_regions k l ne r (a ∷ xs) no_regions e n s = absurd s
     same_regions k l ne r (a ∷ xs) (region g rs) e n s =
         let b = neither (has_region y g) (has_regions y rs) n in (
-          same_region k l ne r a g (ap (slice_get (row_at rows k).shapes) (omega arith) ∙ sym (e 0)) b.0 s.0,
-          same_regions k l ne (r + 1) xs rs (λ i. e (suc i) ∙ ap (slice_get (row_at rows k).shapes) (omega arith)) b.1 s.1,
+          same_region k l ne r a g (ap (slice_get (row_at slots k).shapes) (omega arith) ∙ sym (e 0)) b.0 s.0,
+          same_regions k l ne (r + 1) xs rs (λ i. e (suc i) ∙ ap (slice_get (row_at slots k).shapes) (omega arith)) b.1 s.1,
         )
 
-    same_region : (k : ℕ) → Live rows k → ((row_at rows k).head.id ≡ y → ⊥) → (r : ℕ) (a : RegionShape) (g : Region) → slice_get (row_at rows k).shapes r ≡ Some a → has_region y g ≡ false → SpellsRegion rows lists a g → SpellsRegion rows lists' a g
+    same_region : (k : ℕ) → Live slots k → ((row_at slots k).head.id ≡ y → ⊥) → (r : ℕ) (a : RegionShape) (g : Region) → slice_get (row_at slots k).shapes r ≡ Some a → has_region y g ≡ false → SpellsRegion slots lists a g → SpellsRegion slots lists' a g
     same_region k l ne r None empty e n s = tt
     same_region k l ne r None (block args os) e n s = absurd s
     same_region k l ne r (Some a) empty e n s = absurd s
-    same_region k l ne r (Some a) (block args os) e n s = (s.0, subst (λ z. SpellsOps rows lists' z os) (sym (stay k r a l ne e)) (same_ops (list_at lists a.1) os n s.1))
+    same_region k l ne r (Some a) (block args os) e n s = (s.0, subst (λ z. SpellsOps slots lists' z os) (sym (remains k r a l ne e)) (same_ops (list_at lists a.1) os n s.1))
 
-    same_ops : (ks : List ℕ) (os : Ops) → has_ops y os ≡ false → SpellsOps rows lists ks os → SpellsOps rows lists' ks os
+    same_ops : (ks : List ℕ) (os : Ops) → has_ops y os ≡ false → SpellsOps slots lists ks os → SpellsOps slots lists' ks os
     same_ops [] no_ops n s = tt
     same_ops [] (next o os) n s = absurd s
     same_ops (k ∷ ks) no_ops n s = absurd s
@@ -75,22 +75,22 @@ own_in x (op h rs) e = or_left (eqb h.id x) (has_regions x rs) (eq-eqb h.id x e)
 untaken : (x : ℕ) (o : Op) → (head o).id ≡ x → HasDistinctIds o → without x o ≡ o
 untaken x (op h rs) e d = ap (op h) (regions_untouched x h.id 0 rs (subst (λ z. Absent z (regions_ids rs)) e (absent_first h.id (regions_ids rs) d)))
 
-module _ (rows : List Row) (keys : ℕ → Option ℕ) (sibs : Lists) (root : ℕ) (t : Op) (r : Right rows keys sibs root t) (s : SpellsOp rows sibs.lists root t) (d : HasDistinctIds t)
-    (x k : ℕ) (fd : Found rows x k) (place : Place) (a : List ℕ × ℕ) (at : Option ℕ) (point : Point rows sibs.homes place a at) (can : CanRelink x place t) where
+module _ (slots : List Row) (keys : ℕ → Option ℕ) (sibs : Lists) (root : ℕ) (t : Op) (r : Right slots keys sibs root t) (s : SpellsOp slots sibs.lists root t) (d : HasDistinctIds t)
+    (x k : ℕ) (fd : Found slots x k) (place : Place) (a : List ℕ × ℕ) (at : Option ℕ) (point : Point slots sibs.homes place a at) (can : CanRelink x place t) where
   not_root : k ≡ root → ⊥
-  not_root e = false≢true (sym can.inner ∙ eq-eqb (head t).id x (sym (root_id rows keys sibs root t r s) ∙ ap (λ z. (row_at rows z).head.id) (sym e) ∙ fd.id))
+  not_root e = false≢true (sym can.inner ∙ eq-eqb (head t).id x (sym (root_id slots keys sibs root t r s) ∙ ap (λ z. (row_at slots z).head.id) (sym e) ∙ fd.id))
 
   pub shift_item : IsItem sibs.homes k
   shift_item = (r.items k fd.live not_root).item
 
-  own : (o : Op) × ((find x t ≡ Some o) × SpellsOp rows sibs.lists k o)
-  own = found_op rows keys sibs root t r s x k fd
+  own : (o : Op) × ((find x t ≡ Some o) × SpellsOp slots sibs.lists k o)
+  own = found_op slots keys sibs root t r s x k fd
 
   abbrev o : Op
   o = own.0
 
   own_id : (head o).id ≡ x
-  own_id = head_id rows sibs.lists k o own.1.1 ∙ fd.id
+  own_id = head_id slots sibs.lists k o own.1.1 ∙ fd.id
 
   outside : leads_inside place (Some o) ≡ false
   outside = ap (leads_inside place) (sym own.1.0) ∙ can.outside
@@ -98,28 +98,28 @@ module _ (rows : List Row) (keys : ℕ → Option ℕ) (sibs : Lists) (root : �
   parent_out : has_op place.parent o ≡ false
   parent_out = has_is place.parent o ∙ (neither (is_within place.parent (Some o)) (before_within place.before (Some o)) outside).0
 
-  same_slot : (q p y : ℕ) → Used rows q → (row_at rows q).head.id ≡ y → Used rows p → (row_at rows p).head.id ≡ y → q ≡ p
+  same_slot : (q p y : ℕ) → Used slots q → (row_at slots q).head.id ≡ y → Used slots p → (row_at slots p).head.id ≡ y → q ≡ p
   same_slot q p y uq eq up ep = same_Some q p (sym (r.keyed q uq) ∙ ap keys (eq ∙ sym ep) ∙ r.keyed p up)
 
   -- the slot at the insertion point is another one
-  other : (c b : Option ℕ) → Before rows sibs.homes a.1 c b → before_within b (Some o) ≡ false → (q : ℕ) → c ≡ Some q → q ≡ k → ⊥
+  other : (c b : Option ℕ) → Before slots sibs.homes a.1 c b → before_within b (Some o) ≡ false → (q : ℕ) → c ≡ Some q → q ≡ k → ⊥
   other None b z n q e f = absurd cc
   other (Some p) None z n q e f = absurd z
   other (Some p) (Some b) z n q e f =
-      let id : x ≡ b = sym fd.id ∙ ap (λ w. (row_at rows w).head.id) (sym (same_Some p q e ∙ f)) ∙ z.0.id in
+      let id : x ≡ b = sym fd.id ∙ ap (λ w. (row_at slots w).head.id) (sym (same_Some p q e ∙ f)) ∙ z.0.id in
       false≢true (sym (has_is b o ∙ n) ∙ subst (λ y. has_op y o ≡ true) id (own_in x o own_id))
 
   other_slot : (q : ℕ) → at ≡ Some q → q ≡ k → ⊥
   other_slot = other at place.before point.before (neither (is_within place.parent (Some o)) (before_within place.before (Some o)) outside).1
 
-  block_of : BlockOf rows sibs.homes point.parent place.region a
-  block_of = r.blocks point.parent place.region a (r.live_used point.parent point.found.live) point.shape
+  block_of : BlockOf slots sibs.homes point.parent place.region a
+  block_of = r.blocks point.parent place.region a (r.live_used point.parent point.found.live) point.shaped_as
 
   -- a block with this head is the block of the place
-  owner_is : (q i : ℕ) (c : List ℕ × ℕ) → Used rows q → slice_get (row_at rows q).shapes i ≡ Some (Some c) → c.1 ≡ a.1 → (q ≡ point.parent) × (i ≡ place.region)
+  owner_is : (q i : ℕ) (c : List ℕ × ℕ) → Used slots q → slice_get (row_at slots q).shapes i ≡ Some (Some c) → c.1 ≡ a.1 → (q ≡ point.parent) × (i ≡ place.region)
   owner_is q i c u e z =
       let b = r.blocks q i c u e in
-      (sym b.owner ∙ ap (λ w. (row_at rows w).owner) z ∙ block_of.owner, sym b.region ∙ ap (λ w. (row_at rows w).region) z ∙ block_of.region)
+      (sym b.owner ∙ ap (λ w. (row_at slots w).owner) z ∙ block_of.owner, sym b.region ∙ ap (λ w. (row_at slots w).region) z ∙ block_of.region)
 
   module _ (mid : Lists) (el1 : mid.lists ≡ map (drop_node k) sibs.lists) (eh1 : mid.homes ≡ set sibs.homes k free) (laws1 : Laws mid.lists mid.homes) where
     long1 : length mid.homes ≡ length sibs.homes
@@ -137,7 +137,7 @@ module _ (rows : List Row) (keys : ℕ → Option ℕ) (sibs : Lists) (root : �
     pub shift_head : IsHead mid.homes a.1
     shift_head = head_mid a.1 block_of.head
 
-    stands_mid : (c b : Option ℕ) → Before rows sibs.homes a.1 c b → ((q : ℕ) → c ≡ Some q → q ≡ k → ⊥) → IfSome c (λ q. IsNodeIn mid.homes a.1 q)
+    stands_mid : (c b : Option ℕ) → Before slots sibs.homes a.1 c b → ((q : ℕ) → c ≡ Some q → q ≡ k → ⊥) → IfSome c (λ q. IsNodeIn mid.homes a.1 q)
     stands_mid None b z n = tt
     stands_mid (Some q) None z n = absurd z
     stands_mid (Some q) (Some b) z n =
@@ -148,23 +148,23 @@ module _ (rows : List Row) (keys : ℕ → Option ℕ) (sibs : Lists) (root : �
     pub shift_before : IfSome at (λ q. IsNodeIn mid.homes a.1 q)
     shift_before = stands_mid at place.before point.before other_slot
 
-    at_home : (c b : Option ℕ) → Before rows sibs.homes a.1 c b → ((q : ℕ) → c ≡ Some q → q ≡ k → ⊥) → AtHome mid.lists a.1 c
+    at_home : (c b : Option ℕ) → Before slots sibs.homes a.1 c b → ((q : ℕ) → c ≡ Some q → q ≡ k → ⊥) → AtHome mid.lists a.1 c
     at_home None b z n = tt
     at_home (Some q) None z n = absurd z
     at_home (Some q) (Some b) z n = λ m ne. ⊎_elim (λ y. absurd (ne (sym (laws1.members m q y).0 ∙ home_mid q (n q refl) ∙ z.1.1))) (λ y. y) (cases_Bool (has q (list_at mid.lists m)))
 
-    names : (c b : Option ℕ) → Before rows sibs.homes a.1 c b → Names rows c b
+    names : (c b : Option ℕ) → Before slots sibs.homes a.1 c b → Names slots c b
     names None None z = tt
     names None (Some b) z = absurd z
     names (Some q) None z = absurd z
     names (Some q) (Some b) z = (z.0.id, λ w l e. same_slot w q b (r.live_used w l) e (r.live_used q z.0.live) z.0.id)
 
     -- the operation is removed
-    mid_spells : (q : ℕ) (u : Op) → SpellsOp rows sibs.lists q u → SpellsOp rows mid.lists q (without x u)
-    mid_spells = cut_lists rows sibs.lists mid.lists x k fd.id (only rows keys sibs root t r s x k fd.live fd.id) el1
+    mid_spells : (q : ℕ) (u : Op) → SpellsOp slots sibs.lists q u → SpellsOp slots mid.lists q (without x u)
+    mid_spells = cut_lists slots sibs.lists mid.lists x k fd.id (only slots keys sibs root t r s x k fd.live fd.id) el1
 
-    own_mid : SpellsOp rows mid.lists k o
-    own_mid = subst (SpellsOp rows mid.lists k) (untaken x o own_id (own_distinct x t o d own.1.0)) (mid_spells k o own.1.1)
+    own_mid : SpellsOp slots mid.lists k o
+    own_mid = subst (SpellsOp slots mid.lists k) (untaken x o own_id (own_distinct x t o d own.1.0)) (mid_spells k o own.1.1)
 
     module _ (sibs' : Lists) (el : sibs'.lists ≡ joined k a.1 at mid.lists) (eh : sibs'.homes ≡ set mid.homes k a.1) where
       abbrev after : Op
@@ -177,48 +177,48 @@ module _ (rows : List Row) (keys : ℕ → Option ℕ) (sibs : Lists) (root : �
       list_else m n = ap (λ z. list_at z m) el ∙ joined_other k a.1 at mid.lists (at_home at place.before point.before other_slot) m n
 
       -- the operations inside it remain
-      own_spells : SpellsOp rows sibs'.lists k o
-      own_spells = same_spells rows mid.lists sibs'.lists place.parent
-          (λ q i c l ne e. list_else c.1 (λ z. ne (ap (λ w. (row_at rows w).head.id) (owner_is q i c (r.live_used q l) e z).0 ∙ point.found.id)))
+      own_spells : SpellsOp slots sibs'.lists k o
+      own_spells = same_spells slots mid.lists sibs'.lists place.parent
+          (λ q i c l ne e. list_else c.1 (λ z. ne (ap (λ w. (row_at slots w).head.id) (owner_is q i c (r.live_used q l) e z).0 ∙ point.found.id)))
           k o parent_out own_mid
 
-      not_here : (q i : ℕ) (c : List ℕ × ℕ) → Live rows q → slice_get (row_at rows q).shapes i ≡ Some (Some c) → (c.1 ≡ a.1 → ⊥) → is_in_block place (row_at rows q).head.id i ≡ false
+      not_here : (q i : ℕ) (c : List ℕ × ℕ) → Live slots q → slice_get (row_at slots q).shapes i ≡ Some (Some c) → (c.1 ≡ a.1 → ⊥) → is_in_block place (row_at slots q).head.id i ≡ false
       not_here q i c l e y = ⊎_elim
           (λ f. ⊎_elim
           (λ g.
           let p : q ≡ point.parent = same_slot q point.parent place.parent (r.live_used q l) f (r.live_used point.parent point.found.live) point.found.id in
-          let m : Some (Some c) ≡ Some (Some a) = sym e ∙ ap (λ v. slice_get (row_at rows v).shapes i) p ∙ ap (slice_get (row_at rows point.parent).shapes) g ∙ point.shape in
+          let m : Some (Some c) ≡ Some (Some a) = sym e ∙ ap (λ v. slice_get (row_at slots v).shapes i) p ∙ ap (slice_get (row_at slots point.parent).shapes) g ∙ point.shaped_as in
           let n : c ≡ a = cc in
           absurd (y (ap (λ v. v.1) n)))
-          (λ g. rw (ne_eqb i place.region g) (and_false (eqb (row_at rows q).head.id place.parent)))
+          (λ g. rw (ne_eqb i place.region g) (and_false (eqb (row_at slots q).head.id place.parent)))
           (cases_eq i place.region))
-          (λ f. rw (ne_eqb (row_at rows q).head.id place.parent f) refl)
-          (cases_eq (row_at rows q).head.id place.parent)
+          (λ f. rw (ne_eqb (row_at slots q).head.id place.parent f) refl)
+          (cases_eq (row_at slots q).head.id place.parent)
 
       -- the operation is inserted
-      step : (q i : ℕ) (c : List ℕ × ℕ) (os : Ops) → Live rows q → slice_get (row_at rows q).shapes i ≡ Some (Some c) → SpellsOps rows sibs'.lists (list_at mid.lists c.1) os
-          → SpellsOps rows sibs'.lists (list_at sibs'.lists c.1) (put_here place o (row_at rows q).head.id i os)
+      step : (q i : ℕ) (c : List ℕ × ℕ) (os : Ops) → Live slots q → slice_get (row_at slots q).shapes i ≡ Some (Some c) → SpellsOps slots sibs'.lists (list_at mid.lists c.1) os
+          → SpellsOps slots sibs'.lists (list_at sibs'.lists c.1) (put_here place o (row_at slots q).head.id i os)
       step q i c os l e z = ⊎_elim
           (λ y.
           let w = owner_is q i c (r.live_used q l) e y in
-          let id : eqb (row_at rows q).head.id place.parent ≡ true = eq-eqb (row_at rows q).head.id place.parent (ap (λ v. (row_at rows v).head.id) w.0 ∙ point.found.id) in
+          let id : eqb (row_at slots q).head.id place.parent ≡ true = eq-eqb (row_at slots q).head.id place.parent (ap (λ v. (row_at slots v).head.id) w.0 ∙ point.found.id) in
           let reg : eqb i place.region ≡ true = eq-eqb i place.region w.1 in
-          let here : is_in_block place (row_at rows q).head.id i ≡ true = rw (id, reg) refl in
-          subst (λ v. SpellsOps rows sibs'.lists v (put_here place o (row_at rows q).head.id i os)) (sym (ap (list_at sibs'.lists) y ∙ list_here))
-          (subst (λ v. SpellsOps rows sibs'.lists (joins k at (list_at mid.lists a.1)) v) (sym (cond-true (is_in_block place (row_at rows q).head.id i) (put_in place.before o os) os here))
-          (put_spells rows sibs'.lists k o own_spells at place.before (names at place.before point.before) (list_at mid.lists a.1) os (laws1.once a.1)
-          (subst (λ v. SpellsOps rows sibs'.lists (list_at mid.lists v) os) y z))))
+          let here : is_in_block place (row_at slots q).head.id i ≡ true = rw (id, reg) refl in
+          subst (λ v. SpellsOps slots sibs'.lists v (put_here place o (row_at slots q).head.id i os)) (sym (ap (list_at sibs'.lists) y ∙ list_here))
+          (subst (λ v. SpellsOps slots sibs'.lists (joins k at (list_at mid.lists a.1)) v) (sym (cond-true (is_in_block place (row_at slots q).head.id i) (put_in place.before o os) os here))
+          (put_spells slots sibs'.lists k o own_spells at place.before (names at place.before point.before) (list_at mid.lists a.1) os (laws1.once a.1)
+          (subst (λ v. SpellsOps slots sibs'.lists (list_at mid.lists v) os) y z))))
           (λ y.
-          let here : is_in_block place (row_at rows q).head.id i ≡ false = not_here q i c l e y in
-          subst (λ v. SpellsOps rows sibs'.lists v (put_here place o (row_at rows q).head.id i os)) (sym (list_else c.1 y))
-          (subst (λ v. SpellsOps rows sibs'.lists (list_at mid.lists c.1) v) (sym (cond-false (is_in_block place (row_at rows q).head.id i) (put_in place.before o os) os here)) z))
+          let here : is_in_block place (row_at slots q).head.id i ≡ false = not_here q i c l e y in
+          subst (λ v. SpellsOps slots sibs'.lists v (put_here place o (row_at slots q).head.id i os)) (sym (list_else c.1 y))
+          (subst (λ v. SpellsOps slots sibs'.lists (list_at mid.lists c.1) v) (sym (cond-false (is_in_block place (row_at slots q).head.id i) (put_in place.before o os) os here)) z))
           (cases_eq c.1 a.1)
 
       shifted_is : shifted x place t ≡ after
       shifted_is = is_put x place t o d own.1.0 can.inner can.point outside
 
-      pub shift_spells : SpellsOp rows sibs'.lists root (shifted x place t)
-      shift_spells = subst (SpellsOp rows sibs'.lists root) (sym shifted_is) (lists_spells rows mid.lists sibs'.lists (put_here place o) step root (without x t) (mid_spells root t s))
+      pub shift_spells : SpellsOp slots sibs'.lists root (shifted x place t)
+      shift_spells = subst (SpellsOp slots sibs'.lists root) (sym shifted_is) (lists_spells slots mid.lists sibs'.lists (put_here place o) step root (without x t) (mid_spells root t s))
 
       pub shift_ids : HasDistinctIds (shifted x place t)
       shift_ids = subst HasDistinctIds (sym shifted_is) (shift_distinct x place t o d own.1.0 can.inner can.point outside)
@@ -242,7 +242,7 @@ module _ (rows : List Row) (keys : ℕ → Option ℕ) (sibs : Lists) (root : �
           (λ f. ⊎_elim inside (λ g. rest (left ∙ or_right (list_any test w.0) (list_any test w.1) g)) (or_cases (list_any test (ids o)) (list_any test w.1) f))
           (or_cases (list_any test w.0) (list_any test (ids o) || list_any test w.1) all)
 
-      pub shift_right : Right rows keys sibs' root (shifted x place t)
+      pub shift_right : Right slots keys sibs' root (shifted x place t)
       shift_right =
           let long : length sibs'.homes ≡ length sibs.homes = ap length eh ∙ length-set mid.homes k a.1 ∙ long1 in
           let home : (q : ℕ) → (q ≡ k → ⊥) → home_at sibs'.homes q ≡ home_at sibs.homes q = λ q ne. ap (λ z. home_at z q) eh ∙ get_or-set_other mid.homes k q a.1 free ne ∙ home_mid q ne in
@@ -276,11 +276,11 @@ module _ (rows : List Row) (keys : ℕ → Option ℕ) (sibs : Lists) (root : �
                 (cases_eq q k);
             held = λ q u out.
                 let old = r.held q u out in
-                let ne : q ≡ k → ⊥ = λ e. false≢true (sym out ∙ ap (λ z. (row_at rows z).live) e ∙ fd.live.live) in
-                let far : q ≡ point.parent → ⊥ = λ e. false≢true (sym out ∙ ap (λ z. (row_at rows z).live) e ∙ point.found.live.live) in
+                let ne : q ≡ k → ⊥ = λ e. false≢true (sym out ∙ ap (λ z. (row_at slots z).live) e ∙ fd.live.live) in
+                let far : q ≡ point.parent → ⊥ = λ e. false≢true (sym out ∙ ap (λ z. (row_at slots z).live) e ∙ point.found.live.live) in
                 record {
                   out = record { inside = omega (arith, old.out.inside, long); unlinked = home q ne ∙ old.out.unlinked };
                   bare = λ i c f. list_else c.1 (λ z. far (owner_is q i c u f z).0) ∙ ap (λ z. list_at z c.1) el1 ∙ list_at-map (drop_node k) sibs.lists c.1 refl ∙ ap (drop_node k) (old.bare i c f);
                 };
-            covers = λ q l. stays (row_at rows q).head.id (r.covers q l);
+            covers = λ q l. stays (row_at slots q).head.id (r.covers q l);
           }

@@ -30,8 +30,8 @@ all_heads homes [] f = tt
 all_heads homes (None ∷ xs) f = all_heads homes xs (λ r. f (suc r))
 all_heads homes (Some a ∷ xs) f = (f 0 a refl, all_heads homes xs (λ r. f (suc r)))
 
-pub heads_of : (rows : List Row) (keys : ℕ → Option ℕ) (sibs : Lists) (root : ℕ) (t : Op) → Right rows keys sibs root t → (k : ℕ) → Live rows k → AllHeads sibs.homes (row_at rows k).shapes
-heads_of rows keys sibs root t r k l = all_heads sibs.homes (row_at rows k).shapes (λ i a e. (r.blocks k i a (r.live_used k l) e).head)
+pub heads_of : (slots : List Row) (keys : ℕ → Option ℕ) (sibs : Lists) (root : ℕ) (t : Op) → Right slots keys sibs root t → (k : ℕ) → Live slots k → AllHeads sibs.homes (row_at slots k).shapes
+heads_of slots keys sibs root t r k l = all_heads sibs.homes (row_at slots k).shapes (λ i a e. (r.blocks k i a (r.live_used k l) e).head)
 
 bare_at : (lists : List (List ℕ)) (xs : List RegionShape) → all_bare lists xs ≡ true → (r : ℕ) (a : List ℕ × ℕ) → slice_get xs r ≡ Some (Some a) → list_at lists a.1 ≡ []
 bare_at lists [] b r a e = absurd cc
@@ -45,8 +45,8 @@ bare_at lists (Some c ∷ xs) b r a e = go (list_at lists c.1) refl b r e (λ d 
     go [] f d (suc i) g rest = rest d i g
     go (k ∷ ks) f d i g rest = absurd (false≢true d)
 
-module _ (rows : List Row) (lists : List (List ℕ)) where
-  bare_holds : (xs : List RegionShape) (rs : Regions) → SpellsRegions rows lists xs rs → all_bare lists xs ≡ hold_none rs
+module _ (slots : List Row) (lists : List (List ℕ)) where
+  bare_holds : (xs : List RegionShape) (rs : Regions) → SpellsRegions slots lists xs rs → all_bare lists xs ≡ hold_none rs
   bare_holds [] no_regions s = refl
   bare_holds [] (region g rs) s = absurd s
   bare_holds (a ∷ xs) no_regions s = absurd s
@@ -55,82 +55,82 @@ module _ (rows : List Row) (lists : List (List ℕ)) where
   bare_holds (Some a ∷ xs) (region empty rs) s = absurd s.0
   bare_holds (Some a ∷ xs) (region (block args os) rs) s = go (list_at lists a.1) os s.0.1 (bare_holds xs rs s.1)
     where
-      go : (ks : List ℕ) (ps : Ops) → SpellsOps rows lists ks ps → all_bare lists xs ≡ hold_none rs → (is_nil ks && all_bare lists xs) ≡ hold_none (region (block args ps) rs)
+      go : (ks : List ℕ) (ps : Ops) → SpellsOps slots lists ks ps → all_bare lists xs ≡ hold_none rs → (is_nil ks && all_bare lists xs) ≡ hold_none (region (block args ps) rs)
       go [] no_ops z e = e
       go [] (next o os) z e = absurd z
       go (k ∷ ks) no_ops z e = absurd z
       go (k ∷ ks) (next o os) z e = refl
 
-  pub holds_is : (k : ℕ) (o : Op) → SpellsOp rows lists k o → all_bare lists (row_at rows k).shapes ≡ hold_none (regions o)
-  holds_is k (op h rs) s = bare_holds (row_at rows k).shapes rs s.1.1
+  pub holds_is : (k : ℕ) (o : Op) → SpellsOp slots lists k o → all_bare lists (row_at slots k).shapes ≡ hold_none (regions o)
+  holds_is k (op h rs) s = bare_holds (row_at slots k).shapes rs s.1.1
 
 -- slot k has operation x of the tree, which isn't the root and has no operations inside it
-pub record IsLeaf (rows : List Row) (lists : List (List ℕ)) (root x k : ℕ) : Type 0 where
-  pub found : Found rows x k
+pub record IsLeaf (slots : List Row) (lists : List (List ℕ)) (root x k : ℕ) : Type 0 where
+  pub found : Found slots x k
   pub inner : k ≡ root → ⊥
-  pub bare : all_bare lists (row_at rows k).shapes ≡ true
+  pub bare : all_bare lists (row_at slots k).shapes ≡ true
 
-module _ (rows : List Row) (keys : ℕ → Option ℕ) (sibs : Lists) (root : ℕ) (t : Op) (r : Right rows keys sibs root t) (s : SpellsOp rows sibs.lists root t) (x : ℕ) where
+module _ (slots : List Row) (keys : ℕ → Option ℕ) (sibs : Lists) (root : ℕ) (t : Op) (r : Right slots keys sibs root t) (s : SpellsOp slots sibs.lists root t) (x : ℕ) where
   -- the slot that was found, or the reason that none was
   abbrev Planned : Result ℕ Refusal → Type 0
-  Planned (Ok k) = IsLeaf rows sibs.lists root x k × (cut_reason x t ≡ None)
+  Planned (Ok k) = IsLeaf slots sibs.lists root x k × (cut_reason x t ≡ None)
   Planned (Err e) = cut_reason x t ≡ Some e
 
-  pub planned : (res : Result ℕ Refusal) → res ≡ leaf_in rows sibs.lists root (live_slot rows keys x) → Planned res
-  planned res e = rw e (go (live_slot rows keys x) refl)
+  pub planned : (res : Result ℕ Refusal) → res ≡ leaf_in slots sibs.lists root (live_slot slots keys x) → Planned res
+  planned res e = rw e (go (live_slot slots keys x) refl)
     where
-      go : (o : Option ℕ) → live_slot rows keys x ≡ o → Planned (leaf_in rows sibs.lists root o)
-      go None f = let h : has_id x t ≡ false = sym (has_is x t) ∙ missing rows keys sibs root t r s x f in rw h refl
+      go : (o : Option ℕ) → live_slot slots keys x ≡ o → Planned (leaf_in slots sibs.lists root o)
+      go None f = let h : has_id x t ≡ false = sym (has_is x t) ∙ missing slots keys sibs root t r s x f in rw h refl
       go (Some k) f =
-          let fd = found rows keys sibs root t r s x k f in
-          let h : has_id x t ≡ true = sym (has_is x t) ∙ there rows keys sibs root t r s x k fd in
-          let alone = only rows keys sibs root t r s x k fd.live fd.id in
-          let o = found_op rows keys sibs root t r s x k fd in
-          let b : all_bare sibs.lists (row_at rows k).shapes ≡ holds_none (find x t) = holds_is rows sibs.lists k o.0 o.1.1 ∙ sym (ap holds_none o.1.0) in
+          let fd = found slots keys sibs root t r s x k f in
+          let h : has_id x t ≡ true = sym (has_is x t) ∙ there slots keys sibs root t r s x k fd in
+          let alone = only slots keys sibs root t r s x k fd.live fd.id in
+          let o = found_op slots keys sibs root t r s x k fd in
+          let b : all_bare sibs.lists (row_at slots k).shapes ≡ holds_none (find x t) = holds_is slots sibs.lists k o.0 o.1.1 ∙ sym (ap holds_none o.1.0) in
           ⊎_elim
           (λ e. let at : eqb k root ≡ true = eq-eqb k root e in
-          let id : eqb (head t).id x ≡ true = eq-eqb (head t).id x (sym (root_id rows keys sibs root t r s) ∙ ap (λ z. (row_at rows z).head.id) (sym e) ∙ fd.id) in
+          let id : eqb (head t).id x ≡ true = eq-eqb (head t).id x (sym (root_id slots keys sibs root t r s) ∙ ap (λ z. (row_at slots z).head.id) (sym e) ∙ fd.id) in
           rw at (rw (h, id) refl))
           (λ n. let at : eqb k root ≡ false = ne_eqb k root n in
-          let id : eqb (head t).id x ≡ false = ne_eqb (head t).id x (λ z. n (sym (alone root (root_live rows keys sibs root t r s) (root_id rows keys sibs root t r s ∙ z)))) in
+          let id : eqb (head t).id x ≡ false = ne_eqb (head t).id x (λ z. n (sym (alone root (root_live slots keys sibs root t r s) (root_id slots keys sibs root t r s ∙ z)))) in
           ⊎_elim
-          (λ y. let z = sym b ∙ y in let w : IsLeaf rows sibs.lists root x k × (cut_reason x t ≡ None) = (record { found = fd; inner = n; bare = y }, rw (h, id, z) refl) in rw at (subst (λ c. Planned (if c then Ok k else Err NotEmpty)) (sym y) w))
+          (λ y. let z = sym b ∙ y in let w : IsLeaf slots sibs.lists root x k × (cut_reason x t ≡ None) = (record { found = fd; inner = n; bare = y }, rw (h, id, z) refl) in rw at (subst (λ c. Planned (if c then Ok k else Err NotEmpty)) (sym y) w))
           (λ y. let z = sym b ∙ y in let w : cut_reason x t ≡ Some NotEmpty = rw (h, id, z) refl in rw at (subst (λ c. Planned (if c then Ok k else Err NotEmpty)) (sym y) w))
-          (cases_Bool (all_bare sibs.lists (row_at rows k).shapes)))
+          (cases_Bool (all_bare sibs.lists (row_at slots k).shapes)))
           (cases_eq k root)
 
-  module _ (k : ℕ) (leaf : IsLeaf rows sibs.lists root x k) (rows' : List Row) (long' : length rows' ≡ length rows)
-      (same : (q : ℕ) → (q ≡ k → ⊥) → row_at rows' q ≡ row_at rows q) (gone : row_at rows' k ≡ record (row_at rows k) { live = false })
+  module _ (k : ℕ) (leaf : IsLeaf slots sibs.lists root x k) (slots' : List Row) (long' : length slots' ≡ length slots)
+      (same : (q : ℕ) → (q ≡ k → ⊥) → row_at slots' q ≡ row_at slots q) (gone : row_at slots' k ≡ record (row_at slots k) { live = false })
       (sibs' : Lists) (el : sibs'.lists ≡ map (drop_node k) sibs.lists) (eh : sibs'.homes ≡ set sibs.homes k free) where
-    alone : (q : ℕ) → Live rows q → (row_at rows q).head.id ≡ x → q ≡ k
-    alone = only rows keys sibs root t r s x k leaf.found.live leaf.found.id
+    alone : (q : ℕ) → Live slots q → (row_at slots q).head.id ≡ x → q ≡ k
+    alone = only slots keys sibs root t r s x k leaf.found.live leaf.found.id
 
     root_not : eqb (head t).id x ≡ false
-    root_not = ne_eqb (head t).id x (λ z. leaf.inner (sym (alone root (root_live rows keys sibs root t r s) (root_id rows keys sibs root t r s ∙ z))))
+    root_not = ne_eqb (head t).id x (λ z. leaf.inner (sym (alone root (root_live slots keys sibs root t r s) (root_id slots keys sibs root t r s ∙ z))))
 
-    pub cut_spells : SpellsOp rows' sibs'.lists root (without x t)
-    cut_spells = rows_spells rows rows' sibs'.lists x (λ q l n. same q (λ e. n (ap (λ z. (row_at rows z).head.id) e ∙ leaf.found.id))) root (without x t) (has_cut x t root_not)
-        (cut_lists rows sibs.lists sibs'.lists x k leaf.found.id alone el root t s)
+    pub cut_spells : SpellsOp slots' sibs'.lists root (without x t)
+    cut_spells = rows_spells slots slots' sibs'.lists x (λ q l n. same q (λ e. n (ap (λ z. (row_at slots z).head.id) e ∙ leaf.found.id))) root (without x t) (has_cut x t root_not)
+        (cut_lists slots sibs.lists sibs'.lists x k leaf.found.id alone el root t s)
 
-    not_k : (q : ℕ) → Live rows' q → q ≡ k → ⊥
-    not_k q l e = false≢true (sym (ap (λ z. z.live) gone) ∙ ap (λ z. (row_at rows' z).live) (sym e) ∙ l.live)
+    not_k : (q : ℕ) → Live slots' q → q ≡ k → ⊥
+    not_k q l e = false≢true (sym (ap (λ z. z.live) gone) ∙ ap (λ z. (row_at slots' z).live) (sym e) ∙ l.live)
 
-    was : (q : ℕ) → Live rows' q → Live rows q
+    was : (q : ℕ) → Live slots' q → Live slots q
     was q l = record { live = sym (ap (λ z. z.live) (same q (not_k q l))) ∙ l.live }
 
     -- everything but `live` is unchanged
-    kept : {A : Type 0} (f : Row → A) → f (record (row_at rows k) { live = false }) ≡ f (row_at rows k) → (q : ℕ) → f (row_at rows' q) ≡ f (row_at rows q)
+    kept : {A : Type 0} (f : Row → A) → f (record (row_at slots k) { live = false }) ≡ f (row_at slots k) → (q : ℕ) → f (row_at slots' q) ≡ f (row_at slots q)
     kept f e q = ⊎_elim
-        (λ z. ap (λ w. f (row_at rows' w)) z ∙ ap f gone ∙ e ∙ ap (λ w. f (row_at rows w)) (sym z))
+        (λ z. ap (λ w. f (row_at slots' w)) z ∙ ap f gone ∙ e ∙ ap (λ w. f (row_at slots w)) (sym z))
         (λ n. ap f (same q n)) (cases_eq q k)
 
-    used_to : (q : ℕ) → Used rows q → Used rows' q
+    used_to : (q : ℕ) → Used slots q → Used slots' q
     used_to q u = record { used = kept (λ z. z.used) refl q ∙ u.used }
 
-    used_from : (q : ℕ) → Used rows' q → Used rows q
+    used_from : (q : ℕ) → Used slots' q → Used slots q
     used_from q u = record { used = sym (kept (λ z. z.used) refl q) ∙ u.used }
 
-    pub cut_right : Right rows' keys sibs' root (without x t)
+    pub cut_right : Right slots' keys sibs' root (without x t)
     cut_right =
         let item = (r.items k leaf.found.live leaf.inner).item in
         let long : length sibs'.homes ≡ length sibs.homes = ap length eh ∙ length-set sibs.homes k free in
@@ -157,7 +157,7 @@ module _ (rows : List Row) (keys : ℕ → Option ℕ) (sibs : Lists) (root : �
           held = λ q u d. ⊎_elim
               (λ e. record {
                 out = subst (IsFree sibs'.homes) (sym e) (record { inside = omega (arith, item.inside, long); unlinked = ap (λ z. home_at z k) eh ∙ get_or-set_same sibs.homes k free free item.inside });
-                bare = λ i a f. same_lists a.1 ∙ ap (drop_node k) (bare_at sibs.lists (row_at rows k).shapes leaf.bare i a (sym (ap (λ z. slice_get z i) (ap (λ z. (row_at rows' z).shapes) e ∙ kept (λ z. z.shapes) refl k)) ∙ f));
+                bare = λ i a f. same_lists a.1 ∙ ap (drop_node k) (bare_at sibs.lists (row_at slots k).shapes leaf.bare i a (sym (ap (λ z. slice_get z i) (ap (λ z. (row_at slots' z).shapes) e ∙ kept (λ z. z.shapes) refl k)) ∙ f));
               })
               (λ ne.
               let old = r.held q (used_from q u) (sym (ap (λ z. z.live) (same q ne)) ∙ d) in
@@ -168,32 +168,32 @@ module _ (rows : List Row) (keys : ℕ → Option ℕ) (sibs : Lists) (root : �
               (cases_eq q k);
           covers = λ q l.
               let ne = not_k q l in
-              let id = (row_at rows q).head.id in
+              let id = (row_at slots q).head.id in
               let o : id ≡ x → ⊥ = λ e. ne (alone q (was q l) e) in
               ap (λ z. has_id z.head.id (without x t)) (same q ne)
               ∙ sym (has_is id (without x t))
-              ∙ has_others rows sibs.lists sibs'.lists x k leaf.found.id alone leaf.bare id o root t s
+              ∙ has_others slots sibs.lists sibs'.lists x k leaf.found.id alone leaf.bare id o root t s
               ∙ has_is id t ∙ r.covers q (was q l);
         }
 
     -- the operation is held
-    pub cut_holds : (m : finmap.FinMap nat_cmp Op) → ((y : ℕ) → finmap.get m y ≡ held_in rows (keys y)) → (o : Op) → SpellsOp rows sibs.lists k o
-        → (y : ℕ) → finmap.get (finmap.insert m x o) y ≡ held_in rows' (keys y)
+    pub cut_holds : (m : finmap.FinMap nat_cmp Op) → ((y : ℕ) → finmap.get m y ≡ held_in slots (keys y)) → (o : Op) → SpellsOp slots sibs.lists k o
+        → (y : ℕ) → finmap.get (finmap.insert m x o) y ≡ held_in slots' (keys y)
     cut_holds m h o so y = finmap.get-insert nat_cmp_total m x o y ∙ ap (λ b. cond b (Some o) (finmap.get m y)) (eq_nat y x) ∙ ⊎_elim
         (λ e.
         let at : keys y ≡ Some k = ap keys (e ∙ sym leaf.found.id) ∙ r.keyed k (r.live_used k leaf.found.live) in
-        let w : held_in rows' (Some k) ≡ Some o = rw gone (ap Some (bare_is rows sibs.lists k o leaf.bare so)) in
-        cond-true (eqb y x) (Some o) (finmap.get m y) (eq-eqb y x e) ∙ sym w ∙ ap (held_in rows') (sym at))
+        let w : held_in slots' (Some k) ≡ Some o = rw gone (ap Some (bare_is slots sibs.lists k o leaf.bare so)) in
+        cond-true (eqb y x) (Some o) (finmap.get m y) (eq-eqb y x e) ∙ sym w ∙ ap (held_in slots') (sym at))
         (λ n. cond-false (eqb y x) (Some o) (finmap.get m y) (ne_eqb y x n) ∙ h y ∙ others y n (keys y) refl)
         (cases_eq y x)
       where
-        others : (y : ℕ) → (y ≡ x → ⊥) → (o : Option ℕ) → keys y ≡ o → held_in rows o ≡ held_in rows' o
+        others : (y : ℕ) → (y ≡ x → ⊥) → (o : Option ℕ) → keys y ≡ o → held_in slots o ≡ held_in slots' o
         others y n None f = refl
-        others y n (Some q) f = rw (same q (λ e. n (sym (r.known y q f).id ∙ ap (λ z. (row_at rows z).head.id) e ∙ leaf.found.id))) refl
+        others y n (Some q) f = rw (same q (λ e. n (sym (r.known y q f).id ∙ ap (λ z. (row_at slots z).head.id) e ∙ leaf.found.id))) refl
 
-    pub cut_gone : (y : ℕ) → gone_in rows (keys y) ≡ gone_in rows' (keys y)
+    pub cut_gone : (y : ℕ) → gone_in slots (keys y) ≡ gone_in slots' (keys y)
     cut_gone y = go (keys y)
       where
-        go : (o : Option ℕ) → gone_in rows o ≡ gone_in rows' o
+        go : (o : Option ℕ) → gone_in slots o ≡ gone_in slots' o
         go None = refl
         go (Some q) = ap Some (sym (kept (λ z. z.gone) refl q))

@@ -27,41 +27,41 @@ use Rattle.ir_store.proofs.Taking.{IsLeaf}
 use Rattle.ir_store.proofs.Unused.{Passes, every_find}
 use Rattle.ir_store_reads.proofs.of_trees.of_types.WordNumbers.{all_at}
 
-any_at : (rows : List Row) (k y : ℕ) → k < length rows → (row_at rows k).head.id ≡ y → list_any (λ z. eqb z y) (map (λ r. r.head.id) rows) ≡ true
+any_at : (slots : List Row) (k y : ℕ) → k < length slots → (row_at slots k).head.id ≡ y → list_any (λ z. eqb z y) (map (λ r. r.head.id) slots) ≡ true
 any_at [] k y l e = absurd (omega (arith, l))
-any_at (r ∷ rows) zero y l e = or_left (eqb r.head.id y) _ (eq-eqb r.head.id y e)
-any_at (r ∷ rows) (suc k) y l e = or_right (eqb r.head.id y) _ (any_at rows k y (omega (arith, l)) e)
+any_at (r ∷ slots) zero y l e = or_left (eqb r.head.id y) _ (eq-eqb r.head.id y e)
+any_at (r ∷ slots) (suc k) y l e = or_right (eqb r.head.id y) _ (any_at slots k y (omega (arith, l)) e)
 
 -- a live slot stays live
-pub live_stays : (rows rows' : List Row) (keys keys' : ℕ → Option ℕ) (y : ℕ) → ((q : ℕ) → keys y ≡ Some q → Live rows q → (keys' y ≡ Some q) × Live rows' q)
-    → is_some (live_slot rows keys y) ≡ true → is_some (live_slot rows' keys' y) ≡ true
-live_stays rows rows' keys keys' y h e = go (keys y) refl e
+pub live_stays : (slots slots' : List Row) (keys keys' : ℕ → Option ℕ) (y : ℕ) → ((q : ℕ) → keys y ≡ Some q → Live slots q → (keys' y ≡ Some q) × Live slots' q)
+    → is_some (live_slot slots keys y) ≡ true → is_some (live_slot slots' keys' y) ≡ true
+live_stays slots slots' keys keys' y h e = go (keys y) refl e
   where
-    go : (o : Option ℕ) → keys y ≡ o → is_some (if_live rows o) ≡ true → is_some (if_live rows' (keys' y)) ≡ true
+    go : (o : Option ℕ) → keys y ≡ o → is_some (if_live slots o) ≡ true → is_some (if_live slots' (keys' y)) ≡ true
     go None f g = absurd (false≢true g)
-    go (Some q) f g = test (row_at rows q).live refl g
+    go (Some q) f g = test (row_at slots q).live refl g
       where
-        test : (b : Bool) → (row_at rows q).live ≡ b → is_some {T = ℕ} (if b then Some q else None) ≡ true → is_some (if_live rows' (keys' y)) ≡ true
-        test true l g = let w = h q f (record { live = l }) in ap (λ z. is_some (if_live rows' z)) w.0 ∙ ap (λ b. is_some {T = ℕ} (if b then Some q else None)) w.1.live
+        test : (b : Bool) → (row_at slots q).live ≡ b → is_some {T = ℕ} (if b then Some q else None) ≡ true → is_some (if_live slots' (keys' y)) ≡ true
+        test true l g = let w = h q f (record { live = l }) in ap (λ z. is_some (if_live slots' z)) w.0 ∙ ap (λ b. is_some {T = ℕ} (if b then Some q else None)) w.1.live
         test false l g = absurd (false≢true g)
 
 -- the live slot of an operation
-pub some_live : (rows : List Row) (keys : ℕ → Option ℕ) (y : ℕ) → is_some (live_slot rows keys y) ≡ true → (q : ℕ) × ((keys y ≡ Some q) × Live rows q)
-some_live rows keys y e = go (keys y) refl e
+pub some_live : (slots : List Row) (keys : ℕ → Option ℕ) (y : ℕ) → is_some (live_slot slots keys y) ≡ true → (q : ℕ) × ((keys y ≡ Some q) × Live slots q)
+some_live slots keys y e = go (keys y) refl e
   where
-    go : (o : Option ℕ) → keys y ≡ o → is_some (if_live rows o) ≡ true → (q : ℕ) × ((keys y ≡ Some q) × Live rows q)
+    go : (o : Option ℕ) → keys y ≡ o → is_some (if_live slots o) ≡ true → (q : ℕ) × ((keys y ≡ Some q) × Live slots q)
     go None f g = absurd (false≢true g)
-    go (Some q) f g = (q, (f, record { live = test (row_at rows q).live g }))
+    go (Some q) f g = (q, (f, record { live = test (row_at slots q).live g }))
       where
         test : (b : Bool) → is_some {T = ℕ} (if b then Some q else None) ≡ true → b ≡ true
         test true h = refl
         test false h = absurd (false≢true h)
 
 -- a value that has a head has an owner
-pub value_owner : (rows : List Row) (slots : ℕ → Option ℕ) (v : Value) → is_some (value_head rows slots v) ≡ true → is_some (slots (owner_of v).0) ≡ true
-value_owner rows slots v e = go (slots (owner_of v).0) e
+pub value_owner : (slots : List Row) (slot_map : ℕ → Option ℕ) (v : Value) → is_some (value_head slots slot_map v) ≡ true → is_some (slot_map (owner_of v).0) ≡ true
+value_owner slots slot_map v e = go (slot_map (owner_of v).0) e
   where
-    go : (o : Option ℕ) → is_some (option_and_then (slot_head rows v) o) ≡ true → is_some o ≡ true
+    go : (o : Option ℕ) → is_some (option_and_then (slot_head slots v) o) ≡ true → is_some o ≡ true
     go None f = absurd (false≢true f)
     go (Some q) f = refl
 
@@ -69,30 +69,30 @@ value_owner rows slots v e = go (slots (owner_of v).0) e
 pub left_out : (x : ℕ) (t : Op) → eqb (head t).id x ≡ false → has_id x (without x t) ≡ false
 left_out x t e = sym (has_is x (without x t)) ∙ has_cut x t e
 
-module _ (rows : List Row) (keys : ℕ → Option ℕ) (sibs : Lists) (root : ℕ) (t : Op) (r : Right rows keys sibs root t) (s : SpellsOp rows sibs.lists root t) where
+module _ (slots : List Row) (keys : ℕ → Option ℕ) (sibs : Lists) (root : ℕ) (t : Op) (r : Right slots keys sibs root t) (s : SpellsOp slots sibs.lists root t) where
   -- there are at most as many operations as slots
-  pub count_within : HasDistinctIds t → op_count t ≤ length rows
-  count_within d = subst (λ n. op_count t ≤ n) (length-map rows (λ z. z.head.id)) (no_more (ids t) (map (λ z. z.head.id) rows) d member)
+  pub count_within : HasDistinctIds t → op_count t ≤ length slots
+  count_within d = subst (λ n. op_count t ≤ n) (length-map slots (λ z. z.head.id)) (no_more (ids t) (map (λ z. z.head.id) slots) d member)
     where
-      member : (y : ℕ) → list_any (λ z. eqb z y) (ids t) ≡ true → list_any (λ z. eqb z y) (map (λ z. z.head.id) rows) ≡ true
-      member y h = go (live_slot rows keys y) refl
+      member : (y : ℕ) → list_any (λ z. eqb z y) (ids t) ≡ true → list_any (λ z. eqb z y) (map (λ z. z.head.id) slots) ≡ true
+      member y h = go (live_slot slots keys y) refl
         where
-          go : (o : Option ℕ) → live_slot rows keys y ≡ o → list_any (λ z. eqb z y) (map (λ z. z.head.id) rows) ≡ true
-          go None e = absurd (false≢true (sym (ap is_some e) ∙ in_tree_is rows keys sibs root t r s y ∙ h))
-          go (Some k) e = let fd = found rows keys sibs root t r s y k e in any_at rows k y fd.inside fd.id
+          go : (o : Option ℕ) → live_slot slots keys y ≡ o → list_any (λ z. eqb z y) (map (λ z. z.head.id) slots) ≡ true
+          go None e = absurd (false≢true (sym (ap is_some e) ∙ in_tree_is slots keys sibs root t r s y ∙ h))
+          go (Some k) e = let fd = found slots keys sibs root t r s y k e in any_at slots k y fd.inside fd.id
 
   -- the ids of the tree are those of live slots
-  pub ids_below : (n : ℕ) → HasIdsBelow n rows → (y : ℕ) → has_id y t ≡ true → y < n
-  ids_below n b y h = go (live_slot rows keys y) refl
+  pub ids_below : (n : ℕ) → HasIdsBelow n slots → (y : ℕ) → has_id y t ≡ true → y < n
+  ids_below n b y h = go (live_slot slots keys y) refl
     where
-      go : (o : Option ℕ) → live_slot rows keys y ≡ o → y < n
-      go None e = absurd (false≢true (sym (ap is_some e) ∙ in_tree_is rows keys sibs root t r s y ∙ h))
-      go (Some k) e = let fd = found rows keys sibs root t r s y k e in subst (λ z. z < n) fd.id (b k fd.live)
+      go : (o : Option ℕ) → live_slot slots keys y ≡ o → y < n
+      go None e = absurd (false≢true (sym (ap is_some e) ∙ in_tree_is slots keys sibs root t r s y ∙ h))
+      go (Some k) e = let fd = found slots keys sibs root t r s y k e in subst (λ z. z < n) fd.id (b k fd.live)
 
   -- if the newest id isn't in the tree, all others are below it
-  pub lower_below : (x n : ℕ) → n ≡ x + 1 → has_id x t ≡ false → HasIdsBelow n rows → HasIdsBelow x rows
+  pub lower_below : (x n : ℕ) → n ≡ x + 1 → has_id x t ≡ false → HasIdsBelow n slots → HasIdsBelow x slots
   lower_below x n e out b k l =
-      let id = (row_at rows k).head.id in
+      let id = (row_at slots k).head.id in
       let le = b k l in
       ⊎_elim
       (λ z. absurd (false≢true (sym out ∙ ap (λ y. has_id y t) (sym z) ∙ r.covers k l)))
@@ -100,45 +100,45 @@ module _ (rows : List Row) (keys : ℕ → Option ℕ) (sibs : Lists) (root : �
       (cases_eq id x)
 
   -- the headers of live slots are headers of operations of the tree
-  head_is : (q : ℕ) (o : Op) → SpellsOp rows sibs.lists q o → (row_at rows q).head ≡ head o
+  head_is : (q : ℕ) (o : Op) → SpellsOp slots sibs.lists q o → (row_at slots q).head ≡ head o
   head_is q (op h rs) w = w.1.0
 
   -- if no value of operation x is used, no operand is a value of x
-  pub no_user : (x : ℕ) → unused x t ≡ true → (q j : ℕ) (v : Value) → Live rows q → operand_at rows q j ≡ Some v → (owner_of v).0 ≡ x → ⊥
+  pub no_user : (x : ℕ) → unused x t ≡ true → (q j : ℕ) (v : Value) → Live slots q → operand_at slots q j ≡ Some v → (owner_of v).0 ≡ x → ⊥
   no_user x u q j v l e f =
-      let id = (row_at rows q).head.id in
-      let slot : live_slot rows keys id ≡ Some q = ap (if_live rows) (r.keyed q (r.live_used q l)) ∙ rw l.live refl in
-      let o = found_op rows keys sibs root t r s id q (found rows keys sibs root t r s id q slot) in
+      let id = (row_at slots q).head.id in
+      let slot : live_slot slots keys id ≡ Some q = ap (if_live slots) (r.keyed q (r.live_used q l)) ∙ rw l.live refl in
+      let o = found_op slots keys sibs root t r s id q (found slots keys sibs root t r s id q slot) in
       let z : leaves x (head o.0) ≡ true = subst (Passes (leaves x)) o.1.0 (every_find (leaves x) id t u) in
       let p : not (eqb (owner_of v).0 x) ≡ true = all_at (λ w. not (eqb (owner_of w).0 x)) (head o.0).operands j v z (ap (λ d. slice_get d.operands j) (sym (head_is q o.0 o.1.1)) ∙ e) in
       false≢true (sym (ap not (eq-eqb (owner_of v).0 x f)) ∙ p)
 
   -- an operation is taken out
-  module _ (x k : ℕ) (leaf : IsLeaf rows sibs.lists root x k) where
+  module _ (x k : ℕ) (leaf : IsLeaf slots sibs.lists root x k) where
     not_top : eqb (head t).id x ≡ false
-    not_top = ne_eqb (head t).id x (λ z. leaf.inner (sym (only rows keys sibs root t r s x k leaf.found.live leaf.found.id root (root_live rows keys sibs root t r s) (root_id rows keys sibs root t r s ∙ z))))
+    not_top = ne_eqb (head t).id x (λ z. leaf.inner (sym (only slots keys sibs root t r s x k leaf.found.live leaf.found.id root (root_live slots keys sibs root t r s) (root_id slots keys sibs root t r s ∙ z))))
 
     pub cut_counted : HasDistinctIds t → op_count t ≡ op_count (without x t) + 1
     cut_counted d =
-        let o = found_op rows keys sibs root t r s x k leaf.found in
-        taken_op_count x t o.0 d o.1.0 not_top ∙ ap (λ n. op_count (without x t) + n) (ap op_count (sym (bare_is rows sibs.lists k o.0 leaf.bare o.1.1)) ∙ bare_count (row_at rows k))
+        let o = found_op slots keys sibs root t r s x k leaf.found in
+        taken_op_count x t o.0 d o.1.0 not_top ∙ ap (λ n. op_count (without x t) + n) (ap op_count (sym (bare_is slots sibs.lists k o.0 leaf.bare o.1.1)) ∙ bare_count (row_at slots k))
 
-    module _ (rows' : List Row) (same : (q : ℕ) → (q ≡ k → ⊥) → row_at rows' q ≡ row_at rows q) (gone : row_at rows' k ≡ record (row_at rows k) { live = false }) where
-      not_k : (q : ℕ) → Live rows' q → q ≡ k → ⊥
-      not_k q l e = false≢true (sym (ap (λ z. z.live) gone) ∙ ap (λ z. (row_at rows' z).live) (sym e) ∙ l.live)
+    module _ (slots' : List Row) (same : (q : ℕ) → (q ≡ k → ⊥) → row_at slots' q ≡ row_at slots q) (gone : row_at slots' k ≡ record (row_at slots k) { live = false }) where
+      not_k : (q : ℕ) → Live slots' q → q ≡ k → ⊥
+      not_k q l e = false≢true (sym (ap (λ z. z.live) gone) ∙ ap (λ z. (row_at slots' z).live) (sym e) ∙ l.live)
 
-      was : (q : ℕ) → Live rows' q → Live rows q
+      was : (q : ℕ) → Live slots' q → Live slots q
       was q l = record { live = sym (ap (λ z. z.live) (same q (not_k q l))) ∙ l.live }
 
-      pub cut_below : (n : ℕ) → HasIdsBelow n rows → HasIdsBelow n rows'
+      pub cut_below : (n : ℕ) → HasIdsBelow n slots → HasIdsBelow n slots'
       cut_below n b q l = subst (λ z. z.head.id < n) (sym (same q (not_k q l))) (b q (was q l))
 
-      pub cut_owned : unused x t ≡ true → HasOwners rows keys → HasOwners rows' keys
+      pub cut_owned : unused x t ≡ true → HasOwners slots keys → HasOwners slots' keys
       cut_owned u h q j v l e =
-          let f : operand_at rows q j ≡ Some v = sym (ap (λ z. slice_get z.head.operands j) (same q (not_k q l))) ∙ e in
-          live_stays rows rows' keys keys (owner_of v).0
+          let f : operand_at slots q j ≡ Some v = sym (ap (λ z. slice_get z.head.operands j) (same q (not_k q l))) ∙ e in
+          live_stays slots slots' keys keys (owner_of v).0
           (λ p g lp.
-          let ne : p ≡ k → ⊥ = λ z. no_user x u q j v (was q l) f (sym (r.known (owner_of v).0 p g).id ∙ ap (λ w. (row_at rows w).head.id) z ∙ leaf.found.id) in
+          let ne : p ≡ k → ⊥ = λ z. no_user x u q j v (was q l) f (sym (r.known (owner_of v).0 p g).id ∙ ap (λ w. (row_at slots w).head.id) z ∙ leaf.found.id) in
           (g, record { live = ap (λ z. z.live) (same p ne) ∙ lp.live }))
           (h q j v (was q l) f)
 
@@ -148,65 +148,65 @@ joined_counted place r t d out point =
     put_op_count place (bare r) t (record { distinct = d; own = bare_own r; apart = bare_apart r t out; point = point })
     ∙ ap (λ n. op_count t + n) (bare_count r)
 
-module _ (rows : List Row) (keys : ℕ → Option ℕ) (k : ℕ) (rows' : List Row) (same : (q : ℕ) → (q ≡ k → ⊥) → row_at rows' q ≡ row_at rows q) (come : row_at rows' k ≡ record (row_at rows k) { live = true }) where
-  more_live : (q : ℕ) → Live rows q → Live rows' q
+module _ (slots : List Row) (keys : ℕ → Option ℕ) (k : ℕ) (slots' : List Row) (same : (q : ℕ) → (q ≡ k → ⊥) → row_at slots' q ≡ row_at slots q) (come : row_at slots' k ≡ record (row_at slots k) { live = true }) where
+  more_live : (q : ℕ) → Live slots q → Live slots' q
   more_live q l = ⊎_elim
-      (λ e. record { live = ap (λ z. (row_at rows' z).live) e ∙ ap (λ z. z.live) come })
+      (λ e. record { live = ap (λ z. (row_at slots' z).live) e ∙ ap (λ z. z.live) come })
       (λ n. record { live = ap (λ z. z.live) (same q n) ∙ l.live }) (cases_eq q k)
 
-  was_live : (q : ℕ) → (q ≡ k → ⊥) → Live rows' q → Live rows q
+  was_live : (q : ℕ) → (q ≡ k → ⊥) → Live slots' q → Live slots q
   was_live q n l = record { live = sym (ap (λ z. z.live) (same q n)) ∙ l.live }
 
-  pub join_below : (n m : ℕ) → n ≤ m → (row_at rows k).head.id < m → HasIdsBelow n rows → HasIdsBelow m rows'
+  pub join_below : (n m : ℕ) → n ≤ m → (row_at slots k).head.id < m → HasIdsBelow n slots → HasIdsBelow m slots'
   join_below n m le lt b q l = ⊎_elim
-      (λ e. subst (λ z. z < m) (sym (ap (λ z. (row_at rows' z).head.id) e ∙ ap (λ z. z.head.id) come)) lt)
+      (λ e. subst (λ z. z < m) (sym (ap (λ z. (row_at slots' z).head.id) e ∙ ap (λ z. z.head.id) come)) lt)
       (λ ne. let w = b q (was_live q ne l) in subst (λ z. z.head.id < m) (sym (same q ne)) (omega (arith, w, le)))
       (cases_eq q k)
 
-  pub join_owned : ((j : ℕ) (v : Value) → operand_at rows k j ≡ Some v → is_some (live_slot rows keys (owner_of v).0) ≡ true) → HasOwners rows keys → HasOwners rows' keys
-  join_owned own h q j v l e = live_stays rows rows' keys keys (owner_of v).0 (λ p g lp. (g, more_live p lp)) (⊎_elim
-      (λ z. own j v (sym (ap (λ w. slice_get w.head.operands j) (ap (row_at rows') z ∙ come)) ∙ e))
+  pub join_owned : ((j : ℕ) (v : Value) → operand_at slots k j ≡ Some v → is_some (live_slot slots keys (owner_of v).0) ≡ true) → HasOwners slots keys → HasOwners slots' keys
+  join_owned own h q j v l e = live_stays slots slots' keys keys (owner_of v).0 (λ p g lp. (g, more_live p lp)) (⊎_elim
+      (λ z. own j v (sym (ap (λ w. slice_get w.head.operands j) (ap (row_at slots') z ∙ come)) ∙ e))
       (λ n. h q j v (was_live q n l) (sym (ap (λ z. slice_get z.head.operands j) (same q n)) ∙ e))
       (cases_eq q k))
 
 -- slots with more slots appended
 module _ (p q : Parts) (wide : Wider p q) (keys : ℕ → Option ℕ) where
-  wide_was : (k : ℕ) → Live q.rows k → (row_at q.rows k ≡ row_at p.rows k) × Live p.rows k
+  wide_was : (k : ℕ) → Live q.slots k → (row_at q.slots k ≡ row_at p.slots k) × Live p.slots k
   wide_was k l = ⊎_elim
       (λ i. (wide.row k i, record { live = sym (ap (λ z. z.live) (wide.row k i)) ∙ l.live }))
       (λ g. absurd (false≢true (sym (wide.spare k g).live ∙ l.live)))
-      (cases_lt k (length p.rows))
+      (cases_lt k (length p.slots))
 
-  wide_live : (k : ℕ) → Live p.rows k → Live q.rows k
-  wide_live k l = record { live = ap (λ z. z.live) (wide.row k (live_inside p.rows k l)) ∙ l.live }
+  wide_live : (k : ℕ) → Live p.slots k → Live q.slots k
+  wide_live k l = record { live = ap (λ z. z.live) (wide.row k (live_inside p.slots k l)) ∙ l.live }
 
-  pub wide_below : (n : ℕ) → HasIdsBelow n p.rows → HasIdsBelow n q.rows
+  pub wide_below : (n : ℕ) → HasIdsBelow n p.slots → HasIdsBelow n q.slots
   wide_below n b k l = let w = wide_was k l in subst (λ z. z.head.id < n) (sym w.0) (b k w.1)
 
-  pub wide_owned : HasOwners p.rows keys → HasOwners q.rows keys
+  pub wide_owned : HasOwners p.slots keys → HasOwners q.slots keys
   wide_owned h k j v l e =
       let w = wide_was k l in
-      live_stays p.rows q.rows keys keys (owner_of v).0 (λ y g ly. (g, wide_live y ly)) (h k j v w.1 (sym (ap (λ z. slice_get z.head.operands j) w.0) ∙ e))
+      live_stays p.slots q.slots keys keys (owner_of v).0 (λ y g ly. (g, wide_live y ly)) (h k j v w.1 (sym (ap (λ z. slice_get z.head.operands j) w.0) ∙ e))
 
 -- a free slot is written
 module _ (q : Parts) (keys : ℕ → Option ℕ) (bound k x : ℕ) (w : Row) (ready : Ready q keys bound k x w)
-    (rows' : List Row) (same : (y : ℕ) → (y ≡ k → ⊥) → row_at rows' y ≡ row_at q.rows y) (own : row_at rows' k ≡ w)
+    (slots' : List Row) (same : (y : ℕ) → (y ≡ k → ⊥) → row_at slots' y ≡ row_at q.slots y) (own : row_at slots' k ≡ w)
     (keys' : ℕ → Option ℕ) (others : (y : ℕ) → (y ≡ x → ⊥) → keys' y ≡ keys y) where
-  fill_not : (y : ℕ) → Live rows' y → y ≡ k → ⊥
-  fill_not y l e = false≢true (sym ready.live ∙ ap (λ z. z.live) (sym own) ∙ ap (λ z. (row_at rows' z).live) (sym e) ∙ l.live)
+  fill_not : (y : ℕ) → Live slots' y → y ≡ k → ⊥
+  fill_not y l e = false≢true (sym ready.live ∙ ap (λ z. z.live) (sym own) ∙ ap (λ z. (row_at slots' z).live) (sym e) ∙ l.live)
 
-  fill_was : (y : ℕ) → Live rows' y → Live q.rows y
+  fill_was : (y : ℕ) → Live slots' y → Live q.slots y
   fill_was y l = record { live = sym (ap (λ z. z.live) (same y (fill_not y l))) ∙ l.live }
 
-  spare_not : (y : ℕ) → Live q.rows y → y ≡ k → ⊥
-  spare_not y l e = false≢true (sym ready.spare.live ∙ ap (λ z. (row_at q.rows z).live) (sym e) ∙ l.live)
+  spare_not : (y : ℕ) → Live q.slots y → y ≡ k → ⊥
+  spare_not y l e = false≢true (sym ready.spare.live ∙ ap (λ z. (row_at q.slots z).live) (sym e) ∙ l.live)
 
-  pub fill_below : (n : ℕ) → HasIdsBelow n q.rows → HasIdsBelow n rows'
+  pub fill_below : (n : ℕ) → HasIdsBelow n q.slots → HasIdsBelow n slots'
   fill_below n b y l = subst (λ z. z.head.id < n) (sym (same y (fill_not y l))) (b y (fill_was y l))
 
-  pub fill_owned : HasOwners q.rows keys → HasOwners rows' keys'
+  pub fill_owned : HasOwners q.slots keys → HasOwners slots' keys'
   fill_owned h y j v l e =
-      live_stays q.rows rows' keys keys' (owner_of v).0
+      live_stays q.slots slots' keys keys' (owner_of v).0
       (λ p g lp.
       let ne : (owner_of v).0 ≡ x → ⊥ = λ z. (let n : None ≡ Some p = sym ready.unknown ∙ ap keys (sym z) ∙ g in absurd cc) in
       (others (owner_of v).0 ne ∙ g, record { live = ap (λ z. z.live) (same p (spare_not p lp)) ∙ lp.live }))
@@ -220,29 +220,29 @@ slice_set_cases (y ∷ vs) zero (suc i) v w e = inr e
 slice_set_cases (y ∷ vs) (suc j) zero v w e = inr e
 slice_set_cases (y ∷ vs) (suc j) (suc i) v w e = slice_set_cases vs j i v w e
 
-module _ (rows : List Row) (keys : ℕ → Option ℕ) (k j : ℕ) (v : Value) (rows' : List Row) (same : (q : ℕ) → (q ≡ k → ⊥) → row_at rows' q ≡ row_at rows q) (new : row_at rows' k ≡ row_with_operand j v (row_at rows k)) where
-  write_live : (q : ℕ) → (row_at rows' q).live ≡ (row_at rows q).live
+module _ (slots : List Row) (keys : ℕ → Option ℕ) (k j : ℕ) (v : Value) (slots' : List Row) (same : (q : ℕ) → (q ≡ k → ⊥) → row_at slots' q ≡ row_at slots q) (new : row_at slots' k ≡ row_with_operand j v (row_at slots k)) where
+  write_live : (q : ℕ) → (row_at slots' q).live ≡ (row_at slots q).live
   write_live q = ⊎_elim
-      (λ e. ap (λ z. (row_at rows' z).live) e ∙ ap (λ z. z.live) new ∙ ap (λ z. (row_at rows z).live) (sym e))
+      (λ e. ap (λ z. (row_at slots' z).live) e ∙ ap (λ z. z.live) new ∙ ap (λ z. (row_at slots z).live) (sym e))
       (λ n. ap (λ z. z.live) (same q n)) (cases_eq q k)
 
-  write_id : (q : ℕ) → (row_at rows' q).head.id ≡ (row_at rows q).head.id
+  write_id : (q : ℕ) → (row_at slots' q).head.id ≡ (row_at slots q).head.id
   write_id q = ⊎_elim
-      (λ e. ap (λ z. (row_at rows' z).head.id) e ∙ ap (λ z. z.head.id) new ∙ ap (λ z. (row_at rows z).head.id) (sym e))
+      (λ e. ap (λ z. (row_at slots' z).head.id) e ∙ ap (λ z. z.head.id) new ∙ ap (λ z. (row_at slots z).head.id) (sym e))
       (λ n. ap (λ z. z.head.id) (same q n)) (cases_eq q k)
 
-  pub write_below : (n : ℕ) → HasIdsBelow n rows → HasIdsBelow n rows'
+  pub write_below : (n : ℕ) → HasIdsBelow n slots → HasIdsBelow n slots'
   write_below n b q l = subst (λ z. z < n) (sym (write_id q)) (b q (record { live = sym (write_live q) ∙ l.live }))
 
-  pub write_owned : is_some (live_slot rows keys (owner_of v).0) ≡ true → HasOwners rows keys → HasOwners rows' keys
+  pub write_owned : is_some (live_slot slots keys (owner_of v).0) ≡ true → HasOwners slots keys → HasOwners slots' keys
   write_owned there h q i w l e =
-      let was : Live rows q = record { live = sym (write_live q) ∙ l.live } in
-      live_stays rows rows' keys keys (owner_of w).0 (λ p g lp. (g, record { live = write_live p ∙ lp.live })) (⊎_elim
+      let was : Live slots q = record { live = sym (write_live q) ∙ l.live } in
+      live_stays slots slots' keys keys (owner_of w).0 (λ p g lp. (g, record { live = write_live p ∙ lp.live })) (⊎_elim
       (λ z.
-      let f : slice_get (set (row_at rows k).head.operands j v) i ≡ Some w = sym (ap (λ y. slice_get y.head.operands i) (ap (row_at rows') z ∙ new)) ∙ e in
+      let f : slice_get (set (row_at slots k).head.operands j v) i ≡ Some w = sym (ap (λ y. slice_get y.head.operands i) (ap (row_at slots') z ∙ new)) ∙ e in
       ⊎_elim
-      (λ y. subst (λ u. is_some (live_slot rows keys (owner_of u).0) ≡ true) (sym y) there)
-      (λ y. h q i w was (ap (λ u. slice_get (row_at rows u).head.operands i) z ∙ y))
-      (slice_set_cases (row_at rows k).head.operands j i v w f))
+      (λ y. subst (λ u. is_some (live_slot slots keys (owner_of u).0) ≡ true) (sym y) there)
+      (λ y. h q i w was (ap (λ u. slice_get (row_at slots u).head.operands i) z ∙ y))
+      (slice_set_cases (row_at slots k).head.operands j i v w f))
       (λ n. h q i w was (sym (ap (λ z. slice_get z.head.operands i) (same q n)) ∙ e))
       (cases_eq q k))

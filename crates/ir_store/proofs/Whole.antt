@@ -92,32 +92,32 @@ module _ (a : Inside) (w : Whole a) where
     free_run = subst (λ p. CanFree p.0 p.1 a.uses.homes) (sym er)
         (can_free (rows_in a) (keys_in a) a.uses.homes (cells_of a.cells.items) w.few w.index k (w.right.live_used k leaf.found.live) leaf.found.live)
 
-    module _ (rows' : List Row) (ew : rows' ≡ set (rows_in a) k (record (row_at (rows_in a) k) { live = false })) (sibs' : Lists) (el : sibs'.lists ≡ map (drop_node k) a.sibs.lists) (eh : sibs'.homes ≡ set a.sibs.homes k free)
+    module _ (slots' : List Row) (ew : slots' ≡ set (rows_in a) k (record (row_at (rows_in a) k) { live = false })) (sibs' : Lists) (el : sibs'.lists ≡ map (drop_node k) a.sibs.lists) (eh : sibs'.homes ≡ set a.sibs.homes k free)
         (homes' : List ℕ) (eu : homes' ≡ freed run.0 run.1 a.uses.homes) where
-      others : (q : ℕ) → (q ≡ k → ⊥) → row_at rows' q ≡ row_at (rows_in a) q
-      others = put_other (rows_in a) rows' k (record (row_at (rows_in a) k) { live = false }) ew
+      others : (q : ℕ) → (q ≡ k → ⊥) → row_at slots' q ≡ row_at (rows_in a) q
+      others = put_other (rows_in a) slots' k (record (row_at (rows_in a) k) { live = false }) ew
 
-      own : row_at rows' k ≡ record (row_at (rows_in a) k) { live = false }
-      own = put_own (rows_in a) rows' k (record (row_at (rows_in a) k) { live = false }) ew leaf.found.inside
+      own : row_at slots' k ≡ record (row_at (rows_in a) k) { live = false }
+      own = put_own (rows_in a) slots' k (record (row_at (rows_in a) k) { live = false }) ew leaf.found.inside
 
       pub take_some : 1 ≤ a.count
       take_some = omega (arith, w.counted, cut_counted (rows_in a) (keys_in a) a.sibs a.root a.represented.0 w.right a.represented.1 x k leaf w.distinct)
 
-      pub take_fits : unused x a.represented.0 ≡ true → (s : Represented rows' sibs'.lists a.root) (marks : List ℕ) → marks ≡ set a.marks.homes (node_of_slot k) (home_of (mark (row_at rows' k))) → Fits rows' (keys_in a) sibs' a.root s.0 homes' (cells_of a.cells.items) (a.count - 1) a.next marks
+      pub take_fits : unused x a.represented.0 ≡ true → (s : Represented slots' sibs'.lists a.root) (marks : List ℕ) → marks ≡ set a.marks.homes (node_of_slot k) (home_of (mark (row_at slots' k))) → Fits slots' (keys_in a) sibs' a.root s.0 homes' (cells_of a.cells.items) (a.count - 1) a.next marks
       take_fits spared s marks em = record {
-        right = right_after a w.right x k leaf rows' ew sibs' el eh s;
+        right = right_after a w.right x k leaf slots' ew sibs' el eh s;
         few = omega (arith, w.few, ap length eu, freed_long run.0 run.1 a.uses.homes);
-        index = subst (λ z. Index rows' (keys_in a) z (cells_of a.cells.items) (lives rows')) (sym (eu ∙ ap (λ p. freed p.0 p.1 a.uses.homes) er))
-            (take_index (rows_in a) (keys_in a) a.uses.homes (cells_of a.cells.items) w.few w.index k (w.right.live_used k leaf.found.live) rows' others false own refl leaf.found.live);
-        distinct = subst HasDistinctIds (sym (cut_tree a w.right x k leaf rows' ew sibs' el eh s)) (left_distinct x a.represented.0 w.distinct);
+        index = subst (λ z. Index slots' (keys_in a) z (cells_of a.cells.items) (lives slots')) (sym (eu ∙ ap (λ p. freed p.0 p.1 a.uses.homes) er))
+            (take_index (rows_in a) (keys_in a) a.uses.homes (cells_of a.cells.items) w.few w.index k (w.right.live_used k leaf.found.live) slots' others false own refl leaf.found.live);
+        distinct = subst HasDistinctIds (sym (cut_tree a w.right x k leaf slots' ew sibs' el eh s)) (left_distinct x a.represented.0 w.distinct);
         counted =
             let c = cut_counted (rows_in a) (keys_in a) a.sibs a.root a.represented.0 w.right a.represented.1 x k leaf w.distinct in
             let e : a.count - 1 ≡ op_count (without x a.represented.0) = omega (arith, w.counted, c) in
-            e ∙ ap op_count (sym (cut_tree a w.right x k leaf rows' ew sibs' el eh s));
-        below = cut_below (rows_in a) (keys_in a) a.sibs a.root a.represented.0 w.right a.represented.1 x k leaf rows' others own a.next w.below;
-        owned = cut_owned (rows_in a) (keys_in a) a.sibs a.root a.represented.0 w.right a.represented.1 x k leaf rows' others own spared w.owned;
-        marked = marked_edit (rows_in a) rows' a.marks.homes marks k w.marked (w.marked.inside k (w.right.live_used k leaf.found.live)) others em;
-        celled = celled_edit (rows_in a) rows' (cells_of a.cells.items) k w.celled others (ap (λ z. z.used) own) (ap (λ z. z.head.results) own) (ap (λ z. z.shapes) own) (ap (λ z. z.values) own);
+            e ∙ ap op_count (sym (cut_tree a w.right x k leaf slots' ew sibs' el eh s));
+        below = cut_below (rows_in a) (keys_in a) a.sibs a.root a.represented.0 w.right a.represented.1 x k leaf slots' others own a.next w.below;
+        owned = cut_owned (rows_in a) (keys_in a) a.sibs a.root a.represented.0 w.right a.represented.1 x k leaf slots' others own spared w.owned;
+        marked = marked_edit (rows_in a) slots' a.marks.homes marks k w.marked (w.marked.inside k (w.right.live_used k leaf.found.live)) others em;
+        celled = celled_edit (rows_in a) slots' (cells_of a.cells.items) k w.celled others (ap (λ z. z.used) own) (ap (λ z. z.head.results) own) (ap (λ z. z.shapes) own) (ap (λ z. z.values) own);
       }
 
 -- the count can rise by one

@@ -17,7 +17,7 @@ impl Store {
         ensures tree { IfOk result (λ t. t ≡ self.now.module_of.tree) }
         ensures refused { IfErr result (λ e. e ≡ Refusal.Memory) }
     {
-        let tree = copy_op(self.alloc, &self.rows, &self.sibs, &self.root, LEVELS)?;
+        let tree = copy_op(self.alloc, &self.slots, &self.sibs, &self.root, LEVELS)?;
         Ok(tree)
     }
 }

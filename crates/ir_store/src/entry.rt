@@ -26,7 +26,7 @@ impl Store {
         let Some(at) = slot(&self.keys, op) else {
             return false;
         };
-        has_slot_at(&self.rows, at, part, key)
+        has_slot_at(&self.slots, at, part, key)
     }
 
     /// Sets `key` in one dictionary of an operation of the module to an attribute, or removes the key. The slot of a
@@ -72,15 +72,15 @@ impl Store {
             (λ e. IsRefusedFor {A = Unit {0}} (set_entry_reason (key_before_in ctx.now) op part key value self.old.module_of.tree) (Err e) × (self.new ≡ self.old)) }
         ensures slot { IsSoundIn ctx.now self.old.module_of.tree → NeedsNoSlot op part key value self.old → IfErr result (λ e. set_entry_reason (key_before_in ctx.now) op part key value self.old.module_of.tree ≡ Some e) }
     {
-        let at = match find_entry(ctx, &self.rows, &self.keys, op, part, key, &value) {
+        let at = match find_entry(ctx, &self.slots, &self.keys, op, part, key, &value) {
             Ok(at) => at,
             Err(e) => return Err(e),
         };
-        match self.rows.change(self.alloc, ctx, at, part, key, value) {
+        match self.slots.change(self.alloc, ctx, at, part, key, value) {
             Ok(()) => {}
             Err(_) => return Err(Refusal::Memory),
         }
-        link_slot(&mut self.marks, &self.rows, at);
+        link_slot(&mut self.marks, &self.slots, at);
         Ok(())
     }
 }
@@ -103,10 +103,10 @@ impl Store {
         ensures done { self.new ≡ after_entry (key_before_in ctx.now) op part key value self.old }
         ensures sound { IsSoundIn ctx.now self.new.module_of.tree }
     {
-        let Some(at) = find(&self.rows, &self.keys, op) else {
+        let Some(at) = find(&self.slots, &self.keys, op) else {
             return;
         };
-        self.rows.revert(ctx, at, part, key, value);
-        link_slot(&mut self.marks, &self.rows, at);
+        self.slots.revert(ctx, at, part, key, value);
+        link_slot(&mut self.marks, &self.slots, at);
     }
 }

@@ -35,7 +35,7 @@ impl Store {
         self.uses.laws();
         let found = find_spare(
             self.alloc,
-            &self.rows,
+            &self.slots,
             &self.sibs,
             &self.uses,
             &self.cells,
@@ -48,7 +48,7 @@ impl Store {
             Ok(None) => return Ok(false),
             Err(e) => return Err(e),
         };
-        match reach(&mut self.marks, self.rows.len()) {
+        match reach(&mut self.marks, self.slots.len()) {
             Ok(()) => {}
             Err(e) => return Err(e),
         }
@@ -57,15 +57,15 @@ impl Store {
             Ok(()) => {}
             Err(e) => return Err(e),
         }
-        match self.rows.write_op(key, found.draft) {
+        match self.slots.write_op(key, found.draft) {
             Ok(()) => {}
             Err(e) => {
                 self.keys.remove(op.number());
                 return Err(e);
             }
         }
-        self.spare = take_spare(&mut self.rows, self.spare, found.trailing, found.before);
-        link_slot(&mut self.marks, &self.rows, key);
+        self.spare = take_spare(&mut self.slots, self.spare, found.trailing, found.before);
+        link_slot(&mut self.marks, &self.slots, key);
         Ok(true)
     }
 }
@@ -80,7 +80,7 @@ impl Store {
         self.sibs.laws();
         let grown = grow_slot(
             self.alloc,
-            &mut self.rows,
+            &mut self.slots,
             &mut self.sibs,
             &mut self.uses,
             &mut self.cells,
@@ -93,7 +93,7 @@ impl Store {
             Ok(grown) => grown,
             Err(e) => return Err(e),
         };
-        match reach(&mut self.marks, self.rows.len()) {
+        match reach(&mut self.marks, self.slots.len()) {
             Ok(()) => {}
             Err(e) => return Err(e),
         }
@@ -101,14 +101,14 @@ impl Store {
             Ok(()) => {}
             Err(e) => return Err(e),
         }
-        match self.rows.write_op(key, draft) {
+        match self.slots.write_op(key, draft) {
             Ok(()) => {}
             Err(e) => {
                 self.keys.remove(op.number());
                 return Err(e);
             }
         }
-        link_slot(&mut self.marks, &self.rows, key);
+        link_slot(&mut self.marks, &self.slots, key);
         Ok(())
     }
 }

@@ -12,20 +12,20 @@ impl Store {
     pub fn first(&self, op: OpId, region: u32) -> Option<OpId>
         ensures { result ≡ first_at op region self.now.module_of.tree }
     {
-        let Some(head) = find_block(&self.rows, &self.keys, op, region) else {
+        let Some(head) = find_block(&self.slots, &self.keys, op, region) else {
             return None;
         };
-        id_of(&self.rows, self.sibs.first(head))
+        id_of(&self.slots, self.sibs.first(head))
     }
 
     /// Returns the last operation of the block of a region, or `None` if the block is empty or doesn't exist.
     pub fn last(&self, op: OpId, region: u32) -> Option<OpId>
         ensures { result ≡ last_at op region self.now.module_of.tree }
     {
-        let Some(head) = find_block(&self.rows, &self.keys, op, region) else {
+        let Some(head) = find_block(&self.slots, &self.keys, op, region) else {
             return None;
         };
-        id_of(&self.rows, self.sibs.last(head))
+        id_of(&self.slots, self.sibs.last(head))
     }
 
     /// Returns the operation directly before `op` in its block, or `None` if there is none.
@@ -33,13 +33,13 @@ impl Store {
         ensures { result ≡ prev_of op self.now.module_of.tree }
     {
         self.sibs.laws();
-        let Some(key) = find(&self.rows, &self.keys, op) else {
+        let Some(key) = find(&self.slots, &self.keys, op) else {
             return None;
         };
         if key == self.root {
             return None;
         }
-        id_of(&self.rows, self.sibs.prev(key))
+        id_of(&self.slots, self.sibs.prev(key))
     }
 
     /// Returns whether `op` and `other` are in one block and `op` is earlier.
@@ -47,10 +47,10 @@ impl Store {
         ensures { result ≡ is_before op other self.now.module_of.tree }
     {
         self.sibs.laws();
-        let Some(key) = find(&self.rows, &self.keys, op) else {
+        let Some(key) = find(&self.slots, &self.keys, op) else {
             return false;
         };
-        let Some(trailing) = find(&self.rows, &self.keys, other) else {
+        let Some(trailing) = find(&self.slots, &self.keys, other) else {
             return false;
         };
         goes_before(&self.sibs, key, trailing)

@@ -15,13 +15,13 @@ impl Store {
         ensures { result ≡ place_of op self.now.module_of.tree }
     {
         self.sibs.laws();
-        let Some(key) = find(&self.rows, &self.keys, op) else {
+        let Some(key) = find(&self.slots, &self.keys, op) else {
             return None;
         };
         if key == self.root {
             return None;
         }
-        place_at(&self.rows, &self.sibs, key)
+        place_at(&self.slots, &self.sibs, key)
     }
 
     /// Returns whether `op` is in the module and isn't its root.
@@ -29,7 +29,7 @@ impl Store {
         ensures { result ≡ is_some (place_of op self.now.module_of.tree) }
     {
         self.sibs.laws();
-        let Some(key) = find(&self.rows, &self.keys, op) else {
+        let Some(key) = find(&self.slots, &self.keys, op) else {
             return false;
         };
         if key == self.root {

@@ -11,7 +11,7 @@ impl Store {
         ensures { Releases from self.old self.new }
     {
         release_slots(
-            &mut self.rows,
+            &mut self.slots,
             &mut self.keys,
             &mut self.marks,
             &mut self.spare,

@@ -39,7 +39,7 @@ impl Store {
         ensures { self.new ≡ after_shift op place self.old }
     {
         self.sibs.laws();
-        let Some((key, head, before)) = find_move(&self.rows, &self.keys, &self.sibs, op, place)
+        let Some((key, head, before)) = find_move(&self.slots, &self.keys, &self.sibs, op, place)
         else {
             return;
         };
@@ -106,7 +106,7 @@ impl Store {
     pub(crate) fn is_root(&self, op: OpId) -> bool
         ensures { result ≡ eqb (head self.now.module_of.tree).id op }
     {
-        id_at(&self.rows, self.root) == op
+        id_at(&self.slots, self.root) == op
     }
 
     /// Returns whether the parent of `place`, or the next operation there, is `op` or inside `op`.
@@ -208,11 +208,11 @@ impl Store {
     {
         self.sibs.laws();
         self.distinct();
-        let Some(key) = find(&self.rows, &self.keys, op) else {
+        let Some(key) = find(&self.slots, &self.keys, op) else {
             return false;
         };
         let headroom = self.headroom_in(parent);
-        op_fits(&self.rows, &self.sibs, key, headroom)
+        op_fits(&self.slots, &self.sibs, key, headroom)
     }
 
     /// Returns whether an operation with `levels` levels inside it keeps within the depth limit as a child of `parent`.
@@ -244,17 +244,17 @@ impl Store {
 
 /// Returns the slot of an operation of the module, and the insertion point of its new place.
 fn find_move(
-    rows: &Slots,
+    slots: &Slots,
     keys: &Keys,
     sibs: &OrderedLists,
     op: OpId,
     place: Place,
 ) -> Option<(usize, usize, Option<usize>)>
-    requires { length rows.now ≡ length sibs.now.homes }
-    ensures { MatchOption result ((is_some (live_slot rows.now (finmap.get keys.now) op) && is_some (point_in rows.now (finmap.get keys.now) sibs.now.homes place)) ≡ false)
-        (λ p. (Some p.0 ≡ live_slot rows.now (finmap.get keys.now) op) × (Some (p.1, p.2) ≡ point_in rows.now (finmap.get keys.now) sibs.now.homes place)) }
+    requires { length slots.now ≡ length sibs.now.homes }
+    ensures { MatchOption result ((is_some (live_slot slots.now (finmap.get keys.now) op) && is_some (point_in slots.now (finmap.get keys.now) sibs.now.homes place)) ≡ false)
+        (λ p. (Some p.0 ≡ live_slot slots.now (finmap.get keys.now) op) × (Some (p.1, p.2) ≡ point_in slots.now (finmap.get keys.now) sibs.now.homes place)) }
 {
-    let key = find(rows, keys, op)?;
-    let (head, before) = find_insertion_point(rows, keys, sibs, place)?;
+    let key = find(slots, keys, op)?;
+    let (head, before) = find_insertion_point(slots, keys, sibs, place)?;
     Some((key, head, before))
 }

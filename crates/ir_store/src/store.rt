@@ -43,7 +43,7 @@ use std::marker::Model;
 #[derive(Drop)]
 pub struct Store {
     pub(crate) alloc: Global,
-    pub(crate) rows: Slots,
+    pub(crate) slots: Slots,
     pub(crate) keys: Keys,
     pub(crate) sibs: OrderedLists,
     /// The use lists: one list for each value.
@@ -57,9 +57,9 @@ pub struct Store {
     pub(crate) next: u32,
     /// The number of operations of the module.
     pub(crate) count: u64,
-    ghost represented: { Represented rows sibs.lists root } by { Represented-prop rows sibs.lists root },
-    ghost holds: { HoldsOf rows (finmap.get keys) } by { HoldsOf-prop rows (finmap.get keys) },
-    ghost lacks: { GoneOf rows (finmap.get keys) } by { GoneOf-prop rows (finmap.get keys) },
+    ghost represented: { Represented slots sibs.lists root } by { Represented-prop slots sibs.lists root },
+    ghost holds: { HoldsOf slots (finmap.get keys) } by { HoldsOf-prop slots (finmap.get keys) },
+    ghost lacks: { GoneOf slots (finmap.get keys) } by { GoneOf-prop slots (finmap.get keys) },
 }
 
 impl Model for Store {
@@ -75,7 +75,7 @@ impl Model for Store {
 
     ghost view = { λ s. record { module_of = record { tree = s.represented.0; next = s.next }; held = s.holds.0; gone = s.lacks.0 } };
 
-    ghost invariant = { λ s. Fits s.rows (finmap.get s.keys) s.sibs s.root s.represented.0 s.uses.homes (cells_of s.cells.items) s.count s.next s.marks.homes };
+    ghost invariant = { λ s. Fits s.slots (finmap.get s.keys) s.sibs s.root s.represented.0 s.uses.homes (cells_of s.cells.items) s.count s.next s.marks.homes };
 }
 
 impl Store {
@@ -90,7 +90,7 @@ impl Store {
     pub fn root(&self) -> OpId
         ensures { result ≡ (head self.now.module_of.tree).id }
     {
-        self.rows.id(self.root)
+        self.slots.id(self.root)
     }
 
     /// Returns the number of operations of the module, the root included.
@@ -104,7 +104,7 @@ impl Store {
     pub fn in_tree(&self, op: OpId) -> bool
         ensures { result ≡ has_id op self.now.module_of.tree }
     {
-        find(&self.rows, &self.keys, op).is_some()
+        find(&self.slots, &self.keys, op).is_some()
     }
 }
 
@@ -118,17 +118,22 @@ impl Store {
     {
         self.uses.laws();
         let key = match find_idle(
-            &self.rows, &self.keys, &self.sibs, &self.uses, self.root, op,
+            &self.slots,
+            &self.keys,
+            &self.sibs,
+            &self.uses,
+            self.root,
+            op,
         ) {
             Ok(key) => key,
             Err(e) => return Err(e),
         };
-        let (base, count) = use_run(&self.rows, key);
+        let (base, count) = use_run(&self.slots, key);
         free_uses(&mut self.uses, base, count);
         self.sibs.remove(key);
         self.count -= 1;
-        self.rows.set_live(key, false);
-        link_slot(&mut self.marks, &self.rows, key);
+        self.slots.set_live(key, false);
+        link_slot(&mut self.marks, &self.slots, key);
         Ok(())
     }
 }
@@ -142,15 +147,19 @@ impl Store {
     {
         self.sibs.laws();
         let Some((key, head, before)) = find_insertion(
-            &self.rows, &self.keys, &self.sibs, op, place,
+            &self.slots,
+            &self.keys,
+            &self.sibs,
+            op,
+            place,
         ) else {
             return;
         };
-        link_operands(&mut self.uses, &self.rows, &self.keys, key);
+        link_operands(&mut self.uses, &self.slots, &self.keys, key);
         link(&mut self.sibs, key, head, before);
         self.count += 1;
-        self.rows.set_live(key, true);
-        link_slot(&mut self.marks, &self.rows, key);
+        self.slots.set_live(key, true);
+        link_slot(&mut self.marks, &self.slots, key);
         self.next = raised(fresh, op, self.next);
     }
 
@@ -188,7 +197,7 @@ impl Store {
         let Some(key) = slot(&self.keys, op) else {
             return None;
         };
-        Some(Node::new(&self.rows, key))
+        Some(Node::new(&self.slots, key))
     }
 }
 
@@ -204,13 +213,20 @@ impl Store {
             (λ e. (rewire_reason op place value self.old.module_of.tree ≡ Some e) × (self.new ≡ self.old)) }
         ensures was { IfOk result (λ v. operand_at op place self.old.module_of.tree ≡ Some v) }
     {
-        let (key, head) = match find_rewire(&self.rows, &self.keys, &self.uses, op, place, &value) {
+        let (key, head) = match find_rewire(
+            &self.slots,
+            &self.keys,
+            &self.uses,
+            op,
+            place,
+            &value,
+        ) {
             Ok(found) => found,
             Err(e) => return Err(e),
         };
-        let node = use_node(&self.rows, key, place);
+        let node = use_node(&self.slots, key, place);
         self.uses.remove(node);
-        let old = self.rows.put_operand(key, place, value);
+        let old = self.slots.put_operand(key, place, value);
         self.uses.push_back(node, head);
         Ok(old)
     }
@@ -221,7 +237,7 @@ impl Store {
     pub fn value_type(&self, value: Value) -> Option<TypeId>
         ensures { result ≡ type_of_value value self.now.module_of.tree }
     {
-        live_type(&self.rows, &self.keys, &value)
+        live_type(&self.slots, &self.keys, &value)
     }
 }
 
@@ -231,8 +247,8 @@ impl Store {
         ensures { AreUses value self.now.module_of.tree result }
     {
         self.uses.laws();
-        let head = value_head(&self.rows, &self.keys, &self.uses, &value);
-        uses_from(&self.rows, &self.cells, &self.uses, head)
+        let head = value_head(&self.slots, &self.keys, &self.uses, &value);
+        uses_from(&self.slots, &self.cells, &self.uses, head)
     }
 }
 
@@ -249,25 +265,25 @@ impl Store {
         requires below { (head header.now).id < next }
         ensures { IfOk result (λ s. s ≡ seeded header.now next) }
     {
-        let rows = Slots::with_capacity(
+        let slots = Slots::with_capacity(
             alloc,
-            headroom.slots,
+            headroom.slot_map,
             headroom.short,
-            headroom.plain,
+            headroom.simple,
             headroom.entered,
             headroom.whole,
         )?;
-        let sibs = OrderedLists::with_capacity(alloc, headroom.slots)?;
+        let sibs = OrderedLists::with_capacity(alloc, headroom.slot_map)?;
         let uses = LinkedLists::with_capacity(alloc, headroom.uses)?;
         let cells = Vec::with_capacity(alloc, headroom.uses)?;
         let keys = IdTable::with_capacity(alloc, headroom.ops)?;
-        Store::seed_in(alloc, rows, sibs, uses, cells, keys, header, next)
+        Store::seed_in(alloc, slots, sibs, uses, cells, keys, header, next)
     }
 
     /// Returns a module of one operation like `header`, in the given empty rows, lists and tables.
     fn seed_in(
         alloc: Global,
-        rows: Slots,
+        slots: Slots,
         sibs: OrderedLists,
         uses: LinkedLists,
         cells: Vec<UseNode>,
@@ -277,27 +293,27 @@ impl Store {
     ) -> Result<Store, AllocError>
         requires bare { (head header.now).operands ≡ [] }
         requires below { (head header.now).id < next }
-        requires rows { rows ≡ [] }
+        requires slots { slots ≡ [] }
         requires sibs { sibs ≡ record { lists = []; homes = []; headroom = 0 } }
         requires uses { uses ≡ record { lists = []; homes = []; headroom = 0 } }
         requires cells { cells.items ≡ [] }
         requires keys { keys ≡ finmap.empty }
         ensures { IfOk result (λ s. s ≡ seeded header.now next) }
     {
-        let mut rows = rows;
+        let mut slots = slots;
         let mut sibs = sibs;
         let mut uses = uses;
         let mut cells = cells;
         let mut keys = keys;
         let (root, draft) = match grow_slot(
-            alloc, &mut rows, &mut sibs, &mut uses, &mut cells, header.id, header,
+            alloc, &mut slots, &mut sibs, &mut uses, &mut cells, header.id, header,
         ) {
             Ok(grown) => grown,
             Err(e) => return Err(e),
         };
         sibs.laws();
         uses.laws();
-        match write_root(&mut rows, &mut keys, header.id, root, draft) {
+        match write_root(&mut slots, &mut keys, header.id, root, draft) {
             Ok(()) => {}
             Err(e) => return Err(e),
         }
@@ -305,13 +321,13 @@ impl Store {
             Ok(marks) => marks,
             Err(e) => return Err(e),
         };
-        match reach(&mut marks, rows.len()) {
+        match reach(&mut marks, slots.len()) {
             Ok(()) => {}
             Err(e) => return Err(e),
         }
         Ok(Store {
             alloc,
-            rows,
+            slots,
             keys,
             sibs,
             uses,
@@ -327,25 +343,25 @@ impl Store {
 
 /// Writes the root into its slot, and maps its id to the slot.
 fn write_root(
-    rows: &mut Slots,
+    slots: &mut Slots,
     keys: &mut Keys,
     op: OpId,
     root: usize,
     draft: Draft,
 ) -> Result<(), AllocError>
-    requires inside { root < length rows.old }
+    requires inside { root < length slots.old }
     requires few { root < free }
     ensures key { OnOk result (keys.new ≡ finmap.insert keys.old op root) }
-    ensures row { OnOk result (rows.new ≡ slice_set rows.old root (record draft { live = true })) }
+    ensures row { OnOk result (slots.new ≡ slice_set slots.old root (record draft { live = true })) }
 {
     match keys.insert(op.number(), root) {
         Ok(()) => {}
         Err(e) => return Err(e),
     }
-    match rows.write_op(root, draft) {
+    match slots.write_op(root, draft) {
         Ok(()) => {}
         Err(e) => return Err(e),
     }
-    rows.set_live(root, true);
+    slots.set_live(root, true);
     Ok(())
 }

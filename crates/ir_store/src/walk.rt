@@ -24,7 +24,7 @@ impl Store {
     {
         self.sibs.laws();
         let mut ops = Vec::with_capacity(self.alloc, self.count as usize)?;
-        push_op(&self.rows, &self.sibs, self.root, LEVELS, &mut ops)?;
+        push_op(&self.slots, &self.sibs, self.root, LEVELS, &mut ops)?;
         Ok(ops)
     }
 }
@@ -52,12 +52,12 @@ impl Store {
         ensures { MatchOption result (ids_in (the_first op self.now.module_of.tree) ≡ op ∷ []) (λ y. IsLastIn op y self.now.module_of.tree) }
     {
         self.sibs.laws();
-        let Some(key) = find(&self.rows, &self.keys, op) else {
+        let Some(key) = find(&self.slots, &self.keys, op) else {
             return None;
         };
-        let Some(last) = last_slot(&self.rows, &self.sibs, key) else {
+        let Some(last) = last_slot(&self.slots, &self.sibs, key) else {
             return None;
         };
-        Some(id_at(&self.rows, last))
+        Some(id_at(&self.slots, last))
     }
 }

@@ -42,19 +42,19 @@ map_but {X} {Y} f g d (a ∷ xs) zero x y e same = λ i. e i ∷ all xs (λ q l.
 map_but {X} {Y} f g d (a ∷ xs) (suc k) x y e same =
     λ i. same zero (omega arith) (λ z. absurd (omega (arith, z))) i ∷ map_but f g d xs k x y e (λ q l ne. same (suc q) (omega (arith, l)) (λ z. ne (omega (arith, z)))) i
 
-held_in : (rows : List Kept) (q : ℕ) (d : Kept) → q < length rows → held_at rows q ≡ (get_or rows q d).held
-held_in rows q d l = get_or-map (λ n. n.held) rows q d (Free 0) l
+held_in : (slots : List Kept) (q : ℕ) (d : Kept) → q < length slots → held_at slots q ≡ (get_or slots q d).held
+held_in slots q d l = get_or-map (λ n. n.held) slots q d (Free 0) l
 
 -- the key of the written row, and the keys of the others
-pub held_own : (rows : List Kept) (k : ℕ) (n : Kept) → k < length rows → held_at (set rows k n) k ≡ n.held
-held_own rows k n l = ap (λ z. get_or z k (Free 0)) (map-set (λ m. m.held) rows k n) ∙ get_or-set_same (map (λ m. m.held) rows) k n.held (Free 0) (omega (arith, l, length-map rows (λ m. m.held)))
+pub held_own : (slots : List Kept) (k : ℕ) (n : Kept) → k < length slots → held_at (set slots k n) k ≡ n.held
+held_own slots k n l = ap (λ z. get_or z k (Free 0)) (map-set (λ m. m.held) slots k n) ∙ get_or-set_same (map (λ m. m.held) slots) k n.held (Free 0) (omega (arith, l, length-map slots (λ m. m.held)))
 
-pub held_other : (rows : List Kept) (k : ℕ) (n : Kept) (q : ℕ) → (q ≡ k → ⊥) → held_at (set rows k n) q ≡ held_at rows q
-held_other rows k n q ne = ap (λ z. get_or z q (Free 0)) (map-set (λ m. m.held) rows k n) ∙ get_or-set_other (map (λ m. m.held) rows) k q n.held (Free 0) ne
+pub held_other : (slots : List Kept) (k : ℕ) (n : Kept) (q : ℕ) → (q ≡ k → ⊥) → held_at (set slots k n) q ≡ held_at slots q
+held_other slots k n q ne = ap (λ z. get_or z q (Free 0)) (map-set (λ m. m.held) slots k n) ∙ get_or-set_other (map (λ m. m.held) slots) k q n.held (Free 0) ne
 
 -- a row is read
-pub read_row : (s : OpArena) (rows : List Kept) (k : ℕ) (n : Kept) → k < length rows → n ≡ get_or rows k n → row_at (rows_in s rows) k ≡ row_in s n
-read_row s rows k n l e = get_or-map (row_in s) rows k n no_row l ∙ ap (row_in s) (sym e)
+pub read_row : (s : OpArena) (slots : List Kept) (k : ℕ) (n : Kept) → k < length slots → n ≡ get_or slots k n → row_at (rows_in s slots) k ≡ row_in s n
+read_row s slots k n l e = get_or-map (row_in s) slots k n no_row l ∙ ap (row_in s) (sym e)
 
 -- whether two keys are equal
 abbrev kind_of : SlotKind → ℕ
@@ -102,52 +102,52 @@ held_cases q h e = go (is_key h) refl
         (cases_eq (kind_of q) (kind_of h))
 
 -- row k has another key now
-module _ (s t : OpArena) (rows : List Kept) (sound : IsSound s rows) (k : ℕ) (inside : k < length rows) (n : Kept) (c : Contents) (w : Swaps s t (held_at rows k) n.held c) where
-  stays : (q : ℕ) → (q ≡ k → ⊥) → found t (held_at rows q) ≡ found s (held_at rows q)
-  stays q ne = go (is_key (held_at rows q)) refl
+module _ (s t : OpArena) (slots : List Kept) (sound : IsSound s slots) (k : ℕ) (inside : k < length slots) (n : Kept) (c : Contents) (w : Swaps s t (held_at slots k) n.held c) where
+  stays : (q : ℕ) → (q ≡ k → ⊥) → found t (held_at slots q) ≡ found s (held_at slots q)
+  stays q ne = go (is_key (held_at slots q)) refl
     where
-      go : (b : Bool) → is_key (held_at rows q) ≡ b → found t (held_at rows q) ≡ found s (held_at rows q)
-      go true e = (w.others (held_at rows q) e (sound.stands q) (λ z. ne (sound.apart q k e z))).0
-      go false e = keyless s t (held_at rows q) e
+      go : (b : Bool) → is_key (held_at slots q) ≡ b → found t (held_at slots q) ≡ found s (held_at slots q)
+      go true e = (w.others (held_at slots q) e (sound.stands q) (λ z. ne (sound.apart q k e z))).0
+      go false e = keyless s t (held_at slots q) e
 
   -- no other row has the key
-  alone : (q : ℕ) → (q ≡ k → ⊥) → is_key n.held ≡ true → held_at rows q ≡ n.held → ⊥
+  alone : (q : ℕ) → (q ≡ k → ⊥) → is_key n.held ≡ true → held_at slots q ≡ n.held → ⊥
   alone q ne e z =
-      let key : is_key (held_at rows q) ≡ true = ap is_key z ∙ e in
-      (w.others (held_at rows q) key (sound.stands q) (λ y. ne (sound.apart q k key y))).1 z
+      let key : is_key (held_at slots q) ≡ true = ap is_key z ∙ e in
+      (w.others (held_at slots q) key (sound.stands q) (λ y. ne (sound.apart q k key y))).1 z
 
-  pub swap_sound : IsSound t (set rows k n)
+  pub swap_sound : IsSound t (set slots k n)
   swap_sound = record {
     stands = λ q. ⊎_elim
-        (λ z. ap (λ y. is_some (found t (held_at (set rows k n) y))) z ∙ ap (λ h. is_some (found t h)) (held_own rows k n inside) ∙ ap is_some w.own)
-        (λ z. ap (λ h. is_some (found t h)) (held_other rows k n q z) ∙ ap is_some (stays q z) ∙ sound.stands q)
+        (λ z. ap (λ y. is_some (found t (held_at (set slots k n) y))) z ∙ ap (λ h. is_some (found t h)) (held_own slots k n inside) ∙ ap is_some w.own)
+        (λ z. ap (λ h. is_some (found t h)) (held_other slots k n q z) ∙ ap is_some (stays q z) ∙ sound.stands q)
         (cases_eq q k);
     apart = λ j q e z. ⊎_elim
         (λ a. ⊎_elim
         (λ b. a ∙ sym b)
         (λ b.
-        let own : held_at (set rows k n) j ≡ n.held = ap (held_at (set rows k n)) a ∙ held_own rows k n inside in
-        absurd (alone q b (sym (ap is_key own) ∙ e) (sym (held_other rows k n q b) ∙ sym z ∙ own)))
+        let own : held_at (set slots k n) j ≡ n.held = ap (held_at (set slots k n)) a ∙ held_own slots k n inside in
+        absurd (alone q b (sym (ap is_key own) ∙ e) (sym (held_other slots k n q b) ∙ sym z ∙ own)))
         (cases_eq q k))
         (λ a. ⊎_elim
         (λ b.
-        let own : held_at (set rows k n) q ≡ n.held = ap (held_at (set rows k n)) b ∙ held_own rows k n inside in
-        absurd (alone j a (sym (ap is_key (z ∙ own)) ∙ e) (sym (held_other rows k n j a) ∙ z ∙ own)))
-        (λ b. sound.apart j q (sym (ap is_key (held_other rows k n j a)) ∙ e) (sym (held_other rows k n j a) ∙ z ∙ held_other rows k n q b))
+        let own : held_at (set slots k n) q ≡ n.held = ap (held_at (set slots k n)) b ∙ held_own slots k n inside in
+        absurd (alone j a (sym (ap is_key (z ∙ own)) ∙ e) (sym (held_other slots k n j a) ∙ z ∙ own)))
+        (λ b. sound.apart j q (sym (ap is_key (held_other slots k n j a)) ∙ e) (sym (held_other slots k n j a) ∙ z ∙ held_other slots k n q b))
         (cases_eq q k))
         (cases_eq j k);
     owned = λ q e f. ⊎_elim
-        (λ z. (k, held_own rows k n inside ∙ sym z))
+        (λ z. (k, held_own slots k n inside ∙ sym z))
         (λ z.
         let a = w.kept q e f z in
         let o = sound.owned q e a.1 in
-        (o.0, held_other rows k n o.0 (λ y. a.0 (sym o.1 ∙ ap (held_at rows) y)) ∙ o.1))
+        (o.0, held_other slots k n o.0 (λ y. a.0 (sym o.1 ∙ ap (held_at slots) y)) ∙ o.1))
         (held_cases q n.held e);
   }
 
-  pub swap_rows : rows_in t (set rows k n) ≡ set (rows_in s rows) k (row_with n c)
-  swap_rows = map_but (row_in s) (row_in t) n rows k n (row_with n c) (ap (λ o. row_with n (or_none o)) w.own)
-      (λ q l ne. ap (λ o. row_with (get_or rows q n) (or_none o)) (ap (found t) (sym (held_in rows q n l)) ∙ stays q ne ∙ ap (found s) (held_in rows q n l)))
+  pub swap_rows : rows_in t (set slots k n) ≡ set (rows_in s slots) k (row_with n c)
+  swap_rows = map_but (row_in s) (row_in t) n slots k n (row_with n c) (ap (λ o. row_with n (or_none o)) w.own)
+      (λ q l ne. ap (λ o. row_with (get_or slots q n) (or_none o)) (ap (found t) (sym (held_in slots q n l)) ∙ stays q ne ∙ ap (found s) (held_in slots q n l)))
 
 none_some : (o : Option Contents) → o ≡ None → is_some o ≡ true → ⊥
 none_some o e f = false≢true (sym (ap is_some e) ∙ f)
@@ -168,32 +168,32 @@ add_take s t u g h c there a k = record {
 -- the data of a row is unchanged
 pub swaps_none : (s : OpArena) (h : SlotKind) → is_some (found s h) ≡ true → Swaps s s h h (contents_at s h)
 swaps_none s h e = record {
-  own = told (found s h) e;
+  own = reported (found s h) e;
   others = λ q k f ne. (refl, ne);
   kept = λ q k f ne. (ne, f);
 }
   where
-    told : (o : Option Contents) → is_some o ≡ true → o ≡ Some (or_none o)
-    told None z = absurd (false≢true z)
-    told (Some c) z = refl
+    reported : (o : Option Contents) → is_some o ≡ true → o ≡ Some (or_none o)
+    reported None z = absurd (false≢true z)
+    reported (Some c) z = refl
 
 -- the data of a row is removed
 pub give_swaps : (s t : OpArena) (g : SlotKind) (n : ℕ) → Takes s t g → Swaps s t g (vacated_held n g) (keyless_contents g)
 give_swaps s t g n w = record {
-  own = told g;
+  own = reported g;
   others = λ q e f ne. (w.others q ne, λ z. false≢true (sym (keyless_held g) ∙ ap is_key (sym z) ∙ e));
   kept = λ q e f ne.
       let b : q ≡ g → ⊥ = λ z. none_some (found t q) (ap (found t) z ∙ w.vacant (sym (ap is_key z) ∙ e)) f in
       (b, ap is_some (sym (w.others q b)) ∙ f);
 }
   where
-    told : (h : SlotKind) → found t (vacated_held n h) ≡ Some (keyless_contents h)
-    told (Free m) = refl
-    told (Leading o r) = refl
-    told (InlineOp k) = refl
-    told (ListOp k) = refl
-    told (OpWithEntries k) = refl
-    told (FullOp k) = refl
+    reported : (h : SlotKind) → found t (vacated_held n h) ≡ Some (keyless_contents h)
+    reported (Free m) = refl
+    reported (Leading o r) = refl
+    reported (InlineOp k) = refl
+    reported (ListOp k) = refl
+    reported (OpWithEntries k) = refl
+    reported (FullOp k) = refl
 
     keyless_held : (h : SlotKind) → is_key (vacated_held n h) ≡ false
     keyless_held (Free m) = refl
@@ -203,8 +203,8 @@ give_swaps s t g n w = record {
     keyless_held (OpWithEntries k) = refl
     keyless_held (FullOp k) = refl
 
-pub give_told : (s : OpArena) (n : Kept) (m : ℕ) → row_with (record n { used = false; held = vacated_held m n.held }) (keyless_contents n.held) ≡ vacated (row_in s n)
-give_told s n m = go n.held
+pub give_reported : (s : OpArena) (n : Kept) (m : ℕ) → row_with (record n { used = false; held = vacated_held m n.held }) (keyless_contents n.held) ≡ vacated (row_in s n)
+give_reported s n m = go n.held
   where
     row : Contents → Row
     row c = record { used = false; live = n.live; head = record no_head { id = n.id; name = n.name }; gone = none_gone; shapes = []; owner = c.owner; region = c.region; uses = n.uses; values = n.values }
@@ -229,7 +229,7 @@ give_told s n m = go n.held
     go (Free k) = refl
     go (Leading o r) = refl
     go (InlineOp k) = short_none (get s.short k)
-    go (ListOp k) = plain_none (get s.plain k)
+    go (ListOp k) = plain_none (get s.simple k)
     go (OpWithEntries k) = entered_none (get s.entered k)
     go (FullOp k) = whole_none (get s.whole k)
 
@@ -242,38 +242,38 @@ spare_swaps s (ListOp k) n e = swaps_none s (ListOp k) e
 spare_swaps s (OpWithEntries k) n e = swaps_none s (OpWithEntries k) e
 spare_swaps s (FullOp k) n e = swaps_none s (FullOp k) e
 
-pub row_inside : (s : OpArena) (rows : List Kept) (old : List Row) (k : ℕ) → rows_in s rows ≡ old → k < length old → k < length rows
-row_inside s rows old k e l = omega (arith, l, ap length e, length-map rows (row_in s))
+pub row_inside : (s : OpArena) (slots : List Kept) (old : List Row) (k : ℕ) → rows_in s slots ≡ old → k < length old → k < length slots
+row_inside s slots old k e l = omega (arith, l, ap length e, length-map slots (row_in s))
 
 -- row k is written, in the form of a call's contract
-module _ (s t : OpArena) (rows : List Kept) (sound : IsSound s rows) (k : ℕ) (n m : Kept) (inside : k < length rows) (is : n ≡ get_or rows k n) (c : Contents) (w : Swaps s t n.held m.held c) where
-  swaps_at : Swaps s t (held_at rows k) m.held c
-  swaps_at = subst (λ h. Swaps s t h m.held c) (ap (λ z. z.held) is ∙ sym (held_in rows k n inside)) w
+module _ (s t : OpArena) (slots : List Kept) (sound : IsSound s slots) (k : ℕ) (n m : Kept) (inside : k < length slots) (is : n ≡ get_or slots k n) (c : Contents) (w : Swaps s t n.held m.held c) where
+  swaps_at : Swaps s t (held_at slots k) m.held c
+  swaps_at = subst (λ h. Swaps s t h m.held c) (ap (λ z. z.held) is ∙ sym (held_in slots k n inside)) w
 
-  pub written_sound : IsSound t (set rows k m)
-  written_sound = swap_sound s t rows sound k inside m c swaps_at
+  pub written_sound : IsSound t (set slots k m)
+  written_sound = swap_sound s t slots sound k inside m c swaps_at
 
-  pub written_rows : (old : List Row) → rows_in s rows ≡ old → (r : Row) → row_with m c ≡ r → rows_in t (set rows k m) ≡ set old k r
-  written_rows old e r g = swap_rows s t rows sound k inside m c swaps_at ∙ (λ i. set (e i) k (g i))
+  pub written_rows : (old : List Row) → rows_in s slots ≡ old → (r : Row) → row_with m c ≡ r → rows_in t (set slots k m) ≡ set old k r
+  written_rows old e r g = swap_rows s t slots sound k inside m c swaps_at ∙ (λ i. set (e i) k (g i))
 
 -- the row is unchanged, and the data under its key is changed
-module _ (s t : OpArena) (rows : List Kept) (sound : IsSound s rows) (k : ℕ) (n : Kept) (inside : k < length rows) (is : n ≡ get_or rows k n) (c : Contents) (w : Swaps s t n.held n.held c) where
-  same : set rows k n ≡ rows
-  same = ap (set rows k) is ∙ set-get_or rows k n
+module _ (s t : OpArena) (slots : List Kept) (sound : IsSound s slots) (k : ℕ) (n : Kept) (inside : k < length slots) (is : n ≡ get_or slots k n) (c : Contents) (w : Swaps s t n.held n.held c) where
+  same : set slots k n ≡ slots
+  same = ap (set slots k) is ∙ set-get_or slots k n
 
-  pub kept_sound : IsSound t rows
-  kept_sound = subst (IsSound t) same (written_sound s t rows sound k n n inside is c w)
+  pub kept_sound : IsSound t slots
+  kept_sound = subst (IsSound t) same (written_sound s t slots sound k n n inside is c w)
 
-  pub kept_rows : (old : List Row) → rows_in s rows ≡ old → (r : Row) → row_with n c ≡ r → rows_in t rows ≡ set old k r
-  kept_rows old e r g = sym (ap (rows_in t) same) ∙ written_rows s t rows sound k n n inside is c w old e r g
+  pub kept_rows : (old : List Row) → rows_in s slots ≡ old → (r : Row) → row_with n c ≡ r → rows_in t slots ≡ set old k r
+  kept_rows old e r g = sym (ap (rows_in t) same) ∙ written_rows s t slots sound k n n inside is c w old e r g
 
 -- there is data under the key of a row that is read
-pub row_stands : (s : OpArena) (rows : List Kept) → IsSound s rows → (k : ℕ) (n : Kept) → k < length rows → n ≡ get_or rows k n → is_some (found s n.held) ≡ true
-row_stands s rows sound k n l e = ap (λ z. is_some (found s z.held)) e ∙ sym (ap (λ h. is_some (found s h)) (held_in rows k n l)) ∙ sound.stands k
+pub row_stands : (s : OpArena) (slots : List Kept) → IsSound s slots → (k : ℕ) (n : Kept) → k < length slots → n ≡ get_or slots k n → is_some (found s n.held) ≡ true
+row_stands s slots sound k n l e = ap (λ z. is_some (found s z.held)) e ∙ sym (ap (λ h. is_some (found s h)) (held_in slots k n l)) ∙ sound.stands k
 
 -- the contents of a row before the call
-pub old_row : (s : OpArena) (rows : List Kept) (old : List Row) (k : ℕ) (n : Kept) → rows_in s rows ≡ old → k < length rows → n ≡ get_or rows k n → row_at old k ≡ row_in s n
-old_row s rows old k n e l is = sym (ap (λ z. row_at z k) e) ∙ read_row s rows k n l is
+pub old_row : (s : OpArena) (slots : List Kept) (old : List Row) (k : ℕ) (n : Kept) → rows_in s slots ≡ old → k < length slots → n ≡ get_or slots k n → row_at old k ≡ row_in s n
+old_row s slots old k n e l is = sym (ap (λ z. row_at z k) e) ∙ read_row s slots k n l is
 
 -- a slot whose operation has an operand exists
 pub operand_inside : (old : List Row) (k j : ℕ) → j < length (row_at old k).head.operands → k < length old
@@ -366,15 +366,15 @@ popped_is s t items xs r old e sound w view before last f =
     ∙ last_off (rows_in s xs) before (row_in s r) last (sym (map-append (row_in s) xs (r ∷ [])) ∙ sym (ap (rows_in s) e) ∙ view ∙ f)
 
 -- an entry of a dictionary is changed, in the row and in the data
-pub entry_told : (n : Kept) (before : ℕ → ℕ → Bool) (part : Part) (k : ℕ) (a : Option ℕ) (c : Contents)
+pub entry_reported : (n : Kept) (before : ℕ → ℕ → Bool) (part : Part) (k : ℕ) (a : Option ℕ) (c : Contents)
     → row_with n (with_dictionary part (with_change before k a (dictionary_in part c)) c) ≡ row_with_entry before part k a (row_with n c)
-entry_told n before Props k a c = refl
-entry_told n before Attrs k a c = refl
+entry_reported n before Props k a c = refl
+entry_reported n before Attrs k a c = refl
 
 -- one dictionary of a row
-pub slots_told : (n : Kept) (part : Part) (c : Contents) → slots_in part (row_with n c) ≡ dictionary_in part c
-slots_told n Props c = refl
-slots_told n Attrs c = refl
+pub slots_reported : (n : Kept) (part : Part) (c : Contents) → slots_in part (row_with n c) ≡ dictionary_in part c
+slots_reported n Props c = refl
+slots_reported n Attrs c = refl
 
 -- a conclusion that follows in both cases
 pub in_both : {A E : Type 0} (r : Result A E) (P Q X : Type 0) → MatchResult r (λ _. P) (λ _. Q) → (P → X) → (Q → X) → X
@@ -407,21 +407,21 @@ swap_swap s t u g h c d v w = record {
 }
 
 -- no slots, and empty slabs
-pub none_sound : (s : OpArena) → s.short.slots ≡ [] → s.plain.slots ≡ [] → s.entered.slots ≡ [] → s.whole.slots ≡ [] → IsSound s []
+pub none_sound : (s : OpArena) → s.short.slot_map ≡ [] → s.simple.slot_map ≡ [] → s.entered.slot_map ≡ [] → s.whole.slot_map ≡ [] → IsSound s []
 none_sound s a b c d = record {
   stands = λ k. refl;
   apart = λ j k e z. absurd (false≢true e);
   owned = λ h e f. absurd (none h e f);
 }
   where
-    empty : {X : Type 0} (tells : X → Contents) (t : Slab X) (k : ℕ) → t.slots ≡ [] → is_some (option_map tells (get t k)) ≡ true → ⊥
+    empty : {X : Type 0} (tells : X → Contents) (t : Slab X) (k : ℕ) → t.slot_map ≡ [] → is_some (option_map tells (get t k)) ≡ true → ⊥
     empty tells t k z f = false≢true (sym (ap (λ y. is_some (option_map tells (get_or y k None))) z) ∙ f)
 
     none : (h : SlotKind) → is_key h ≡ true → is_some (found s h) ≡ true → ⊥
     none (Free n) e f = false≢true e
     none (Leading o r) e f = false≢true e
     none (InlineOp k) e f = empty short_contents s.short k a f
-    none (ListOp k) e f = empty plain_contents s.plain k b f
+    none (ListOp k) e f = empty plain_contents s.simple k b f
     none (OpWithEntries k) e f = empty entered_contents s.entered k c f
     none (FullOp k) e f = empty whole_contents s.whole k d f
 

@@ -19,15 +19,15 @@ use Rattle.ir_store_arena.specs.Lending.{changed_from, changed_at, keyed_by, ful
 
 -- one key of a slab
 module _ {X : Type 0} (tells : X → Contents) (f : X → X) (g : Contents → Contents) (alike : (it : X) → tells (f it) ≡ g (tells it)) (s : Slab X) (k : ℕ) where
-  own_told : is_some (get s k) ≡ true → option_map tells (get (changed_at f s k) k) ≡ Some (g (or_none (option_map tells (get s k))))
-  own_told there = go (get s k) refl there
+  own_reported : is_some (get s k) ≡ true → option_map tells (get (changed_at f s k) k) ≡ Some (g (or_none (option_map tells (get s k))))
+  own_reported there = go (get s k) refl there
     where
       go : (o : Option X) → get s k ≡ o → is_some o ≡ true → option_map tells (get (changed_from f s k o) k) ≡ Some (g (or_none (option_map tells o)))
       go None e l = absurd (false≢true l)
       go (Some it) e l = ap (option_map tells) (Updates-with_value s k (f it) (ap is_some e)).changed ∙ ap Some (alike it)
 
-  other_told : (q : ℕ) → (q ≡ k → ⊥) → option_map tells (get (changed_at f s k) q) ≡ option_map tells (get s q)
-  other_told q ne = go (get s k) refl
+  other_reported : (q : ℕ) → (q ≡ k → ⊥) → option_map tells (get (changed_at f s k) q) ≡ option_map tells (get s q)
+  other_reported q ne = go (get s k) refl
     where
       go : (o : Option X) → get s k ≡ o → option_map tells (get (changed_from f s k o) q) ≡ option_map tells (get s q)
       go None e = refl
@@ -68,14 +68,14 @@ abbrev entries_or : Entries → Option Entries → Entries
 entries_or d None = d
 entries_or d (Some e) = e
 
-module _ {X : Type 0} (tells : X → Contents) (its : X → Entries) (told : (it : X) → its it ≡ both_of (tells it)) (e : Entries) where
+module _ {X : Type 0} (tells : X → Contents) (its : X → Entries) (reported : (it : X) → its it ≡ both_of (tells it)) (e : Entries) where
   entries_there : (o : Option X) → option_map its o ≡ Some e → is_some o ≡ true
   entries_there None is = absurd (false≢true (ap is_some is))
   entries_there (Some it) is = refl
 
-  entries_told : (o : Option X) → option_map its o ≡ Some e → e ≡ both_of (or_none (option_map tells o))
-  entries_told None is = absurd (false≢true (ap is_some is))
-  entries_told (Some it) is = sym (ap (entries_or e) is) ∙ told it
+  entries_reported : (o : Option X) → option_map its o ≡ Some e → e ≡ both_of (or_none (option_map tells o))
+  entries_reported None is = absurd (false≢true (ap is_some is))
+  entries_reported (Some it) is = sym (ap (entries_or e) is) ∙ reported it
 
 -- the dictionaries are those of the contents
 entries_are : (s : OpArena) (h : SlotKind) (e : Entries) → entries_found s h ≡ Some e → e ≡ both_of (contents_at s h)
@@ -83,8 +83,8 @@ entries_are s (Free n) e is = absurd (false≢true (ap is_some is))
 entries_are s (Leading owner number) e is = absurd (false≢true (ap is_some is))
 entries_are s (InlineOp k) e is = absurd (false≢true (ap is_some is))
 entries_are s (ListOp k) e is = absurd (false≢true (ap is_some is))
-entries_are s (OpWithEntries k) e is = entries_told entered_contents (λ (it : WithEntries). it.entries) (λ it. refl) e (get s.entered k) is
-entries_are s (FullOp k) e is = entries_told whole_contents (λ (it : FullData). it.entries) (λ it. refl) e (get s.whole k) is
+entries_are s (OpWithEntries k) e is = entries_reported entered_contents (λ (it : WithEntries). it.entries) (λ it. refl) e (get s.entered k) is
+entries_are s (FullOp k) e is = entries_reported whole_contents (λ (it : FullData). it.entries) (λ it. refl) e (get s.whole k) is
 
 -- the dictionaries were changed
 entries_put : (s : OpArena) (h : SlotKind) (e w : Entries) → entries_found s h ≡ Some e → Swaps s (enter_at s h w) h h (with_both w (contents_at s h))
@@ -94,12 +94,12 @@ entries_put s (InlineOp k) e w is = absurd (false≢true (ap is_some is))
 entries_put s (ListOp k) e w is = absurd (false≢true (ap is_some is))
 entries_put s (OpWithEntries k) e w is =
     swaps_own s (enter_at s (OpWithEntries k) w) (OpWithEntries k) (with_both w (contents_at s (OpWithEntries k)))
-    (own_told entered_contents (keyed_by w) (with_both w) (λ it. refl) s.entered k (entries_there entered_contents (λ (it : WithEntries). it.entries) (λ it. refl) e (get s.entered k) is))
-    (entered_apart s k (changed_at (keyed_by w) s.entered k) (other_told entered_contents (keyed_by w) (with_both w) (λ it. refl) s.entered k))
+    (own_reported entered_contents (keyed_by w) (with_both w) (λ it. refl) s.entered k (entries_there entered_contents (λ (it : WithEntries). it.entries) (λ it. refl) e (get s.entered k) is))
+    (entered_apart s k (changed_at (keyed_by w) s.entered k) (other_reported entered_contents (keyed_by w) (with_both w) (λ it. refl) s.entered k))
 entries_put s (FullOp k) e w is =
     swaps_own s (enter_at s (FullOp k) w) (FullOp k) (with_both w (contents_at s (FullOp k)))
-    (own_told whole_contents (full_by w) (with_both w) (λ it. refl) s.whole k (entries_there whole_contents (λ (it : FullData). it.entries) (λ it. refl) e (get s.whole k) is))
-    (whole_apart s k (changed_at (full_by w) s.whole k) (other_told whole_contents (full_by w) (with_both w) (λ it. refl) s.whole k))
+    (own_reported whole_contents (full_by w) (with_both w) (λ it. refl) s.whole k (entries_there whole_contents (λ (it : FullData). it.entries) (λ it. refl) e (get s.whole k) is))
+    (whole_apart s k (changed_at (full_by w) s.whole k) (other_reported whole_contents (full_by w) (with_both w) (λ it. refl) s.whole k))
 
 part_of_both : (part : Part) (c : Contents) → entries_at part (both_of c) ≡ dictionary_in part c
 part_of_both Props c = refl

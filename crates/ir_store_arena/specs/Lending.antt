@@ -24,16 +24,16 @@ module _ {X : Type 0} (f : X → X) where
 
 -- the data with these operands and results
 abbrev pub keyed_of : ListData → WithEntries → WithEntries
-keyed_of w it = record it { plain = w }
+keyed_of w it = record it { simple = w }
 
 abbrev pub full_of : ListData → FullData → FullData
-full_of w it = record it { plain = w }
+full_of w it = record it { simple = w }
 
 abbrev pub list_at : OpArena → SlotKind → ListData → OpArena
 list_at s (Free n) w = s
 list_at s (Leading owner number) w = s
 list_at s (InlineOp k) w = s
-list_at s (ListOp k) w = record s { plain = changed_at (λ it. w) s.plain k }
+list_at s (ListOp k) w = record s { simple = changed_at (λ it. w) s.simple k }
 list_at s (OpWithEntries k) w = record s { entered = changed_at (keyed_of w) s.entered k }
 list_at s (FullOp k) w = record s { whole = changed_at (full_of w) s.whole k }
 

@@ -23,16 +23,16 @@ plain_contents p = record no_contents {
 
 abbrev pub entered_contents : WithEntries → Contents
 entered_contents it = record no_contents {
-  operands = it.plain.operands.items;
-  results = it.plain.results.items;
+  operands = it.simple.operands.items;
+  results = it.simple.results.items;
   properties = it.entries.props;
   attributes = it.entries.attrs;
 }
 
 abbrev pub whole_contents : FullData → Contents
 whole_contents it = record no_contents {
-  operands = it.plain.operands.items;
-  results = it.plain.results.items;
+  operands = it.simple.operands.items;
+  results = it.simple.results.items;
   properties = it.entries.props;
   attributes = it.entries.attrs;
   shapes = map shape_of it.areas.items;

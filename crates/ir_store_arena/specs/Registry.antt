@@ -16,7 +16,7 @@ abbrev pub found : OpArena → SlotKind → Option Contents
 found s (Free n) = Some no_contents
 found s (Leading owner number) = Some (head_contents owner number)
 found s (InlineOp k) = option_map short_contents (get s.short k)
-found s (ListOp k) = option_map plain_contents (get s.plain k)
+found s (ListOp k) = option_map plain_contents (get s.simple k)
 found s (OpWithEntries k) = option_map entered_contents (get s.entered k)
 found s (FullOp k) = option_map whole_contents (get s.whole k)
 
@@ -32,9 +32,9 @@ abbrev pub plain_found : OpArena → SlotKind → Option ListData
 plain_found s (Free n) = None
 plain_found s (Leading owner number) = None
 plain_found s (InlineOp k) = None
-plain_found s (ListOp k) = get s.plain k
-plain_found s (OpWithEntries k) = option_map (λ (it : WithEntries). it.plain) (get s.entered k)
-plain_found s (FullOp k) = option_map (λ (it : FullData). it.plain) (get s.whole k)
+plain_found s (ListOp k) = get s.simple k
+plain_found s (OpWithEntries k) = option_map (λ (it : WithEntries). it.simple) (get s.entered k)
+plain_found s (FullOp k) = option_map (λ (it : FullData). it.simple) (get s.whole k)
 
 -- the dictionaries of a slot's operation, if its kind has them
 abbrev pub entries_found : OpArena → SlotKind → Option Entries

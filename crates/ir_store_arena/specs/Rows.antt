@@ -72,17 +72,17 @@ abbrev pub rows_in : OpArena → List Kept → List Row
 rows_in s = map (row_in s)
 
 abbrev pub row_at : List Row → ℕ → Row
-row_at rows k = get_or rows k no_row
+row_at slots k = get_or slots k no_row
 
 -- the kind of slot k, with its key
 abbrev pub held_at : List Kept → ℕ → SlotKind
-held_at rows k = get_or (map (λ n. n.held) rows) k (Free 0)
+held_at slots k = get_or (map (λ n. n.held) slots) k (Free 0)
 
 -- there is data under the key of each row, keys of different rows differ, and there is no other data
-pub record IsSound (s : OpArena) (rows : List Kept) : Type 0 where
-  pub stands : (k : ℕ) → is_some (found s (held_at rows k)) ≡ true
-  pub apart : (j k : ℕ) → is_key (held_at rows j) ≡ true → held_at rows j ≡ held_at rows k → j ≡ k
-  pub owned : (h : SlotKind) → is_key h ≡ true → is_some (found s h) ≡ true → (k : ℕ) × (held_at rows k ≡ h)
+pub record IsSound (s : OpArena) (slots : List Kept) : Type 0 where
+  pub stands : (k : ℕ) → is_some (found s (held_at slots k)) ≡ true
+  pub apart : (j k : ℕ) → is_key (held_at slots j) ≡ true → held_at slots j ≡ held_at slots k → j ≡ k
+  pub owned : (h : SlotKind) → is_key h ≡ true → is_some (found s h) ≡ true → (k : ℕ) × (held_at slots k ≡ h)
 
 -- the row of a slot without an operation: the head of a block has an owner and a region
 abbrev pub row_spare : ℕ → ℕ → ℕ → Row

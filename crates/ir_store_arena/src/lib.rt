@@ -16,12 +16,12 @@ mod draft;
 mod lookup;
 mod op_arena;
 mod op_data;
-mod rows;
 mod slot_kind;
+mod slots;
 
 pub use area::RegionData;
 pub use dictionary::Dictionary;
 pub use draft::Draft;
 pub use ir_tree_laws::{trees, types};
 pub use op_data::{Entries, FEW, FullData, InlineData, ListData, OpData, WithEntries};
-pub use rows::Slots;
+pub use slots::Slots;

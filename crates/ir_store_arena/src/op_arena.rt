@@ -27,7 +27,7 @@ pub struct OpArena {
     /// Operations with few operands and results, and without entries and regions.
     pub(crate) short: Slab<InlineData>,
     /// Operations without entries and regions.
-    pub(crate) plain: Slab<ListData>,
+    pub(crate) simple: Slab<ListData>,
     /// Operations without regions.
     pub(crate) entered: Slab<WithEntries>,
     /// Operations of any kind.
@@ -47,17 +47,17 @@ impl OpArena {
                 None => (&[], &[]),
                 Some(it) => (it.operands.as_slice(), it.results.as_slice()),
             },
-            SlotKind::ListOp(key) => match self.plain.get(*key as usize) {
+            SlotKind::ListOp(key) => match self.simple.get(*key as usize) {
                 None => (&[], &[]),
                 Some(it) => (it.operands.as_slice(), it.results.as_slice()),
             },
             SlotKind::OpWithEntries(key) => match self.entered.get(*key as usize) {
                 None => (&[], &[]),
-                Some(it) => (it.plain.operands.as_slice(), it.plain.results.as_slice()),
+                Some(it) => (it.simple.operands.as_slice(), it.simple.results.as_slice()),
             },
             SlotKind::FullOp(key) => match self.whole.get(*key as usize) {
                 None => (&[], &[]),
-                Some(it) => (it.plain.operands.as_slice(), it.plain.results.as_slice()),
+                Some(it) => (it.simple.operands.as_slice(), it.simple.results.as_slice()),
             },
         }
     }
@@ -135,17 +135,17 @@ impl OpArena {
         ensures value { option_copied_mut result ≡ plain_found self.old held.now }
     {
         match held {
-            SlotKind::ListOp(key) => match self.plain.get_mut(*key as usize) {
+            SlotKind::ListOp(key) => match self.simple.get_mut(*key as usize) {
                 None => None,
                 Some(it) => Some(it),
             },
             SlotKind::OpWithEntries(key) => match self.entered.get_mut(*key as usize) {
                 None => None,
-                Some(it) => Some(&mut it.plain),
+                Some(it) => Some(&mut it.simple),
             },
             SlotKind::FullOp(key) => match self.whole.get_mut(*key as usize) {
                 None => None,
-                Some(it) => Some(&mut it.plain),
+                Some(it) => Some(&mut it.simple),
             },
             _ => None,
         }
@@ -242,7 +242,7 @@ impl OpArena {
     {
         let at = match held {
             SlotKind::InlineOp(key) => lengthened(alloc, &mut self.short, &mut self.entered, *key)?,
-            SlotKind::ListOp(key) => widened(alloc, &mut self.plain, &mut self.entered, *key)?,
+            SlotKind::ListOp(key) => widened(alloc, &mut self.simple, &mut self.entered, *key)?,
             _ => return Ok(()),
         };
         *held = SlotKind::OpWithEntries(at);
@@ -289,7 +289,7 @@ impl OpArena {
                 Ok(key) => Ok(SlotKind::InlineOp(key)),
                 Err(e) => Err(e),
             },
-            OpData::Lists(it) => match add(&mut self.plain, it) {
+            OpData::Lists(it) => match add(&mut self.simple, it) {
                 Ok(key) => Ok(SlotKind::ListOp(key)),
                 Err(e) => Err(e),
             },
@@ -314,7 +314,7 @@ impl OpArena {
                 self.short.try_remove(*key as usize);
             }
             SlotKind::ListOp(key) => {
-                self.plain.try_remove(*key as usize);
+                self.simple.try_remove(*key as usize);
             }
             SlotKind::OpWithEntries(key) => {
                 self.entered.try_remove(*key as usize);
@@ -371,20 +371,23 @@ fn add<T: Drop>(slab: &mut Slab<T>, value: T) -> Result<u32, AllocError>
 /// changes.
 fn widened(
     alloc: Global,
-    plain: &mut Slab<ListData>,
+    simple: &mut Slab<ListData>,
     entered: &mut Slab<WithEntries>,
     key: u32,
 ) -> Result<u32, AllocError>
-    requires { is_some (get plain.old key) ≡ true }
-    ensures { MatchResult result (λ at. Moves plain_contents plain.old plain.new entered.old entered.new key at) (λ _. AllSame plain.old plain.new × AllSame entered.old entered.new) }
+    requires { is_some (get simple.old key) ≡ true }
+    ensures { MatchResult result (λ at. Moves plain_contents simple.old simple.new entered.old entered.new key at) (λ _. AllSame simple.old simple.new × AllSame entered.old entered.new) }
 {
     let at = match vacant_key(entered) {
         Ok(at) => at,
         Err(e) => return Err(e),
     };
-    let it = plain.remove(key as usize);
+    let it = simple.remove(key as usize);
     let entries = Entries::empty(alloc);
-    entered.insert_reserved(WithEntries { plain: it, entries });
+    entered.insert_reserved(WithEntries {
+        simple: it,
+        entries,
+    });
     Ok(at)
 }
 
@@ -403,12 +406,12 @@ fn lengthened(
         Ok(at) => at,
         Err(e) => return Err(e),
     };
-    let plain = match short[key as usize].to_lists(alloc) {
-        Ok(plain) => plain,
+    let simple = match short[key as usize].to_lists(alloc) {
+        Ok(simple) => simple,
         Err(e) => return Err(e),
     };
     short.remove(key as usize);
     let entries = Entries::empty(alloc);
-    entered.insert_reserved(WithEntries { plain, entries });
+    entered.insert_reserved(WithEntries { simple, entries });
     Ok(at)
 }

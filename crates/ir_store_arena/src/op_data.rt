@@ -49,14 +49,14 @@ pub struct Entries {
 /// An operation with dictionaries.
 #[derive(Drop)]
 pub struct WithEntries {
-    pub plain: ListData,
+    pub simple: ListData,
     pub entries: Entries,
 }
 
 /// An operation with dictionaries and regions.
 #[derive(Drop)]
 pub struct FullData {
-    pub plain: ListData,
+    pub simple: ListData,
     pub entries: Entries,
     pub areas: Vec<RegionData>,
 }
@@ -244,7 +244,7 @@ fn made_entered(alloc: Global, header: &TreeOp) -> Result<OpData, AllocError>
     ensures { IfOk result (λ m. made_contents m ≡ contents_with (head header.now) []) }
 {
     Ok(OpData::WithEntries(WithEntries {
-        plain: ListData::new(alloc, header)?,
+        simple: ListData::new(alloc, header)?,
         entries: Entries::new(alloc, header)?,
     }))
 }
@@ -254,7 +254,7 @@ fn made_whole(alloc: Global, header: &TreeOp, areas: Vec<RegionData>) -> Result<
     ensures { IfOk result (λ m. made_contents m ≡ contents_with (head header.now) (map shape_of areas.items)) }
 {
     Ok(OpData::Full(FullData {
-        plain: ListData::new(alloc, header)?,
+        simple: ListData::new(alloc, header)?,
         entries: Entries::new(alloc, header)?,
         areas,
     }))

@@ -143,11 +143,11 @@ fn edited(
     line: &str,
 ) -> Result<String, Refusal> {
     let tree = store.tree()?;
-    let told = edit(alloc, ctx, store, taken, &tree, line)?;
+    let reported = edit(alloc, ctx, store, taken, &tree, line)?;
     let after = store.tree()?;
     let words = written::tree(alloc, &after)?;
-    let want = written::tree(alloc, &told.tree)?;
-    let mut out = told.answer;
+    let want = written::tree(alloc, &reported.tree)?;
+    let mut out = reported.answer;
     if words.as_str() != want.as_str() {
         out.push_str(" differs")?;
     }
@@ -163,8 +163,8 @@ fn edited_briefly(
     taken: &mut Vec<TreeOp>,
     line: &str,
 ) -> Result<String, Refusal> {
-    let told = edit(alloc, ctx, store, taken, &bare(alloc, 0), line)?;
-    Ok(told.answer)
+    let reported = edit(alloc, ctx, store, taken, &bare(alloc, 0), line)?;
+    Ok(reported.answer)
 }
 
 /// Makes an edit of the module, if there is one.

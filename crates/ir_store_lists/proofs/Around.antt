@@ -27,9 +27,9 @@ module _ (nx pv hm : ℕ → ℕ) (n h : ℕ) (inside : (x : ℕ) → hm x ≡ h
   at_start a [] b l r = (ap pv r.0 ∙ r.1, subst (λ z. z < n) (sym r.0) l)
   at_start a (x ∷ xs) b l r = (ap pv r.0.0 ∙ r.0.1, subst (λ z. z < n) (sym r.0.0) (inside x r.1.0.0))
 
-  pub between : (i a : ℕ) (xs : List ℕ) (b : ℕ) → a < n → b < n → has i xs ≡ true → Ring nx pv hm h a xs b → Between nx pv n i
-  between i a [] b la lb t r = absurd (false≢true t)
-  between i a (x ∷ xs) b la lb t r = ⊎_elim
+  pub intermediate : (i a : ℕ) (xs : List ℕ) (b : ℕ) → a < n → b < n → has i xs ≡ true → Ring nx pv hm h a xs b → Between nx pv n i
+  intermediate i a [] b la lb t r = absurd (false≢true t)
+  intermediate i a (x ∷ xs) b la lb t r = ⊎_elim
       (λ e.
       let same : x ≡ i = eqb-true x i e in
       let trailing = at_start x xs b lb r.1.1 in
@@ -40,7 +40,7 @@ module _ (nx pv hm : ℕ → ℕ) (n h : ℕ) (inside : (x : ℕ) → hm x ≡ h
         next_inside = trailing.1;
       } in
       subst (Between nx pv n) same here)
-      (λ e. between i x xs b (inside x r.1.0.0) lb e r.1.1)
+      (λ e. intermediate i x xs b (inside x r.1.0.0) lb e r.1.1)
       (or_cases (eqb x i) (has i xs) t)
 
 -- the neighbours of an item
@@ -48,7 +48,7 @@ pub item_between : (next prev home : List ℕ) (ls : List (List ℕ)) (i : ℕ) 
 item_between next prev home ls i s item =
     let h = home_at home i in
     let head = s.heads i item in
-    between (at next) (at prev) (home_at home) (length home) h
+    intermediate (at next) (at prev) (home_at home) (length home) h
     (λ x e. home_inside home x (λ f. let g : h ≡ free = sym e ∙ f in item.linked g))
     i h (list_at ls h) h head.inside head.inside (s.covers h i head refl (λ e. item.other (sym e))) (s.rings h head)
 

@@ -7,8 +7,8 @@ use Rattle.ir_store_lists.specs.declared.pages.IdPage.{IdPage}
 use Rattle.ir_store_lists.specs.Pages.{no_page, trailing, slot_at, StoresFirstOnly, Counted, Forgotten, Learnt}
 
 -- the slot of an id by its page
-pub told : (page : IdPage) (x n : ℕ) → slot_at page x ≡ Some n → (x % 64 < page.count) × (x + trailing page (x % 64) ≡ n)
-told page x n h = ⊎_elim
+pub reported : (page : IdPage) (x n : ℕ) → slot_at page x ≡ Some n → (x % 64 < page.count) × (x + trailing page (x % 64) ≡ n)
+reported page x n h = ⊎_elim
     (λ l.
     let is : ◌≡◌ {A = Option ℕ} (Some (x + trailing page (x % 64))) (Some n) = sym (cond-true _ (Some (x + trailing page (x % 64))) None (lt-ltb (x % 64) page.count l)) ∙ h in
     (l, cc))
@@ -28,7 +28,7 @@ module _ (at place shift : ℕ) (few : place < 64) where
   -- the slot by one page for an id of the page
   of_page : (before after : IdPage) → Counted place shift before after → (x n : ℕ) → x / 64 ≡ at → slot_at after x ≡ Some n → (slot_at before x ≡ Some n) ⊎ ((x ≡ at * 64 + place) × (at * 64 + place + shift ≡ n))
   of_page before after h x n here it =
-      let w = told after x n it in
+      let w = reported after x n it in
       ⊎_elim
       (λ a. inl (tells before x a.0 ∙ ap Some (ap (λ z. x + z) (sym a.1) ∙ w.1)))
       (λ b. let is : x ≡ at * 64 + place = omega (arith, here, b.0, few) in
@@ -55,13 +55,13 @@ appended pages page at shift e h x n it = ⊎_elim
     (λ g. ⊎_elim
     (λ same.
     let there : get_or (pages ++ page ∷ []) (x / 64) no_page ≡ page = ap (λ z. get_or (pages ++ page ∷ []) z no_page) same ∙ get_or-append_seam pages page [] no_page in
-    let w = told page x n (ap (λ z. slot_at z x) (sym there) ∙ it) in
+    let w = reported page x n (ap (λ z. slot_at z x) (sym there) ∙ it) in
     let b = h (x % 64) w.0 in
     let is : x ≡ at * 64 = omega (arith, same, e, b.0) in
     inr (is, omega (arith, is, b.1, w.1)))
     (λ ne.
     let beyond : length (pages ++ page ∷ []) ≤ x / 64 = ⊎_elim (λ m. absurd (ne (omega (arith, g, m)))) (λ m. omega (arith, m, length-append pages (page ∷ []))) (cases_lt (x / 64) (length pages + 1)) in
-    let w = told no_page x n (ap (λ z. slot_at z x) (sym (get_or_past (pages ++ page ∷ []) (x / 64) no_page beyond)) ∙ it) in
+    let w = reported no_page x n (ap (λ z. slot_at z x) (sym (get_or_past (pages ++ page ∷ []) (x / 64) no_page beyond)) ∙ it) in
     absurd (omega (arith, w.0)))
     (cases_eq (x / 64) (length pages)))
     (cases_lt (x / 64) (length pages))
@@ -71,7 +71,7 @@ pub fewer : (pages : List IdPage) (at place : ℕ) (page : IdPage) → place < 6
 fewer pages at place page few l most less' same x n it = ⊎_elim
     (λ e.
     let after : get_or (set pages at page) (x / 64) no_page ≡ page = ap (λ z. get_or (set pages at page) z no_page) e ∙ get_or-set_same pages at page no_page l in
-    let w = told page x n (ap (λ z. slot_at z x) (sym after) ∙ it) in
+    let w = reported page x n (ap (λ z. slot_at z x) (sym after) ∙ it) in
     let was = get_or pages at no_page in (
       ap (λ z. slot_at (get_or pages z no_page) x) e ∙ tells was x (omega (arith, w.0, less')) ∙ ap Some (ap (λ z. x + z) (sym (same (x % 64))) ∙ w.1),
       λ is. omega (arith, is, w.0, most, few, e),
@@ -85,6 +85,6 @@ untold pages at place few none x n it = (
   it,
   λ is.
       let here : x / 64 ≡ at = omega (arith, is, few) in
-      let w = told (get_or pages at no_page) x n (ap (λ z. slot_at (get_or pages z no_page) x) (sym here) ∙ it) in
+      let w = reported (get_or pages at no_page) x n (ap (λ z. slot_at (get_or pages z no_page) x) (sym here) ∙ it) in
       omega (arith, w.0, none, is, few, here),
 )

@@ -183,7 +183,7 @@ module _ (c : Lists) (labels : List ℕ) (t count : ℕ) (node : Option ℕ) (la
   under_by a gap q = (le-div_iff_mul-le {k = count + 2} {x = gap} {y = a} (omega arith)).0 q
 
   pub headroom_found : (low x gap : ℕ) → node ≡ Some x → low < label_at labels x → label_at labels x < 18446744073709551616 → gap ≤ (label_at labels x - low) / (count + 2) → count < gap → IsHeadroom labels low count gap whole
-  headroom_found low x gap e up fit q more =
+  headroom_found low x gap e up fits_in q more =
       let n = at_next c (home_at c.homes t) x w.rest node e laws w.at in
       let s : w.passed ++ x ∷ n.tail ≡ whole = ap (λ z. w.passed ++ z) (sym n.own) ∙ w.split in
       let under = headroom_under low gap (label_at labels x) (under_by (label_at labels x - low) gap q) (omega arith) (omega arith) in
@@ -195,7 +195,7 @@ module _ (c : Lists) (labels : List ℕ) (t count : ℕ) (node : Option ℕ) (la
       }
 
   pub headroom_last : (low gap : ℕ) → node ≡ None → low < 18446744073709551616 → gap ≤ (18446744073709551615 - low) / (count + 2) → count < gap → IsHeadroom labels low count gap whole
-  headroom_last low gap e fit q more =
+  headroom_last low gap e fits_in q more =
       let nil = at_end c (home_at c.homes t) w.rest node e w.at in
       let s : w.passed ++ [] ≡ whole = ap (λ z. w.passed ++ z) (sym nil) ∙ w.split in
       let under = headroom_under low gap 18446744073709551615 (under_by (18446744073709551615 - low) gap q) (omega arith) (omega arith) in

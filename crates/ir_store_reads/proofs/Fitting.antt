@@ -54,7 +54,7 @@ block_fit q k i h n args e b = record {
 }
 
 -- an operation can be written into a slot that fits
-pub fit_grown : (q : Parts) (k x : ℕ) (o : Op) (gs : List Region) (xs : List RegionShape) (w r : Row) → k < length q.rows → row_at q.rows k ≡ w → op (head o) (regions_of gs) ≡ o → RowFits q.sibs.homes q.homes q.cells k w (head o)
+pub fit_grown : (q : Parts) (k x : ℕ) (o : Op) (gs : List Region) (xs : List RegionShape) (w r : Row) → k < length q.slots → row_at q.slots k ≡ w → op (head o) (regions_of gs) ≡ o → RowFits q.sibs.homes q.homes q.cells k w (head o)
     → AreEmptied xs gs → AreBlocks q 0 k xs → r ≡ row_held x (head o) xs w.uses w.values → Grown 0 q x o k r
 fit_grown q k x o gs xs w r inside ew eo f emptied_xs blocks er = subst (Grown 0 q x o k) (sym er) (record {
   ready = λ keys none. record {
@@ -74,6 +74,6 @@ fit_grown q k x o gs xs w r inside ew eo f emptied_xs blocks er = subst (Grown 0
 })
 
 -- a property of an optional value is a property of the value that it has
-pub some_told : {X : Type 0} (P : X → Type 0) (o : Option X) (x : X) → o ≡ Some x → IfSome o P → P x
-some_told P None x e p = absurd cc
-some_told P (Some y) x e p = let z : y ≡ x = cc in subst P z p
+pub some_reported : {X : Type 0} (P : X → Type 0) (o : Option X) (x : X) → o ≡ Some x → IfSome o P → P x
+some_reported P None x e p = absurd cc
+some_reported P (Some y) x e p = let z : y ≡ x = cc in subst P z p

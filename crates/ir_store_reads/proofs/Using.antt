@@ -21,18 +21,18 @@ from_short (Some k) (q ∷ ks) = go (eqb q k) (from_short (Some k) ks)
     go false l = omega (arith, l)
 
 -- the invariant of a walk that counts the remaining uses
-pub record Counts (rows : List Row) (cells : List (ℕ × ℕ)) (chains : Lists) (total count : ℕ) (at : Option ℕ) : Type 0 where
-  pub sum : count + length (uses_left rows cells chains at) ≡ total
+pub record Counts (slots : List Row) (cells : List (ℕ × ℕ)) (chains : Lists) (total count : ℕ) (at : Option ℕ) : Type 0 where
+  pub sum : count + length (uses_left slots cells chains at) ≡ total
   pub node : IsNode chains.homes at
 
-module _ (rows : List Row) (cells : List (ℕ × ℕ)) (chains : Lists) (laws : Laws chains.lists chains.homes) where
+module _ (slots : List Row) (cells : List (ℕ × ℕ)) (chains : Lists) (laws : Laws chains.lists chains.homes) where
   -- a node of the list of a head, if there is one
   abbrev InList : ℕ → Option ℕ → Type 0
   InList h at = (k : ℕ) → at ≡ Some k → has k (list_at chains.lists h) ≡ true
 
-  left_in : (h : ℕ) (at : Option ℕ) → InList h at → uses_left rows cells chains at ≡ map (use_in rows cells) (from_slot at (list_at chains.lists h))
+  left_in : (h : ℕ) (at : Option ℕ) → InList h at → uses_left slots cells chains at ≡ map (use_in slots cells) (from_slot at (list_at chains.lists h))
   left_in h None f = refl
-  left_in h (Some n) f = ap (λ z. map (use_in rows cells) (from_slot (Some n) (list_at chains.lists z))) (laws.members h n (f n refl)).0
+  left_in h (Some n) f = ap (λ z. map (use_in slots cells) (from_slot (Some n) (list_at chains.lists z))) (laws.members h n (f n refl)).0
 
   node_in : (h : ℕ) → IsHead chains.homes h → (at : Option ℕ) → InList h at → IsNode chains.homes at
   node_in h p None f = tt
@@ -43,8 +43,8 @@ module _ (rows : List Row) (cells : List (ℕ × ℕ)) (chains : Lists) (laws : 
     there_first : InList h at
     there_first = (walk_start chains.lists (λ _. true) h at e).there
 
-    pub first_left : uses_left rows cells chains at ≡ uses_at rows cells chains.lists (Some h)
-    first_left = left_in h at there_first ∙ ap (λ z. map (use_in rows cells) (from_slot z (list_at chains.lists h))) e ∙ ap (map (use_in rows cells)) (from_first (list_at chains.lists h))
+    pub first_left : uses_left slots cells chains at ≡ uses_at slots cells chains.lists (Some h)
+    first_left = left_in h at there_first ∙ ap (λ z. map (use_in slots cells) (from_slot z (list_at chains.lists h))) e ∙ ap (map (use_in slots cells)) (from_first (list_at chains.lists h))
 
     pub first_node : IsNode chains.homes at
     first_node = node_in h p at there_first
@@ -54,37 +54,37 @@ module _ (rows : List Row) (cells : List (ℕ × ℕ)) (chains : Lists) (laws : 
     there_next : InList (home_at chains.homes n) at
     there_next k f = after_in n k (list_at chains.lists (home_at chains.homes n)) (sym e ∙ f)
 
-    pub next_left : uses_left rows cells chains (Some n) ≡ use_in rows cells n ∷ uses_left rows cells chains at
+    pub next_left : uses_left slots cells chains (Some n) ≡ use_in slots cells n ∷ uses_left slots cells chains at
     next_left =
         let h = home_at chains.homes n in
         let ks = list_at chains.lists h in
         let g = goes n ks (laws.once h) (laws.covers n i) in
-        ap (map (use_in rows cells)) g.is
-        ∙ ap (λ z. use_in rows cells n ∷ z) (sym (left_in h at there_next ∙ ap (λ z. map (use_in rows cells) (from_slot z ks)) e ∙ ap (map (use_in rows cells)) g.later))
+        ap (map (use_in slots cells)) g.is
+        ∙ ap (λ z. use_in slots cells n ∷ z) (sym (left_in h at there_next ∙ ap (λ z. map (use_in slots cells) (from_slot z ks)) e ∙ ap (map (use_in slots cells)) g.later))
 
     pub next_node : IsNode chains.homes at
     next_node = node_in (home_at chains.homes n) (laws.heads n i) at there_next
 
   -- fewer uses remain than there are node numbers
-  pub few_left : (at : Option ℕ) → length (uses_left rows cells chains at) < free
+  pub few_left : (at : Option ℕ) → length (uses_left slots cells chains at) < free
   few_left None = omega arith
   few_left (Some n) =
       let ks = list_at chains.lists (home_at chains.homes n) in
-      let a : length (uses_left rows cells chains (Some n)) ≡ length (from_slot (Some n) ks) = length-map (from_slot (Some n) ks) (use_in rows cells) in
+      let a : length (uses_left slots cells chains (Some n)) ≡ length (from_slot (Some n) ks) = length-map (from_slot (Some n) ks) (use_in slots cells) in
       omega (arith, a, from_short (Some n) ks, list_short chains (home_at chains.homes n) laws, laws.few)
 
-  module _ (total count n : ℕ) (before : Option ℕ) (is : before ≡ Some n) (w : Counts rows cells chains total count before) where
+  module _ (total count n : ℕ) (before : Option ℕ) (is : before ≡ Some n) (w : Counts slots cells chains total count before) where
     pub counts_node : IsItem chains.homes n
     counts_node = subst (IsNode chains.homes) is w.node
 
     module _ (at : Option ℕ) (e : at ≡ after n (list_at chains.lists (home_at chains.homes n))) where
-      one_less : length (uses_left rows cells chains before) ≡ length (uses_left rows cells chains at) + 1
-      one_less = ap (λ z. length (uses_left rows cells chains z)) is ∙ ap length (next_left n counts_node at e) ∙ omega arith
+      one_less : length (uses_left slots cells chains before) ≡ length (uses_left slots cells chains at) + 1
+      one_less = ap (λ z. length (uses_left slots cells chains z)) is ∙ ap length (next_left n counts_node at e) ∙ omega arith
 
-      pub counts_on : Counts rows cells chains total (count + 1) at
+      pub counts_on : Counts slots cells chains total (count + 1) at
       counts_on = record { sum = omega (arith, one_less, w.sum); node = next_node n counts_node at e }
 
-      pub counts_less : length (uses_left rows cells chains at) < length (uses_left rows cells chains before)
+      pub counts_less : length (uses_left slots cells chains at) < length (uses_left slots cells chains before)
       counts_less = omega (arith, one_less)
 
     pub counts_short : count + 1 ≤ total

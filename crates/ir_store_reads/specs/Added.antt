@@ -5,15 +5,15 @@ use Rattle.ir_store_slots.specs.trees.Ids.{ids, regions_ids, ops_ids}
 use Rattle.ir_store_slots.specs.Rows.{Row, RegionShape}
 use Rattle.ir_store_slots.specs.Spells.{SpellsOp, SpellsRegions, SpellsOps}
 
-module _ (rows : List Row) (lists : List (List ℕ)) where
+module _ (slots : List Row) (lists : List (List ℕ)) where
   -- the ids of an operation and of those inside it, in pre-order
   abbrev pub AddsOp : ℕ → List ℕ → List ℕ → Type 0
-  AddsOp k before after = (t : Op) → SpellsOp rows lists k t → after ≡ before ++ ids t
+  AddsOp k before after = (t : Op) → SpellsOp slots lists k t → after ≡ before ++ ids t
 
   -- the ids in regions
   abbrev pub AddsRegions : List RegionShape → List ℕ → List ℕ → Type 0
-  AddsRegions xs before after = (rs : Regions) → SpellsRegions rows lists xs rs → after ≡ before ++ regions_ids rs
+  AddsRegions xs before after = (rs : Regions) → SpellsRegions slots lists xs rs → after ≡ before ++ regions_ids rs
 
   -- the ids in a list
   abbrev pub AddsOps : List ℕ → List ℕ → List ℕ → Type 0
-  AddsOps ks before after = (os : Ops) → SpellsOps rows lists ks os → after ≡ before ++ ops_ids os
+  AddsOps ks before after = (os : Ops) → SpellsOps slots lists ks os → after ≡ before ++ ops_ids os

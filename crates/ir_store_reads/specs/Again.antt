@@ -17,10 +17,10 @@ NodesOf homes cells k b n = (i : ℕ) → i < n → IsFree homes (b + i) × (cel
 -- slot h is the head of an empty block with n arguments, of region i of slot k
 pub record BlockFits (q : Parts) (k i h n : ℕ) : Type 0 where
   pub head : IsHead q.sibs.homes h
-  pub owner : (row_at q.rows h).owner ≡ k
-  pub region : (row_at q.rows h).region ≡ i
+  pub owner : (row_at q.slots h).owner ≡ k
+  pub region : (row_at q.slots h).region ≡ i
   pub bare : list_at q.sibs.lists h ≡ []
-  pub arguments : HeadsOf q.homes q.cells h (row_at q.rows h).values n
+  pub arguments : HeadsOf q.homes q.cells h (row_at q.slots h).values n
 
 -- row r of slot k is free, and has the nodes that an operation with header h needs
 pub record RowFits (sibs homes : List ℕ) (cells : List (ℕ × ℕ)) (k : ℕ) (r : Row) (h : Head) : Type 0 where

@@ -7,8 +7,8 @@ use Rattle.ir_store_slots.specs.Walks.{from_slot}
 
 -- the uses of the nodes of a list, from one node on
 abbrev pub uses_left : List Row → List (ℕ × ℕ) → Lists → Option ℕ → List (ℕ × ℕ)
-uses_left rows cells chains None = []
-uses_left rows cells chains (Some n) = map (use_in rows cells) (from_slot (Some n) (list_at chains.lists (home_at chains.homes n)))
+uses_left slots cells chains None = []
+uses_left slots cells chains (Some n) = map (use_in slots cells) (from_slot (Some n) (list_at chains.lists (home_at chains.homes n)))
 
 -- an optional node is an item of a list
 abbrev pub IsNode : List ℕ → Option ℕ → Type 0

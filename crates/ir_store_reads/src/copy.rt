@@ -18,37 +18,37 @@ use std::alloc::{AllocError, Global};
 #[cycle(copy)]
 pub fn copy_op(
     alloc: Global,
-    rows: &Slots,
+    slots: &Slots,
     sibs: &OrderedLists,
     key: &usize,
     levels: u32,
 ) -> Result<TreeOp, AllocError>
-    requires { (k : ℕ) → Live rows.now k → AllHeads sibs.now.homes (row_at rows.now k).shapes }
-    ensures { IfOk result (λ t. SpellsOp rows.now sibs.now.lists key.now t) }
+    requires { (k : ℕ) → Live slots.now k → AllHeads sibs.now.homes (row_at slots.now k).shapes }
+    ensures { IfOk result (λ t. SpellsOp slots.now sibs.now.lists key.now t) }
 {
-    if levels == 0 || !rows.is_live(*key) {
+    if levels == 0 || !slots.is_live(*key) {
         return Err(AllocError);
     }
-    let regions = copy_regions(alloc, rows, sibs, rows.areas(*key), levels - 1)?;
-    tree_of(alloc, rows, *key, regions)
+    let regions = copy_regions(alloc, slots, sibs, slots.areas(*key), levels - 1)?;
+    tree_of(alloc, slots, *key, regions)
 }
 
 /// Returns the operation of a slot, with these regions.
 fn tree_of(
     alloc: Global,
-    rows: &Slots,
+    slots: &Slots,
     key: usize,
     regions: Vec<TreeRegion>,
 ) -> Result<TreeOp, AllocError>
-    ensures { IfOk result (λ t. t ≡ op (row_at rows.now key).head (regions_of (map region_view regions.items))) }
+    ensures { IfOk result (λ t. t ≡ op (row_at slots.now key).head (regions_of (map region_view regions.items))) }
 {
     Ok(TreeOp {
-        id: rows.id(key),
-        name: rows.name(key),
-        operands: Vec::from_slice(alloc, rows.operands(key))?,
-        results: Vec::from_slice(alloc, rows.results(key))?,
-        props: Vec::from_slice(alloc, rows.entries(key, Part::Props))?,
-        attrs: Vec::from_slice(alloc, rows.entries(key, Part::Attrs))?,
+        id: slots.id(key),
+        name: slots.name(key),
+        operands: Vec::from_slice(alloc, slots.operands(key))?,
+        results: Vec::from_slice(alloc, slots.results(key))?,
+        props: Vec::from_slice(alloc, slots.entries(key, Part::Props))?,
+        attrs: Vec::from_slice(alloc, slots.entries(key, Part::Attrs))?,
         regions,
     })
 }
@@ -57,18 +57,18 @@ fn tree_of(
 #[cycle(copy)]
 fn copy_regions(
     alloc: Global,
-    rows: &Slots,
+    slots: &Slots,
     sibs: &OrderedLists,
     areas: &[RegionData],
     levels: u32,
 ) -> Result<Vec<TreeRegion>, AllocError>
-    requires rows { (k : ℕ) → Live rows.now k → AllHeads sibs.now.homes (row_at rows.now k).shapes }
+    requires slots { (k : ℕ) → Live slots.now k → AllHeads sibs.now.homes (row_at slots.now k).shapes }
     requires heads { AllHeads sibs.now.homes (map shape_of areas.now) }
-    ensures { IfOk result (λ gs. SpellsRegions rows.now sibs.now.lists (map shape_of areas.now) (regions_of (map region_view gs.items))) }
+    ensures { IfOk result (λ gs. SpellsRegions slots.now sibs.now.lists (map shape_of areas.now) (regions_of (map region_view gs.items))) }
 {
     let mut regions = Vec::with_capacity(alloc, areas.len())?;
     for area in areas {
-        let region = copy_region(alloc, rows, sibs, area, levels)?;
+        let region = copy_region(alloc, slots, sibs, area, levels)?;
         regions.push(region)?;
     }
     Ok(regions)
@@ -78,14 +78,14 @@ fn copy_regions(
 #[cycle(copy)]
 fn copy_region(
     alloc: Global,
-    rows: &Slots,
+    slots: &Slots,
     sibs: &OrderedLists,
     area: &RegionData,
     levels: u32,
 ) -> Result<TreeRegion, AllocError>
-    requires rows { (k : ℕ) → Live rows.now k → AllHeads sibs.now.homes (row_at rows.now k).shapes }
+    requires slots { (k : ℕ) → Live slots.now k → AllHeads sibs.now.homes (row_at slots.now k).shapes }
     requires heads { AllHeads sibs.now.homes (shape_of area.now ∷ []) }
-    ensures { IfOk result (λ g. SpellsRegion rows.now sibs.now.lists (shape_of area.now) (region_view g)) }
+    ensures { IfOk result (λ g. SpellsRegion slots.now sibs.now.lists (shape_of area.now) (region_view g)) }
 {
     match area {
         RegionData::Empty => Ok(TreeRegion::Empty),
@@ -93,7 +93,7 @@ fn copy_region(
             let keys = list_of(alloc, sibs, *head)?;
             let mut ops = Vec::with_capacity(alloc, keys.len())?;
             for key in &keys {
-                let op = copy_op(alloc, rows, sibs, key, levels)?;
+                let op = copy_op(alloc, slots, sibs, key, levels)?;
                 ops.push(op)?;
             }
             let args = Vec::from_slice(alloc, args)?;

@@ -15,20 +15,20 @@ use ir_store_slots::{OrderedLists, Slots};
 
 /// Returns the head of the list of the block of a region of an operation of the module, or `None` if there is no such
 /// block.
-pub fn find_block(rows: &Slots, keys: &Keys, op: OpId, region: u32) -> Option<usize>
-    ensures { result ≡ block_in rows.now (live_slot rows.now (finmap.get keys.now)) op region }
+pub fn find_block(slots: &Slots, keys: &Keys, op: OpId, region: u32) -> Option<usize>
+    ensures { result ≡ block_in slots.now (live_slot slots.now (finmap.get keys.now)) op region }
 {
-    let key = find(rows, keys, op)?;
-    block_head(rows.areas(key), region as usize)
+    let key = find(slots, keys, op)?;
+    block_head(slots.areas(key), region as usize)
 }
 
 /// Returns the id of the operation in a slot, if a slot is given.
-pub fn id_of(rows: &Slots, key: Option<usize>) -> Option<OpId>
-    ensures { result ≡ option_map (id_in rows.now) key }
+pub fn id_of(slots: &Slots, key: Option<usize>) -> Option<OpId>
+    ensures { result ≡ option_map (id_in slots.now) key }
 {
     match key {
         None => None,
-        Some(key) => Some(id_at(rows, key)),
+        Some(key) => Some(id_at(slots, key)),
     }
 }
 

@@ -12,7 +12,7 @@ use std::marker::Model;
 /// A view of an operation, of the module or held.
 #[derive(Drop)]
 pub struct Node<'a> {
-    rows: &'a Slots,
+    slots: &'a Slots,
     slot: usize,
 }
 
@@ -24,57 +24,57 @@ impl<'a> Model for Node<'a> {
 
     ghost coded = { node_code };
 
-    ghost view = { λ n. node_row (row_at n.rows.now n.slot) };
+    ghost view = { λ n. node_row (row_at n.slots.now n.slot) };
 }
 
 impl<'a> Node<'a> {
     /// Returns a view of the operation in a slot.
-    pub fn new(rows: &'a Slots, slot: usize) -> Node<'a>
-        ensures { result ≡ node_row (row_at rows.now slot) }
+    pub fn new(slots: &'a Slots, slot: usize) -> Node<'a>
+        ensures { result ≡ node_row (row_at slots.now slot) }
     {
-        Node { rows, slot }
+        Node { slots, slot }
     }
 
     /// Returns the name of the operation.
     pub fn name(&self) -> NameId
         ensures { result ≡ self.now.head.name }
     {
-        self.rows.name(self.slot)
+        self.slots.name(self.slot)
     }
 
     /// Returns the operands, in order.
     pub fn operands(&self) -> &[Value]
         ensures { result.now ≡ self.now.head.operands }
     {
-        self.rows.operands(self.slot)
+        self.slots.operands(self.slot)
     }
 
     /// Returns the types of the results, in order.
     pub fn results(&self) -> &[TypeId]
         ensures { result.now ≡ self.now.head.results }
     {
-        self.rows.results(self.slot)
+        self.slots.results(self.slot)
     }
 
     /// Returns the properties, in the order of their keys.
     pub fn properties(&self) -> &[(NameId, AttrId)]
         ensures { result.now ≡ self.now.head.properties }
     {
-        self.rows.entries(self.slot, Part::Props)
+        self.slots.entries(self.slot, Part::Props)
     }
 
     /// Returns the discardable attributes, in the order of their keys.
     pub fn attributes(&self) -> &[(NameId, AttrId)]
         ensures { result.now ≡ self.now.head.attributes }
     {
-        self.rows.entries(self.slot, Part::Attrs)
+        self.slots.entries(self.slot, Part::Attrs)
     }
 
     /// Returns the number of regions.
     pub fn region_count(&self) -> usize
         ensures { result ≡ length self.now.arguments }
     {
-        self.rows.areas(self.slot).len()
+        self.slots.areas(self.slot).len()
     }
 
     /// Returns the types of the arguments of the block of a region, or `None` if there is no such region or it has no
@@ -82,7 +82,7 @@ impl<'a> Node<'a> {
     pub fn arguments(&self, region: usize) -> Option<&[TypeId]>
         ensures { option_map (λ a. a.now) result ≡ option_and_then (λ a. a) (slice_get self.now.arguments region) }
     {
-        block_arguments(self.rows.areas(self.slot), region)
+        block_arguments(self.slots.areas(self.slot), region)
     }
 }
 

@@ -143,7 +143,7 @@ fn has_nodes(
 /// Returns true only if a slot is the head of an empty block with this number of arguments, for this region of this
 /// slot.
 fn block_fits(
-    rows: &Slots,
+    slots: &Slots,
     sibs: &OrderedLists,
     uses: &LinkedLists,
     cells: &Vec<UseNode>,
@@ -152,22 +152,22 @@ fn block_fits(
     head: usize,
     count: usize,
 ) -> bool
-    ensures { result ≡ true → BlockFits (parts_of rows.now sibs.now uses.now cells.now.items) owner number head count }
+    ensures { result ≡ true → BlockFits (parts_of slots.now sibs.now uses.now cells.now.items) owner number head count }
 {
-    if rows.owner(head) as usize != owner || rows.region(head) != number {
+    if slots.owner(head) as usize != owner || slots.region(head) != number {
         return false;
     }
     if !is_bare_head(sibs, head) {
         return false;
     }
-    has_heads(uses, cells, head, rows.values(head), count)
+    has_heads(uses, cells, head, slots.values(head), count)
 }
 
 /// Returns the region of a free slot for a region like another, with `head` as the head of its block, or `None` if it
 /// doesn't fit.
 fn fit_area(
     alloc: Global,
-    rows: &Slots,
+    slots: &Slots,
     sibs: &OrderedLists,
     uses: &LinkedLists,
     cells: &Vec<UseNode>,
@@ -177,12 +177,12 @@ fn fit_area(
     region: &TreeRegion,
 ) -> Result<Option<RegionData>, AllocError>
     ensures { IfOk result (λ o. IfSome o (λ a. (bare_region (shape_of a) ≡ emptied_region (region_view region.now))
-        × IsBlock (parts_of rows.now sibs.now uses.now cells.now.items) 0 owner number (shape_of a))) }
+        × IsBlock (parts_of slots.now sibs.now uses.now cells.now.items) 0 owner number (shape_of a))) }
 {
     match region {
         TreeRegion::Empty => Ok(Some(RegionData::Empty)),
         TreeRegion::Block { args, .. } => {
-            if !block_fits(rows, sibs, uses, cells, owner, number, head, args.len()) {
+            if !block_fits(slots, sibs, uses, cells, owner, number, head, args.len()) {
                 return Ok(None);
             }
             match Vec::from_slice(alloc, args) {
@@ -205,7 +205,7 @@ fn head_after(head: usize, region: &TreeRegion) -> usize {
 /// blocks are in the slots directly after it.
 fn fit_areas(
     alloc: Global,
-    rows: &Slots,
+    slots: &Slots,
     sibs: &OrderedLists,
     uses: &LinkedLists,
     cells: &Vec<UseNode>,
@@ -213,14 +213,14 @@ fn fit_areas(
     regions: &[TreeRegion],
 ) -> Result<Option<Vec<RegionData>>, AllocError>
     ensures { IfOk result (λ o. IfSome o (λ a. AreEmptied (map shape_of a.items) (map region_view regions.now)
-        × AreBlocks (parts_of rows.now sibs.now uses.now cells.now.items) 0 owner (map shape_of a.items))) }
+        × AreBlocks (parts_of slots.now sibs.now uses.now cells.now.items) 0 owner (map shape_of a.items))) }
 {
     let mut fitted = Vec::with_capacity(alloc, regions.len())?;
     let mut number = 0;
     let mut head = owner.saturating_add(1);
     let mut rest = regions;
     'regions: while let [region, tail @ ..] = rest {
-        let area = match fit_area(alloc, rows, sibs, uses, cells, owner, number, head, region) {
+        let area = match fit_area(alloc, slots, sibs, uses, cells, owner, number, head, region) {
             Ok(Some(area)) => area,
             Ok(None) => return Ok(None),
             Err(e) => return Err(e),
@@ -241,28 +241,28 @@ fn fit_areas(
 
 /// Returns true only if a free slot has the nodes that an operation like a header needs for its values and operands.
 fn row_fits(
-    rows: &Slots,
+    slots: &Slots,
     sibs: &OrderedLists,
     uses: &LinkedLists,
     cells: &Vec<UseNode>,
     slot: usize,
     header: &TreeOp,
 ) -> bool
-    ensures { result ≡ true → RowFits sibs.now.homes uses.now.homes (cells_of cells.now.items) slot (row_at rows.now slot) (head header.now) }
+    ensures { result ≡ true → RowFits sibs.now.homes uses.now.homes (cells_of cells.now.items) slot (row_at slots.now slot) (head header.now) }
 {
-    if rows.is_used(slot) || rows.is_live(slot) || !is_out(sibs, slot) {
+    if slots.is_used(slot) || slots.is_live(slot) || !is_out(sibs, slot) {
         return false;
     }
-    if !has_heads(uses, cells, slot, rows.values(slot), header.results.len()) {
+    if !has_heads(uses, cells, slot, slots.values(slot), header.results.len()) {
         return false;
     }
-    has_nodes(uses, cells, slot, rows.uses(slot), header.operands.len())
+    has_nodes(uses, cells, slot, slots.uses(slot), header.operands.len())
 }
 
 /// Returns the row to write into a free slot for an operation like a header, or `None` if it doesn't fit.
 fn fit_row(
     alloc: Global,
-    rows: &Slots,
+    slots: &Slots,
     sibs: &OrderedLists,
     uses: &LinkedLists,
     cells: &Vec<UseNode>,
@@ -270,26 +270,33 @@ fn fit_row(
     op: OpId,
     header: &TreeOp,
 ) -> Result<Option<Draft>, AllocError>
-    ensures { IfOk result (λ o. IfSome o (λ r. Grown 0 (parts_of rows.now sibs.now uses.now cells.now.items) op header.now slot r)) }
+    ensures { IfOk result (λ o. IfSome o (λ r. Grown 0 (parts_of slots.now sibs.now uses.now cells.now.items) op header.now slot r)) }
 {
-    if slot >= rows.len() || !row_fits(rows, sibs, uses, cells, slot, header) {
+    if slot >= slots.len() || !row_fits(slots, sibs, uses, cells, slot, header) {
         return Ok(None);
     }
-    let fitted = fit_areas(alloc, rows, sibs, uses, cells, slot, &header.regions);
+    let fitted = fit_areas(alloc, slots, sibs, uses, cells, slot, &header.regions);
     let areas = match fitted {
         Ok(Some(areas)) => areas,
         Ok(None) => return Ok(None),
         Err(e) => return Err(e),
     };
-    match Draft::new(alloc, op, header, areas, rows.uses(slot), rows.values(slot)) {
+    match Draft::new(
+        alloc,
+        op,
+        header,
+        areas,
+        slots.uses(slot),
+        slots.values(slot),
+    ) {
         Ok(draft) => Ok(Some(draft)),
         Err(e) => Err(e),
     }
 }
 
 /// Returns the next slot of the free list.
-fn spare_before(rows: &Slots, slot: usize) -> u32 {
-    match rows.spare(slot) {
+fn spare_before(slots: &Slots, slot: usize) -> u32 {
+    match slots.spare(slot) {
         None => NO_SLOT,
         Some(before) => before,
     }
@@ -299,7 +306,7 @@ fn spare_before(rows: &Slots, slot: usize) -> u32 {
 /// are tried.
 pub fn find_spare(
     alloc: Global,
-    rows: &Slots,
+    slots: &Slots,
     sibs: &OrderedLists,
     uses: &LinkedLists,
     cells: &Vec<UseNode>,
@@ -307,15 +314,15 @@ pub fn find_spare(
     op: OpId,
     header: &TreeOp,
 ) -> Result<Option<FreeSlot>, AllocError>
-    ensures { IfOk result (λ o. IfSome o (λ p. Grown 0 (parts_of rows.now sibs.now uses.now cells.now.items) op header.now p.slot p.draft)) }
+    ensures { IfOk result (λ o. IfSome o (λ p. Grown 0 (parts_of slots.now sibs.now uses.now cells.now.items) op header.now p.slot p.draft)) }
 {
     let mut trailing = NO_SLOT;
     let mut at = newest;
     let mut looks = MOST_LOOKS;
     'spare: while looks > 0 && at != NO_SLOT {
         let slot = at as usize;
-        let before = spare_before(rows, slot);
-        match fit_row(alloc, rows, sibs, uses, cells, slot, op, header) {
+        let before = spare_before(slots, slot);
+        match fit_row(alloc, slots, sibs, uses, cells, slot, op, header) {
             Ok(Some(draft)) => {
                 return Ok(Some(FreeSlot {
                     trailing,
@@ -335,12 +342,12 @@ pub fn find_spare(
 }
 
 /// Removes a slot between two others from the free list, and returns the head of the list.
-pub fn take_spare(rows: &mut Slots, newest: u32, trailing: u32, before: u32) -> u32
-    ensures { rows.new ≡ rows.old }
+pub fn take_spare(slots: &mut Slots, newest: u32, trailing: u32, before: u32) -> u32
+    ensures { slots.new ≡ slots.old }
 {
     if trailing == NO_SLOT {
         return before;
     }
-    rows.set_spare(trailing as usize, before);
+    slots.set_spare(trailing as usize, before);
     newest
 }

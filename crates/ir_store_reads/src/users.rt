@@ -10,18 +10,18 @@ use ir_store_slots::types::ids::OpId;
 use ir_store_slots::use_lists::id_at;
 
 /// Returns the heads of the use lists of a slot's results: the first one, and their number.
-pub fn result_run(rows: &Slots, key: usize) -> (usize, usize)
-    ensures { result ≡ ((row_at rows.now key).values, length (row_at rows.now key).head.results) }
+pub fn result_run(slots: &Slots, key: usize) -> (usize, usize)
+    ensures { result ≡ ((row_at slots.now key).values, length (row_at slots.now key).head.results) }
 {
-    (rows.values(key), rows.results(key).len())
+    (slots.values(key), slots.results(key).len())
 }
 
 /// Returns the user of a node, and the index of the operand.
-pub fn user_at(rows: &Slots, cells: &Vec<UseNode>, node: usize) -> (OpId, u32)
-    ensures { result ≡ use_in rows.now (cells_of cells.now.items) node }
+pub fn user_at(slots: &Slots, cells: &Vec<UseNode>, node: usize) -> (OpId, u32)
+    ensures { result ≡ use_in slots.now (cells_of cells.now.items) node }
 {
     match cells.get(node) {
-        None => (id_at(rows, 0), 0),
-        Some(cell) => (id_at(rows, cell.row as usize), cell.place),
+        None => (id_at(slots, 0), 0),
+        Some(cell) => (id_at(slots, cell.row as usize), cell.place),
     }
 }

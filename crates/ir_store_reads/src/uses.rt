@@ -16,7 +16,7 @@ use std::marker::Model;
 /// Contracts see the list of the remaining uses.
 #[derive(Drop)]
 pub struct UsesOf<'a> {
-    rows: &'a Slots,
+    slots: &'a Slots,
     cells: &'a Vec<UseNode>,
     uses: &'a LinkedLists,
     /// The node of the next use.
@@ -30,20 +30,20 @@ impl<'a> Model for UsesOf<'a> {
 
     ghost Value = { List (ℕ × ℕ) };
 
-    ghost view = { λ s. uses_left s.rows.now (cells_of s.cells.now.items) s.uses.now s.at };
+    ghost view = { λ s. uses_left s.slots.now (cells_of s.cells.now.items) s.uses.now s.at };
 
     ghost invariant = { λ s. IsNode s.uses.now.homes s.at };
 }
 
 /// Returns an iterator over the uses in the list of a head, or an empty one if there is no head.
 pub fn uses_from<'a>(
-    rows: &'a Slots,
+    slots: &'a Slots,
     cells: &'a Vec<UseNode>,
     uses: &'a LinkedLists,
     head: Option<usize>,
 ) -> UsesOf<'a>
     requires { IfSome head (λ h. IsHead uses.now.homes h) }
-    ensures { result ≡ uses_at rows.now (cells_of cells.now.items) uses.now.lists head }
+    ensures { result ≡ uses_at slots.now (cells_of cells.now.items) uses.now.lists head }
 {
     uses.laws();
     let at = match head {
@@ -51,7 +51,7 @@ pub fn uses_from<'a>(
         Some(head) => uses.first(head),
     };
     UsesOf {
-        rows,
+        slots,
         cells,
         uses,
         at,
@@ -87,7 +87,7 @@ impl<'a> Iterator for UsesOf<'a> {
         };
         self.uses.laws();
         self.at = self.uses.next(node);
-        Some(user_at(self.rows, self.cells, node))
+        Some(user_at(self.slots, self.cells, node))
     }
 }
 

@@ -15,40 +15,40 @@ use std::alloc::AllocError;
 /// Appends the operation of a slot and those inside it. An `AllocError` if it has more levels than given.
 #[cycle(push)]
 pub fn push_op(
-    rows: &Slots,
+    slots: &Slots,
     sibs: &OrderedLists,
     key: usize,
     levels: u32,
     out: &mut Vec<OpId>,
 ) -> Result<(), AllocError>
-    requires rows { (k : ℕ) → Live rows.now k → AllHeads sibs.now.homes (row_at rows.now k).shapes }
+    requires slots { (k : ℕ) → Live slots.now k → AllHeads sibs.now.homes (row_at slots.now k).shapes }
     requires laws { Laws sibs.now.lists sibs.now.homes }
-    ensures { OnOk result (AddsOp rows.now sibs.now.lists key out.old.items out.new.items) }
+    ensures { OnOk result (AddsOp slots.now sibs.now.lists key out.old.items out.new.items) }
 {
-    if levels == 0 || !rows.is_live(key) {
+    if levels == 0 || !slots.is_live(key) {
         return Err(AllocError);
     }
-    out.push(rows.id(key))?;
-    push_areas(rows, sibs, rows.areas(key), levels - 1, out)
+    out.push(slots.id(key))?;
+    push_areas(slots, sibs, slots.areas(key), levels - 1, out)
 }
 
 /// Appends the operations in some regions.
 #[cycle(push)]
 fn push_areas(
-    rows: &Slots,
+    slots: &Slots,
     sibs: &OrderedLists,
     areas: &[RegionData],
     levels: u32,
     out: &mut Vec<OpId>,
 ) -> Result<(), AllocError>
-    requires rows { (k : ℕ) → Live rows.now k → AllHeads sibs.now.homes (row_at rows.now k).shapes }
+    requires slots { (k : ℕ) → Live slots.now k → AllHeads sibs.now.homes (row_at slots.now k).shapes }
     requires laws { Laws sibs.now.lists sibs.now.homes }
     requires heads { AllHeads sibs.now.homes (map shape_of areas.now) }
-    ensures { OnOk result (AddsRegions rows.now sibs.now.lists (map shape_of areas.now) out.old.items out.new.items) }
+    ensures { OnOk result (AddsRegions slots.now sibs.now.lists (map shape_of areas.now) out.old.items out.new.items) }
 {
     let mut rest = areas;
     'areas: while let [area, tail @ ..] = rest {
-        push_area(rows, sibs, area, levels, out)?;
+        push_area(slots, sibs, area, levels, out)?;
         rest = tail;
     }
     Ok(())
@@ -57,51 +57,51 @@ fn push_areas(
 /// Appends the operations in a region.
 #[cycle(push)]
 fn push_area(
-    rows: &Slots,
+    slots: &Slots,
     sibs: &OrderedLists,
     area: &RegionData,
     levels: u32,
     out: &mut Vec<OpId>,
 ) -> Result<(), AllocError>
-    requires rows { (k : ℕ) → Live rows.now k → AllHeads sibs.now.homes (row_at rows.now k).shapes }
+    requires slots { (k : ℕ) → Live slots.now k → AllHeads sibs.now.homes (row_at slots.now k).shapes }
     requires laws { Laws sibs.now.lists sibs.now.homes }
     requires heads { AllHeads sibs.now.homes (shape_of area.now ∷ []) }
-    ensures { OnOk result (AddsRegions rows.now sibs.now.lists (shape_of area.now ∷ []) out.old.items out.new.items) }
+    ensures { OnOk result (AddsRegions slots.now sibs.now.lists (shape_of area.now ∷ []) out.old.items out.new.items) }
 {
     match area {
         RegionData::Empty => Ok(()),
-        RegionData::Block { head, .. } => push_list(rows, sibs, *head, levels, out),
+        RegionData::Block { head, .. } => push_list(slots, sibs, *head, levels, out),
     }
 }
 
 /// Appends the operations in the list of a head, and those inside them.
 #[cycle(push)]
 fn push_list(
-    rows: &Slots,
+    slots: &Slots,
     sibs: &OrderedLists,
     head: usize,
     levels: u32,
     out: &mut Vec<OpId>,
 ) -> Result<(), AllocError>
-    requires rows { (k : ℕ) → Live rows.now k → AllHeads sibs.now.homes (row_at rows.now k).shapes }
+    requires slots { (k : ℕ) → Live slots.now k → AllHeads sibs.now.homes (row_at slots.now k).shapes }
     requires laws { Laws sibs.now.lists sibs.now.homes }
     requires head { IsHead sibs.now.homes head }
-    ensures { OnOk result (AddsOps rows.now sibs.now.lists (list_at sibs.now.lists head) out.old.items out.new.items) }
+    ensures { OnOk result (AddsOps slots.now sibs.now.lists (list_at sibs.now.lists head) out.old.items out.new.items) }
 {
     let mut at = sibs.first(head);
     'ops: while let Some(key) = at {
-        push_op(rows, sibs, key, levels, out)?;
+        push_op(slots, sibs, key, levels, out)?;
         at = sibs.next(key);
     }
     Ok(())
 }
 
 /// Returns the last slot of the last nonempty block of a slot, or `None` if all its blocks are empty.
-pub fn last_slot(rows: &Slots, sibs: &OrderedLists, key: usize) -> Option<usize>
-    requires { AllHeads sibs.now.homes (row_at rows.now key).shapes }
-    ensures { result ≡ last_in sibs.now.lists None (row_at rows.now key).shapes }
+pub fn last_slot(slots: &Slots, sibs: &OrderedLists, key: usize) -> Option<usize>
+    requires { AllHeads sibs.now.homes (row_at slots.now key).shapes }
+    ensures { result ≡ last_in sibs.now.lists None (row_at slots.now key).shapes }
 {
-    last_listed(sibs, rows.areas(key))
+    last_listed(sibs, slots.areas(key))
 }
 
 /// Returns the last slot of the last nonempty block of some regions, or `None` if all blocks are empty.

@@ -8,42 +8,42 @@ use Rattle.ir_store_slots.specs.Grows.{Parts, IsEven, Wider, NewHead, NewBlock, 
 use Rattle.ir_store_slots.proofs.Wide.{wide_then, head_stays, blocks_stay}
 use Rattle.ir_store_slots.proofs.Runs.{run_wide, run_heads, slot_wide, slot_row, slot_home, keep_wide, push_long}
 
-module _ (p : Parts) (even : IsEven p) (head : ℕ) (eh : head ≡ length p.rows) (n : ℕ) (homes' : List ℕ) (cells' : List (ℕ × ℕ)) (r : Runs true head n p.homes homes' p.cells cells') where
+module _ (p : Parts) (even : IsEven p) (head : ℕ) (eh : head ≡ length p.slots) (n : ℕ) (homes' : List ℕ) (cells' : List (ℕ × ℕ)) (r : Runs true head n p.homes homes' p.cells cells') where
   abbrev ran : Parts
   ran = record p { homes = homes'; cells = cells' }
 
   ran_wide : Wider p ran
   ran_wide = run_wide p even true head n homes' cells' r
 
-  pub block_kept : (rows' : List Row) (sibs' : Lists) → KeepsSlots p.rows rows' p.sibs sibs' → Wider p (record { rows = rows'; sibs = sibs'; homes = homes'; cells = cells' })
-  block_kept rows' sibs' k = wide_then p ran (record { rows = rows'; sibs = sibs'; homes = homes'; cells = cells' }) ran_wide (keep_wide ran ran_wide.even rows' sibs' k)
+  pub block_kept : (slots' : List Row) (sibs' : Lists) → KeepsSlots p.slots slots' p.sibs sibs' → Wider p (record { slots = slots'; sibs = sibs'; homes = homes'; cells = cells' })
+  block_kept slots' sibs' k = wide_then p ran (record { slots = slots'; sibs = sibs'; homes = homes'; cells = cells' }) ran_wide (keep_wide ran ran_wide.even slots' sibs' k)
 
-  module _ (base owner number : ℕ) (eb : base ≡ length p.homes) (w : Row) (ew : w ≡ row_spare owner number base) (rows' : List Row) (sibs' : Lists) (a : AddsSlot true w p.rows rows' p.sibs sibs') where
+  module _ (base owner number : ℕ) (eb : base ≡ length p.homes) (w : Row) (ew : w ≡ row_spare owner number base) (slots' : List Row) (sibs' : Lists) (a : AddsSlot true w p.slots slots' p.sibs sibs') where
     abbrev blocked : Parts
-    blocked = record { rows = rows'; sibs = sibs'; homes = homes'; cells = cells' }
+    blocked = record { slots = slots'; sibs = sibs'; homes = homes'; cells = cells' }
 
     slot_more : Wider ran blocked
-    slot_more = slot_wide ran ran_wide.even true w rows' sibs' a (ap (λ z. z.used) ew) (ap (λ z. z.live) ew)
+    slot_more = slot_wide ran ran_wide.even true w slots' sibs' a (ap (λ z. z.used) ew) (ap (λ z. z.live) ew)
 
     pub block_wide : Wider p blocked
     block_wide = wide_then p ran blocked ran_wide slot_more
 
-    here : row_at rows' head ≡ row_spare owner number base
-    here = ap (row_at rows') eh ∙ slot_row ran ran_wide.even true w rows' sibs' a ∙ ew
+    here : row_at slots' head ≡ row_spare owner number base
+    here = ap (row_at slots') eh ∙ slot_row ran ran_wide.even true w slots' sibs' a ∙ ew
 
     pub block_new : (args : List ℕ) → length args ≡ n → NewBlock blocked (length p.homes) owner number (args, head)
     block_new args en = record {
-      head = record { inside = omega (arith, eh, slot_more.even.long, slot_inside); own = ap (home_at sibs'.homes) eh ∙ slot_home ran ran_wide.even true w rows' sibs' a ∙ sym eh };
+      head = record { inside = omega (arith, eh, slot_more.even.long, slot_inside); own = ap (home_at sibs'.homes) eh ∙ slot_home ran ran_wide.even true w slots' sibs' a ∙ sym eh };
       owner = ap (λ z. z.owner) here;
       region = ap (λ z. z.region) here;
       bare = slot_more.lists head ∙ get_or_past p.sibs.lists head [] (omega (arith, eh, even.long, even.lists));
-      arguments = λ j l. head_stays ran blocked slot_more (length p.homes) head j ((row_at rows' head).values + j)
+      arguments = λ j l. head_stays ran blocked slot_more (length p.homes) head j ((row_at slots' head).values + j)
           (subst (λ z. NewHead ran (length p.homes) head j (z + j)) (sym (ap (λ z. z.values) here))
           (run_heads p even true head n homes' cells' r refl (length p.homes) (omega arith) base eb j (omega (arith, l, en))));
     }
       where
-        slot_inside : length p.rows < length rows'
-        slot_inside = omega (arith, ap length a.row, push_long p.rows w w)
+        slot_inside : length p.slots < length slots'
+        slot_inside = omega (arith, ap length a.row, push_long p.slots w w)
 
 -- blocks remain blocks for a lower bound
 pub lower_block : (q : Parts) (bound low k i : ℕ) (a : List ℕ × ℕ) → low ≤ bound → NewBlock q bound k i a → NewBlock q low k i a

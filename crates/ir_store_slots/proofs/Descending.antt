@@ -12,10 +12,10 @@ use Rattle.ir_store_slots.proofs.Items.{some_same}
 use Rattle.ir_store_slots.proofs.Sweeping.{sweep_start, sweep_all, sweep_step, sweep_wider, given_used, given_from}
 
 -- the slots of ids from a number on were visited
-pub record Descends (from end : ℕ) (rows new : List Row) (keys left : ℕ → Option ℕ) (homes : List ℕ) : Type 0 where
+pub record Descends (from end : ℕ) (slots new : List Row) (keys left : ℕ → Option ℕ) (homes : List ℕ) : Type 0 where
   pub few : end ≤ 4294967296
   pub marked : Marked new homes
-  pub some : ReleasesSome from (λ q. not (nat_lt (row_at rows q).head.id end)) rows new keys left
+  pub some : ReleasesSome from (λ q. not (nat_lt (row_at slots q).head.id end)) slots new keys left
 
 at_least : (a b : ℕ) → not (nat_lt a b) ≡ true → b ≤ a
 at_least a b e = grind (arith, nat_tests, e)
@@ -38,71 +38,71 @@ less_other a b ne = ⊎_elim
 less_next : (b : ℕ) → nat_lt b (suc b) ≡ true
 less_next b = grind (arith, nat_tests)
 
-module _ (from : ℕ) (rows : List Row) (keys : ℕ → Option ℕ) (kd : IsKeyed rows keys) where
+module _ (from : ℕ) (slots : List Row) (keys : ℕ → Option ℕ) (kd : IsKeyed slots keys) where
   -- a released slot has an id in the table
-  keyed : (q : ℕ) → is_given from (row_at rows q) ≡ true → keys (row_at rows q).head.id ≡ Some q
-  keyed q g = kd.keyed q (given_used from rows q g)
+  keyed : (q : ℕ) → is_given from (row_at slots q) ≡ true → keys (row_at slots q).head.id ≡ Some q
+  keyed q g = kd.keyed q (given_used from slots q g)
 
-  pub descends_start : (end : ℕ) → end ≤ 4294967296 → ((x : ℕ) → end ≤ x → keys x ≡ None) → (homes : List ℕ) → Marked rows homes → Descends from end rows rows keys keys homes
+  pub descends_start : (end : ℕ) → end ≤ 4294967296 → ((x : ℕ) → end ≤ x → keys x ≡ None) → (homes : List ℕ) → Marked slots homes → Descends from end slots slots keys keys homes
   descends_start end few none homes m = record {
     few = few;
     marked = m;
-    some = sweep_start from rows keys kd (λ q. not (nat_lt (row_at rows q).head.id end)) (λ q e. spared q e (is_given from (row_at rows q)) refl);
+    some = sweep_start from slots keys kd (λ q. not (nat_lt (row_at slots q).head.id end)) (λ q e. spared q e (is_given from (row_at slots q)) refl);
   }
     where
-      spared : (q : ℕ) → not (nat_lt (row_at rows q).head.id end) ≡ true → (b : Bool) → is_given from (row_at rows q) ≡ b → is_given from (row_at rows q) ≡ false
+      spared : (q : ℕ) → not (nat_lt (row_at slots q).head.id end) ≡ true → (b : Bool) → is_given from (row_at slots q) ≡ b → is_given from (row_at slots q) ≡ false
       spared q e false g = g
       spared q e true g =
-          let bad : ◌≡◌ {A = Option ℕ} (Some q) None = sym (keyed q g) ∙ none (row_at rows q).head.id (at_least (row_at rows q).head.id end e) in
+          let bad : ◌≡◌ {A = Option ℕ} (Some q) None = sym (keyed q g) ∙ none (row_at slots q).head.id (at_least (row_at slots q).head.id end e) in
           absurd cc
 
-  pub descends_end : (end : ℕ) → end ≤ from → (new : List Row) (left : ℕ → Option ℕ) (homes : List ℕ) → Descends from end rows new keys left homes → GivenUp from rows new keys left
-  descends_end end l new left homes d = sweep_all from rows keys kd (λ q. true) new left (λ q. refl)
-      (sweep_wider from rows keys kd (λ q. not (nat_lt (row_at rows q).head.id end)) (λ q. true) new left
-      (λ q g. let f = given_from from rows q g in sym (not_less (row_at rows q).head.id end (omega (arith, l, f)))) d.some)
+  pub descends_end : (end : ℕ) → end ≤ from → (new : List Row) (left : ℕ → Option ℕ) (homes : List ℕ) → Descends from end slots new keys left homes → GivenUp from slots new keys left
+  descends_end end l new left homes d = sweep_all from slots keys kd (λ q. true) new left (λ q. refl)
+      (sweep_wider from slots keys kd (λ q. not (nat_lt (row_at slots q).head.id end)) (λ q. true) new left
+      (λ q g. let f = given_from from slots q g in sym (not_less (row_at slots q).head.id end (omega (arith, l, f)))) d.some)
 
-  module _ (id : ℕ) (new : List Row) (left : finmap.FinMap nat_cmp ℕ) (homes : List ℕ) (d : Descends from (suc id) rows new keys (finmap.get left) homes) where
+  module _ (id : ℕ) (new : List Row) (left : finmap.FinMap nat_cmp ℕ) (homes : List ℕ) (d : Descends from (suc id) slots new keys (finmap.get left) homes) where
     abbrev before : ℕ → Bool
-    before q = not (nat_lt (row_at rows q).head.id (suc id))
+    before q = not (nat_lt (row_at slots q).head.id (suc id))
 
     abbrev trailing : ℕ → Bool
-    trailing q = not (nat_lt (row_at rows q).head.id id)
+    trailing q = not (nat_lt (row_at slots q).head.id id)
 
     -- the earlier slots, and one more
     abbrev more : ℕ → ℕ → Bool
     more k q = before q || eqb q k
 
     -- other ids are unchanged
-    apart : (q : ℕ) → ((row_at rows q).head.id ≡ id → ⊥) → trailing q ≡ before q
-    apart q ne = ap not (less_other (row_at rows q).head.id id ne)
+    apart : (q : ℕ) → ((row_at slots q).head.id ≡ id → ⊥) → trailing q ≡ before q
+    apart q ne = ap not (less_other (row_at slots q).head.id id ne)
 
     unseen : (k : ℕ) → keys id ≡ Some k → before k ≡ false
     unseen k e = ap (λ z. not (nat_lt z (suc id))) (kd.known id k e).id ∙ ap not (less_next id)
 
     module _ (new2 : List Row) (left2 : finmap.FinMap nat_cmp ℕ) (homes2 : List ℕ) (m : Marked new2 homes2) where
       abbrev Goes : Type 0
-      Goes = Descends from id rows new2 keys (finmap.get left2) homes2
+      Goes = Descends from id slots new2 keys (finmap.get left2) homes2
 
-      goes : ReleasesSome from trailing rows new2 keys (finmap.get left2) → Goes
+      goes : ReleasesSome from trailing slots new2 keys (finmap.get left2) → Goes
       goes s = record { few = let f = d.few in omega (arith, f); marked = m; some = s }
 
       -- the id has no slot
       without : finmap.get left id ≡ None → new2 ≡ new → left2 ≡ left → Goes
-      without e en el = goes (subst (λ z. ReleasesSome from trailing rows z keys (finmap.get left2)) (sym en)
-          (subst (λ z. ReleasesSome from trailing rows new keys (finmap.get z)) (sym el)
-          (sweep_wider from rows keys kd before trailing new (finmap.get left) (λ q g. apart q (other q g)) d.some)))
+      without e en el = goes (subst (λ z. ReleasesSome from trailing slots z keys (finmap.get left2)) (sym en)
+          (subst (λ z. ReleasesSome from trailing slots new keys (finmap.get z)) (sym el)
+          (sweep_wider from slots keys kd before trailing new (finmap.get left) (λ q g. apart q (other q g)) d.some)))
         where
-          other : (q : ℕ) → is_given from (row_at rows q) ≡ true → (row_at rows q).head.id ≡ id → ⊥
+          other : (q : ℕ) → is_given from (row_at slots q) ≡ true → (row_at slots q).head.id ≡ id → ⊥
           other q g i =
               let here : keys id ≡ Some q = ap keys (sym i) ∙ keyed q g in
-              let bad : ◌≡◌ {A = Option ℕ} None (Some q) = sym e ∙ d.some.key id ∙ ap (key_so_far from before rows) here
-              ∙ ap {A = Bool} {B = Option ℕ} (λ b. if b && is_given from (row_at rows q) then None else Some q) (unseen q here) in
+              let bad : ◌≡◌ {A = Option ℕ} None (Some q) = sym e ∙ d.some.key id ∙ ap (key_so_far from before slots) here
+              ∙ ap {A = Bool} {B = Option ℕ} (λ b. if b && is_given from (row_at slots q) then None else Some q) (unseen q here) in
               absurd cc
 
       -- the id has a slot
       with_slot : (k : ℕ) → keys id ≡ Some k → ReleasesSlot from k new new2 left left2 → Goes
-      with_slot k here r = goes (sweep_wider from rows keys kd (more k) trailing new2 (finmap.get left2) alike
-          (sweep_step from rows keys kd before new left d.some k (unseen k here) new2 left2 r (more k)
+      with_slot k here r = goes (sweep_wider from slots keys kd (more k) trailing new2 (finmap.get left2) alike
+          (sweep_step from slots keys kd before new left d.some k (unseen k here) new2 left2 r (more k)
           (ap (λ b. before k || b) (eq-eqb k k refl) ∙ or_true (before k))
           (λ q ne. ap (λ b. before q || b) (ne_eqb q k ne) ∙ or_none (before q))))
         where
@@ -114,20 +114,20 @@ module _ (from : ℕ) (rows : List Row) (keys : ℕ → Option ℕ) (kd : IsKeye
           or_none true = refl
           or_none false = refl
 
-          alike : (q : ℕ) → is_given from (row_at rows q) ≡ true → trailing q ≡ more k q
+          alike : (q : ℕ) → is_given from (row_at slots q) ≡ true → trailing q ≡ more k q
           alike q g = ⊎_elim
               (λ z.
-              let i : (row_at rows q).head.id ≡ id = ap (λ w. (row_at rows w).head.id) z ∙ (kd.known id k here).id in
-              not_less (row_at rows q).head.id id (omega (arith, i)) ∙ sym (ap (λ b. before q || b) (eq-eqb q k z) ∙ or_true (before q)))
+              let i : (row_at slots q).head.id ≡ id = ap (λ w. (row_at slots w).head.id) z ∙ (kd.known id k here).id in
+              not_less (row_at slots q).head.id id (omega (arith, i)) ∙ sym (ap (λ b. before q || b) (eq-eqb q k z) ∙ or_true (before q)))
               (λ z. apart q (λ i. z (some_same q k (sym (keyed q g) ∙ ap keys i ∙ here))) ∙ sym (ap (λ b. before q || b) (ne_eqb q k z) ∙ or_none (before q)))
               (cases_eq q k)
 
       slot_is : (k : ℕ) → finmap.get left id ≡ Some k → (o : Option ℕ) → keys id ≡ o → keys id ≡ Some k
       slot_is k e None f =
-          let bad : ◌≡◌ {A = Option ℕ} (Some k) None = sym e ∙ d.some.key id ∙ ap (key_so_far from before rows) f in
+          let bad : ◌≡◌ {A = Option ℕ} (Some k) None = sym e ∙ d.some.key id ∙ ap (key_so_far from before slots) f in
           absurd cc
-      slot_is k e (Some j) f = f ∙ sym (sym e ∙ d.some.key id ∙ ap (key_so_far from before rows) f
-          ∙ ap {A = Bool} {B = Option ℕ} (λ b. if b && is_given from (row_at rows j) then None else Some j) (unseen j f))
+      slot_is k e (Some j) f = f ∙ sym (sym e ∙ d.some.key id ∙ ap (key_so_far from before slots) f
+          ∙ ap {A = Bool} {B = Option ℕ} (λ b. if b && is_given from (row_at slots j) then None else Some j) (unseen j f))
 
       pub descends_on : (o : Option ℕ) → finmap.get left id ≡ o → ReleasesId from o new new2 left left2 → Goes
       descends_on None e r = without e r.0 r.1

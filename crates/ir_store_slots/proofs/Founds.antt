@@ -30,10 +30,10 @@ module _ (x : ℕ) where
     has_is_ops no_ops = refl
     has_is_ops (next o os) = (λ i. has_is o i || has_is_ops os i) ∙ sym (list_any-append (λ y. eqb y x) (ids o) (ops_ids os))
 
-module _ (rows : List Row) (lists : List (List ℕ)) where
+module _ (slots : List Row) (lists : List (List ℕ)) where
   abbrev pub Spelt : ℕ → Option Op → Type 0
   Spelt k None = ⊥
-  Spelt k (Some o) = SpellsOp rows lists k o
+  Spelt k (Some o) = SpellsOp slots lists k o
 
   left_spelt : (k : ℕ) (a b : Option Op) → Spelt k a → Spelt k (first_of a b)
   left_spelt k None b s = absurd s
@@ -59,18 +59,18 @@ module _ (rows : List Row) (lists : List (List ℕ)) where
       not_found_ops no_ops e = refl
       not_found_ops (next o os) e = let b = neither (has_op x o) (has_ops x os) e in rw (not_found o b.0) (not_found_ops os b.1)
 
-  module _ (x k : ℕ) (only : (q : ℕ) → Live rows q → (row_at rows q).head.id ≡ x → q ≡ k) where
+  module _ (x k : ℕ) (only : (q : ℕ) → Live slots q → (row_at slots q).head.id ≡ x → q ≡ k) where
     mutual
       -- slot k represents the found operation
-      pub find_spelt : (q : ℕ) (t : Op) → SpellsOp rows lists q t → has_op x t ≡ true → Spelt k (find x t)
+      pub find_spelt : (q : ℕ) (t : Op) → SpellsOp slots lists q t → has_op x t ≡ true → Spelt k (find x t)
       find_spelt q (op h rs) s e = ⊎_elim
           (λ y.
           let at_k : q ≡ k = only q (record { live = s.0 }) (ap (λ z. z.id) s.1.0 ∙ eqb-true h.id x y) in
-          rw y (subst (λ z. SpellsOp rows lists z (op h rs)) at_k s))
-          (λ n. rw n (find_regions (row_at rows q).shapes rs s.1.1 (either (eqb h.id x) (has_regions x rs) e n)))
+          rw y (subst (λ z. SpellsOp slots lists z (op h rs)) at_k s))
+          (λ n. rw n (find_regions (row_at slots q).shapes rs s.1.1 (either (eqb h.id x) (has_regions x rs) e n)))
           (cases_Bool (eqb h.id x))
 
-      find_regions : (xs : List RegionShape) (rs : Regions) → SpellsRegions rows lists xs rs → has_regions x rs ≡ true → Spelt k (regions_find x rs)
+      find_regions : (xs : List RegionShape) (rs : Regions) → SpellsRegions slots lists xs rs → has_regions x rs ≡ true → Spelt k (regions_find x rs)
       find_regions xs no_regions s e = absurd (false≢true e)
       find_regions [] (region g rs) s e = absurd s
       find_regions (a ∷ xs) (region g rs) s e = ⊎_elim
@@ -78,13 +78,13 @@ module _ (rows : List Row) (lists : List (List ℕ)) where
           (λ n. rw (none_first_of (region_find x g) (regions_find x rs) (not_found_region x g n)) (find_regions xs rs s.1 (either (has_region x g) (has_regions x rs) e n)))
           (cases_Bool (has_region x g))
 
-      find_region : (a : RegionShape) (g : Region) → SpellsRegion rows lists a g → has_region x g ≡ true → Spelt k (region_find x g)
+      find_region : (a : RegionShape) (g : Region) → SpellsRegion slots lists a g → has_region x g ≡ true → Spelt k (region_find x g)
       find_region None empty s e = absurd (false≢true e)
       find_region None (block args os) s e = absurd s
       find_region (Some a) empty s e = absurd s
       find_region (Some a) (block args os) s e = find_ops (list_at lists a.1) os s.1 e
 
-      find_ops : (ks : List ℕ) (os : Ops) → SpellsOps rows lists ks os → has_ops x os ≡ true → Spelt k (ops_find x os)
+      find_ops : (ks : List ℕ) (os : Ops) → SpellsOps slots lists ks os → has_ops x os ≡ true → Spelt k (ops_find x os)
       find_ops ks no_ops s e = absurd (false≢true e)
       find_ops [] (next o os) s e = absurd s
       find_ops (q ∷ ks) (next o os) s e = ⊎_elim
@@ -94,27 +94,27 @@ module _ (rows : List Row) (lists : List (List ℕ)) where
 
   -- an operation of the tree has a slot
   abbrev pub HasSlot : ℕ → Type 0
-  HasSlot x = (k : ℕ) × (Live rows k × ((row_at rows k).head.id ≡ x))
+  HasSlot x = (k : ℕ) × (Live slots k × ((row_at slots k).head.id ≡ x))
 
   mutual
-    pub has_live : (x q : ℕ) (t : Op) → SpellsOp rows lists q t → has_op x t ≡ true → HasSlot x
+    pub has_live : (x q : ℕ) (t : Op) → SpellsOp slots lists q t → has_op x t ≡ true → HasSlot x
     has_live x q (op h rs) s e = ⊎_elim
         (λ y. (q, (record { live = s.0 }, ap (λ z. z.id) s.1.0 ∙ eqb-true h.id x y)))
-        (λ y. regions_live x (row_at rows q).shapes rs s.1.1 y)
+        (λ y. regions_live x (row_at slots q).shapes rs s.1.1 y)
         (or_cases (eqb h.id x) (has_regions x rs) e)
 
-    regions_live : (x : ℕ) (xs : List RegionShape) (rs : Regions) → SpellsRegions rows lists xs rs → has_regions x rs ≡ true → HasSlot x
+    regions_live : (x : ℕ) (xs : List RegionShape) (rs : Regions) → SpellsRegions slots lists xs rs → has_regions x rs ≡ true → HasSlot x
     regions_live x xs no_regions s e = absurd (false≢true e)
     regions_live x [] (region g rs) s e = absurd s
     regions_live x (a ∷ xs) (region g rs) s e = ⊎_elim (λ y. region_live x a g s.0 y) (λ y. regions_live x xs rs s.1 y) (or_cases (has_region x g) (has_regions x rs) e)
 
-    region_live : (x : ℕ) (a : RegionShape) (g : Region) → SpellsRegion rows lists a g → has_region x g ≡ true → HasSlot x
+    region_live : (x : ℕ) (a : RegionShape) (g : Region) → SpellsRegion slots lists a g → has_region x g ≡ true → HasSlot x
     region_live x None empty s e = absurd (false≢true e)
     region_live x None (block args os) s e = absurd s
     region_live x (Some a) empty s e = absurd s
     region_live x (Some a) (block args os) s e = ops_live x (list_at lists a.1) os s.1 e
 
-    ops_live : (x : ℕ) (ks : List ℕ) (os : Ops) → SpellsOps rows lists ks os → has_ops x os ≡ true → HasSlot x
+    ops_live : (x : ℕ) (ks : List ℕ) (os : Ops) → SpellsOps slots lists ks os → has_ops x os ≡ true → HasSlot x
     ops_live x ks no_ops s e = absurd (false≢true e)
     ops_live x [] (next o os) s e = absurd s
     ops_live x (q ∷ ks) (next o os) s e = ⊎_elim (λ y. has_live x q o s.0 y) (λ y. ops_live x ks os s.1 y) (or_cases (has_op x o) (has_ops x os) e)

@@ -41,9 +41,9 @@ pub emptied_list : (gs : List Region) → regions_of (map emptied_region gs) ≡
 emptied_list [] = refl
 emptied_list (g ∷ gs) = ap (region (emptied_region g)) (emptied_list gs)
 
-module _ (p : Parts) (even : IsEven p) (slot : ℕ) (es : slot ≡ length p.rows) (w : Row) (ew : w ≡ row_spare 0 0 0) (rows1 : List Row) (sibs1 : Lists) (a : AddsSlot false w p.rows rows1 p.sibs sibs1) where
+module _ (p : Parts) (even : IsEven p) (slot : ℕ) (es : slot ≡ length p.slots) (w : Row) (ew : w ≡ row_spare 0 0 0) (rows1 : List Row) (sibs1 : Lists) (a : AddsSlot false w p.slots rows1 p.sibs sibs1) where
   abbrev pub first : Parts
-  first = record p { rows = rows1; sibs = sibs1 }
+  first = record p { slots = rows1; sibs = sibs1 }
 
   pub first_wide : Wider p first
   first_wide = slot_wide p even false w rows1 sibs1 a (ap (λ z. z.used) ew) (ap (λ z. z.live) ew)
@@ -76,7 +76,7 @@ module _ (p : Parts) (even : IsEven p) (slot : ℕ) (es : slot ≡ length p.rows
         after_first = wide_then first q fourth wide (wide_then q third fourth third_more fourth_more)
 
         slot_in : slot < length rows1
-        slot_in = omega (arith, es, ap length a.row, push_long p.rows w w)
+        slot_in = omega (arith, es, ap length a.row, push_long p.slots w w)
 
         module _ (x : ℕ) (o : Op) (gs : List Region) (eo : op (head o) (regions_of gs) ≡ o) (xs : List RegionShape) (emptied_xs : map bare_region xs ≡ map emptied_region gs) (blocks : AreBlocks q (length first.homes) slot xs)
             (values base : ℕ) (ev : values ≡ length q.homes) (eb : base ≡ length homes3) (en : n ≡ length (head o).results) (em : m ≡ length (head o).operands)

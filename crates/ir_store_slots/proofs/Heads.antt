@@ -7,13 +7,13 @@ use Rattle.ir_store_slots.specs.Rows.{Row, row_at, live_slot, if_live}
 use Rattle.ir_store_slots.specs.Index.{slot_head, value_head}
 
 -- a value of an operation with a live slot has a head
-pub live_head : (rows : List Row) (keys : ℕ → Option ℕ) (v : Value) (h : ℕ) → value_head rows (live_slot rows keys) v ≡ Some h → value_head rows keys v ≡ Some h
-live_head rows keys v h e = go (keys (owner_of v).0) e
+pub live_head : (slots : List Row) (keys : ℕ → Option ℕ) (v : Value) (h : ℕ) → value_head slots (live_slot slots keys) v ≡ Some h → value_head slots keys v ≡ Some h
+live_head slots keys v h e = go (keys (owner_of v).0) e
   where
-    go : (o : Option ℕ) → option_and_then (slot_head rows v) (if_live rows o) ≡ Some h → option_and_then (slot_head rows v) o ≡ Some h
+    go : (o : Option ℕ) → option_and_then (slot_head slots v) (if_live slots o) ≡ Some h → option_and_then (slot_head slots v) o ≡ Some h
     go None f = absurd cc
-    go (Some q) f = test (row_at rows q).live f
+    go (Some q) f = test (row_at slots q).live f
       where
-        test : (b : Bool) → option_and_then (slot_head rows v) (if b then Some q else None) ≡ Some h → slot_head rows v q ≡ Some h
+        test : (b : Bool) → option_and_then (slot_head slots v) (if b then Some q else None) ≡ Some h → slot_head slots v q ≡ Some h
         test true g = g
         test false g = absurd cc

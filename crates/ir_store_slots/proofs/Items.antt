@@ -6,11 +6,11 @@ use Rattle.std.proofs.lemmas.Bool.Decides.{nat_tests}
 use Rattle.std.proofs.lemmas.List.{get_or-set_same, get_or-set_other}
 use Rattle.ir_store_slots.specs.Rows.{Row, row_at, no_row}
 
-pub other_row : (rows : List Row) (k : ℕ) (r : Row) (q : ℕ) → (q ≡ k → ⊥) → row_at (set rows k r) q ≡ row_at rows q
-other_row rows k r q ne = get_or-set_other rows k q r no_row ne
+pub other_row : (slots : List Row) (k : ℕ) (r : Row) (q : ℕ) → (q ≡ k → ⊥) → row_at (set slots k r) q ≡ row_at slots q
+other_row slots k r q ne = get_or-set_other slots k q r no_row ne
 
-pub own_row : (rows : List Row) (k : ℕ) (r : Row) → k < length rows → row_at (set rows k r) k ≡ r
-own_row rows k r l = get_or-set_same rows k r no_row l
+pub own_row : (slots : List Row) (k : ℕ) (r : Row) → k < length slots → row_at (set slots k r) k ≡ r
+own_row slots k r l = get_or-set_same slots k r no_row l
 
 pub on_ok : {X Y A B : Type 0} (r : Result X Y) → (A → B) → OnOk r A → OnOk r B
 on_ok (Ok x) f a = f a

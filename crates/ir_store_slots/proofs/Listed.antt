@@ -61,10 +61,10 @@ pub home_inside : (homes : List ℕ) (u h : ℕ) → home_at homes u ≡ h → (
 home_inside homes u h e n = ⊎_elim (λ l. l) (λ g. absurd (n (sym e ∙ get_or_past homes u free g))) (cases_lt u (length homes))
 
 -- the contents of the slots of both lists
-pub record AtNode (rows : List Row) (n : ℕ) (held : Bool) : Type 0 where
+pub record AtNode (slots : List Row) (n : ℕ) (held : Bool) : Type 0 where
   pub node : node_of_slot (n - 2) ≡ n
-  pub live : (row_at rows (n - 2)).live ≡ not held
-  pub inside : n - 2 < length rows
+  pub live : (row_at slots (n - 2)).live ≡ not held
+  pub inside : n - 2 < length slots
 
 held_row : (u l g : Bool) → home_of (if l then (if g then Some 1 else None) else (if u then Some 0 else None)) ≡ 0 → (u ≡ true) × (l ≡ false)
 held_row u true true e = absurd (omega (arith, e))
@@ -77,29 +77,29 @@ lacking_row u true g e = refl
 lacking_row true false g e = absurd (omega (arith, e))
 lacking_row false false g e = absurd (omega (arith, e))
 
-module _ (rows : List Row) (lists : List (List ℕ)) (homes : List ℕ) (laws : Laws lists homes) (m : Marked rows homes) where
+module _ (slots : List Row) (lists : List (List ℕ)) (homes : List ℕ) (laws : Laws lists homes) (m : Marked slots homes) where
   at_two : (n h : ℕ) → h < 2 → home_at homes n ≡ h → (n ≡ h → ⊥) → 2 ≤ n
   at_two zero h l e ne = absurd (ne (sym m.held.own ∙ e))
   at_two (suc zero) h l e ne = absurd (ne (sym m.lacking.own ∙ e))
   at_two (suc (suc n)) h l e ne = omega arith
 
-  pub held_node : (n : ℕ) → has n (list_at lists 0) ≡ true → AtNode rows n true
+  pub held_node : (n : ℕ) → has n (list_at lists 0) ≡ true → AtNode slots n true
   held_node n e =
       let w = laws.members 0 n e in
       let two = at_two n 0 (omega arith) w.0 w.1 in
       let same : node_of_slot (n - 2) ≡ n = omega (arith, two) in
-      let b = row_at rows (n - 2) in
+      let b = row_at slots (n - 2) in
       let r = held_row b.used b.live (has_gone b.gone) (sym (m.home (n - 2)) ∙ ap (home_at homes) same ∙ w.0) in
-      record { node = same; live = r.1; inside = used_inside rows (n - 2) (record { used = r.0 }) }
+      record { node = same; live = r.1; inside = used_inside slots (n - 2) (record { used = r.0 }) }
 
-  pub lacking_node : (n : ℕ) → has n (list_at lists 1) ≡ true → AtNode rows n false
+  pub lacking_node : (n : ℕ) → has n (list_at lists 1) ≡ true → AtNode slots n false
   lacking_node n e =
       let w = laws.members 1 n e in
       let two = at_two n 1 (omega arith) w.0 w.1 in
       let same : node_of_slot (n - 2) ≡ n = omega (arith, two) in
-      let b = row_at rows (n - 2) in
+      let b = row_at slots (n - 2) in
       let r = lacking_row b.used b.live (has_gone b.gone) (sym (m.home (n - 2)) ∙ ap (home_at homes) same ∙ w.0) in
-      record { node = same; live = r; inside = live_inside rows (n - 2) (record { live = r }) }
+      record { node = same; live = r; inside = live_inside slots (n - 2) (record { live = r }) }
 
   pub node_item : (n h : ℕ) → (h ≡ free → ⊥) → has n (list_at lists h) ≡ true → IsItem homes n
   node_item n h ne e =
@@ -112,71 +112,71 @@ module _ (rows : List Row) (lists : List (List ℕ)) (homes : List ℕ) (laws : 
       let it : IsItem homes (node_of_slot q) = record { inside = home_inside homes (node_of_slot q) h e (λ f. omega (arith, l, f)); linked = λ f. omega (arith, l, e, f); other = λ f. omega (arith, l, e, f) } in
       ap (λ z. has (node_of_slot q) (list_at lists z)) (sym e) ∙ laws.covers (node_of_slot q) it
 
-  pub not_given : (from q : ℕ) → has (node_of_slot q) (list_at lists 0) ≡ false → is_given from (row_at rows q) ≡ false
-  not_given from q e = go (row_at rows q).used (row_at rows q).live (not (nat_lt (row_at rows q).head.id from)) refl refl
+  pub not_given : (from q : ℕ) → has (node_of_slot q) (list_at lists 0) ≡ false → is_given from (row_at slots q) ≡ false
+  not_given from q e = go (row_at slots q).used (row_at slots q).live (not (nat_lt (row_at slots q).head.id from)) refl refl
     where
-      go : (u l b : Bool) → (row_at rows q).used ≡ u → (row_at rows q).live ≡ l → (u && (not l && b)) ≡ false
+      go : (u l b : Bool) → (row_at slots q).used ≡ u → (row_at slots q).live ≡ l → (u && (not l && b)) ≡ false
       go false l b f g = refl
       go true true b f g = refl
       go true false b f g =
-          let home : home_at homes (node_of_slot q) ≡ 0 = m.home q ∙ ap (λ z. home_of (if z then (if has_gone (row_at rows q).gone then Some 1 else None) else (if (row_at rows q).used then Some 0 else None))) g ∙ ap (λ z. home_of (if z then Some 0 else None)) f in
+          let home : home_at homes (node_of_slot q) ≡ 0 = m.home q ∙ ap (λ z. home_of (if z then (if has_gone (row_at slots q).gone then Some 1 else None) else (if (row_at slots q).used then Some 0 else None))) g ∙ ap (λ z. home_of (if z then Some 0 else None)) f in
           absurd (false≢true (sym e ∙ listed q 0 (omega arith) home))
 
   -- a released slot is in the list of held operations
-  pub given_listed : (from q : ℕ) → is_given from (row_at rows q) ≡ true → has (node_of_slot q) (list_at lists 0) ≡ true
+  pub given_listed : (from q : ℕ) → is_given from (row_at slots q) ≡ true → has (node_of_slot q) (list_at lists 0) ≡ true
   given_listed from q g = go (has (node_of_slot q) (list_at lists 0)) refl
     where
       go : (b : Bool) → has (node_of_slot q) (list_at lists 0) ≡ b → has (node_of_slot q) (list_at lists 0) ≡ true
       go true e = e
       go false e = absurd (false≢true (sym (not_given from q e) ∙ g))
 
-  pub not_lacking : (q : ℕ) → has (node_of_slot q) (list_at lists 1) ≡ false → forgetting (row_at rows q) ≡ row_at rows q
-  not_lacking q e = go (row_at rows q).live (has_gone (row_at rows q).gone) refl refl
+  pub not_lacking : (q : ℕ) → has (node_of_slot q) (list_at lists 1) ≡ false → forgetting (row_at slots q) ≡ row_at slots q
+  not_lacking q e = go (row_at slots q).live (has_gone (row_at slots q).gone) refl refl
     where
       none : (x y : List ℕ) → (nat_lt 0 (length x) || nat_lt 0 (length y)) ≡ false → ◌≡◌ {A = Gone} none_gone (record { properties = x; attributes = y })
       none [] [] f = refl
       none [] (y ∷ ys) f = absurd (false≢true (sym f ∙ or_right (nat_lt 0 0) (nat_lt 0 (length (y ∷ ys))) (positive (length ys))))
       none (x ∷ xs) ys f = absurd (false≢true (sym f ∙ or_left (nat_lt 0 (length (x ∷ xs))) (nat_lt 0 (length ys)) (positive (length xs))))
 
-      go : (l b : Bool) → (row_at rows q).live ≡ l → has_gone (row_at rows q).gone ≡ b → (if l then record (row_at rows q) { gone = none_gone } else row_at rows q) ≡ row_at rows q
+      go : (l b : Bool) → (row_at slots q).live ≡ l → has_gone (row_at slots q).gone ≡ b → (if l then record (row_at slots q) { gone = none_gone } else row_at slots q) ≡ row_at slots q
       go false b f g = refl
-      go true false f g = ap {A = Gone} {B = Row} (λ z. record (row_at rows q) { gone = z }) (none (row_at rows q).gone.properties (row_at rows q).gone.attributes g)
+      go true false f g = ap {A = Gone} {B = Row} (λ z. record (row_at slots q) { gone = z }) (none (row_at slots q).gone.properties (row_at slots q).gone.attributes g)
       go true true f g =
-          let home : home_at homes (node_of_slot q) ≡ 1 = m.home q ∙ ap (λ z. home_of (if z then (if has_gone (row_at rows q).gone then Some 1 else None) else (if (row_at rows q).used then Some 0 else None))) f ∙ ap (λ z. home_of (if z then Some 1 else None)) g in
+          let home : home_at homes (node_of_slot q) ≡ 1 = m.home q ∙ ap (λ z. home_of (if z then (if has_gone (row_at slots q).gone then Some 1 else None) else (if (row_at slots q).used then Some 0 else None))) f ∙ ap (λ z. home_of (if z then Some 1 else None)) g in
           absurd (false≢true (sym e ∙ listed q 1 (omega arith) home))
 
 -- the held operations, one by one: those after some position of the list remain to be visited
-pub record Sweeps (from : ℕ) (rows new : List Row) (keys left : ℕ → Option ℕ) (list homes : List ℕ) (at : Option ℕ) : Type 0 where
+pub record Sweeps (from : ℕ) (slots new : List Row) (keys left : ℕ → Option ℕ) (list homes : List ℕ) (at : Option ℕ) : Type 0 where
   pub preceding : List ℕ
   pub rest : List ℕ
   pub split : list ≡ preceding ++ rest
   pub here : at ≡ slice_get rest 0
   pub marked : Marked new homes
-  pub some : ReleasesSome from (λ q. not (has (node_of_slot q) rest)) rows new keys left
+  pub some : ReleasesSome from (λ q. not (has (node_of_slot q) rest)) slots new keys left
 
-pub sweeps_start : (from : ℕ) (rows : List Row) (keys : ℕ → Option ℕ) → IsKeyed rows keys → (lists : List (List ℕ)) (homes : List ℕ) → Laws lists homes → Marked rows homes → (at : Option ℕ) → at ≡ slice_get (list_at lists 0) 0
-    → Sweeps from rows rows keys keys (list_at lists 0) homes at
-sweeps_start from rows keys kd lists homes laws m at e = record {
+pub sweeps_start : (from : ℕ) (slots : List Row) (keys : ℕ → Option ℕ) → IsKeyed slots keys → (lists : List (List ℕ)) (homes : List ℕ) → Laws lists homes → Marked slots homes → (at : Option ℕ) → at ≡ slice_get (list_at lists 0) 0
+    → Sweeps from slots slots keys keys (list_at lists 0) homes at
+sweeps_start from slots keys kd lists homes laws m at e = record {
   preceding = [];
   rest = list_at lists 0;
   split = refl;
   here = e;
   marked = m;
-  some = sweep_start from rows keys kd (λ q. not (has (node_of_slot q) (list_at lists 0))) (λ q f. not_given rows lists homes laws m from q (not-true (has (node_of_slot q) (list_at lists 0)) f));
+  some = sweep_start from slots keys kd (λ q. not (has (node_of_slot q) (list_at lists 0))) (λ q f. not_given slots lists homes laws m from q (not-true (has (node_of_slot q) (list_at lists 0)) f));
 }
 
-pub sweeps_end : (from : ℕ) (rows new : List Row) (keys left : ℕ → Option ℕ) → IsKeyed rows keys → (list homes : List ℕ) (at : Option ℕ) → at ≡ None → Sweeps from rows new keys left list homes at → GivenUp from rows new keys left
-sweeps_end from rows new keys left kd list homes at e s =
+pub sweeps_end : (from : ℕ) (slots new : List Row) (keys left : ℕ → Option ℕ) → IsKeyed slots keys → (list homes : List ℕ) (at : Option ℕ) → at ≡ None → Sweeps from slots new keys left list homes at → GivenUp from slots new keys left
+sweeps_end from slots new keys left kd list homes at e s =
     let none : s.rest ≡ [] = go s.rest (sym s.here ∙ e) in
-    sweep_all from rows keys kd (λ q. not (has (node_of_slot q) s.rest)) new left (λ q. ap (λ z. not (has (node_of_slot q) z)) none) s.some
+    sweep_all from slots keys kd (λ q. not (has (node_of_slot q) s.rest)) new left (λ q. ap (λ z. not (has (node_of_slot q) z)) none) s.some
   where
     go : (xs : List ℕ) → slice_get xs 0 ≡ None → xs ≡ []
     go [] f = refl
     go (x ∷ xs) f = absurd cc
 
 -- the next held operation
-module _ (from : ℕ) (rows new : List Row) (keys : ℕ → Option ℕ) (left : finmap.FinMap nat_cmp ℕ) (kd : IsKeyed rows keys) (lists : List (List ℕ)) (homes : List ℕ) (laws : Laws lists homes) (n : ℕ)
-    (s : Sweeps from rows new keys (finmap.get left) (list_at lists 0) homes (Some n)) where
+module _ (from : ℕ) (slots new : List Row) (keys : ℕ → Option ℕ) (left : finmap.FinMap nat_cmp ℕ) (kd : IsKeyed slots keys) (lists : List (List ℕ)) (homes : List ℕ) (laws : Laws lists homes) (n : ℕ)
+    (s : Sweeps from slots new keys (finmap.get left) (list_at lists 0) homes (Some n)) where
   abbrev Next : Type 0
   Next = (ys : List ℕ) × (s.rest ≡ n ∷ ys)
 
@@ -239,14 +239,14 @@ module _ (from : ℕ) (rows new : List Row) (keys : ℕ → Option ℕ) (left : 
         let f : from_slot (Some n) (list_at lists 0) ≡ n ∷ ys = ap (from_slot (Some n)) whole ∙ from_part s.preceding (n ∷ ys) once in
         omega (arith, ap length e, ap length f)
 
-    pub sweep_on : (new2 : List Row) (left2 : finmap.FinMap nat_cmp ℕ) (homes2 : List ℕ) → ReleasesSlot from (n - 2) new new2 left left2 → Marked new2 homes2 → Sweeps from rows new2 keys (finmap.get left2) list homes2 at
+    pub sweep_on : (new2 : List Row) (left2 : finmap.FinMap nat_cmp ℕ) (homes2 : List ℕ) → ReleasesSlot from (n - 2) new new2 left left2 → Marked new2 homes2 → Sweeps from slots new2 keys (finmap.get left2) list homes2 at
     sweep_on new2 left2 homes2 r m = record {
       preceding = parts.0;
       rest = ys;
       split = parts.1.0;
       here = ahead;
       marked = m;
-      some = sweep_step from rows keys kd (λ q. not (has (node_of_slot q) s.rest)) new left s.some (n - 2)
+      some = sweep_step from slots keys kd (λ q. not (has (node_of_slot q) s.rest)) new left s.some (n - 2)
           (ap not (ap (λ z. has z s.rest) at_node.node ∙ ap (has n) next_of.1 ∙ ap (λ z. z || has n ys) (eq-eqb n n refl)))
           new2 left2 r (λ q. not (has (node_of_slot q) ys))
           (ap not (ap (λ z. has z ys) at_node.node ∙ once_part n s.preceding ys once))
@@ -254,29 +254,29 @@ module _ (from : ℕ) (rows new : List Row) (keys : ℕ → Option ℕ) (left : 
     }
 
 -- one held operation: its row is written, and its slot leaves the list if it is released
-pub node_marked : (from : ℕ) (rows new : List Row) (keys left : finmap.FinMap nat_cmp ℕ) (lists : List (List ℕ)) (homes homes2 : List ℕ) → Laws lists homes → Marked rows homes → (n : ℕ) → has n (list_at lists 0) ≡ true
-    → ReleasesSlot from (n - 2) rows new keys left → (b : Bool) → is_given from (row_at rows (n - 2)) ≡ b → homes2 ≡ (if b then set homes n free else homes) → Marked new homes2
-node_marked from rows new keys left lists homes homes2 laws m n e r true g eh =
-    let a = held_node rows lists homes laws m n e in
-    let it = node_item rows lists homes laws m n 0 (λ f. omega (arith, f)) e in
-    let own : row_at new (n - 2) ≡ vacated (row_at rows (n - 2)) = r.own ∙ ap {A = Bool} {B = Row} (λ c. if c then vacated (row_at rows (n - 2)) else row_at rows (n - 2)) g in
+pub node_marked : (from : ℕ) (slots new : List Row) (keys left : finmap.FinMap nat_cmp ℕ) (lists : List (List ℕ)) (homes homes2 : List ℕ) → Laws lists homes → Marked slots homes → (n : ℕ) → has n (list_at lists 0) ≡ true
+    → ReleasesSlot from (n - 2) slots new keys left → (b : Bool) → is_given from (row_at slots (n - 2)) ≡ b → homes2 ≡ (if b then set homes n free else homes) → Marked new homes2
+node_marked from slots new keys left lists homes homes2 laws m n e r true g eh =
+    let a = held_node slots lists homes laws m n e in
+    let it = node_item slots lists homes laws m n 0 (λ f. omega (arith, f)) e in
+    let own : row_at new (n - 2) ≡ vacated (row_at slots (n - 2)) = r.own ∙ ap {A = Bool} {B = Row} (λ c. if c then vacated (row_at slots (n - 2)) else row_at slots (n - 2)) g in
     let none : mark (row_at new (n - 2)) ≡ None = ap mark own ∙ ap (λ l. if l then (if has_gone none_gone then Some 1 else None) else None) a.live in
-    marked_edit rows new homes homes2 (n - 2) m (omega (arith, it.inside, a.node)) r.others
+    marked_edit slots new homes homes2 (n - 2) m (omega (arith, it.inside, a.node)) r.others
     (eh ∙ ap (λ z. set homes z free) (sym a.node) ∙ ap (λ z. set homes (node_of_slot (n - 2)) (home_of z)) (sym none))
-node_marked from rows new keys left lists homes homes2 laws m n e r false g eh =
-    let same : (q : ℕ) → row_at new q ≡ row_at rows q = λ q. ⊎_elim
-    (λ z. ap (row_at new) z ∙ r.own ∙ ap {A = Bool} {B = Row} (λ c. if c then vacated (row_at rows (n - 2)) else row_at rows (n - 2)) g ∙ ap (row_at rows) (sym z))
+node_marked from slots new keys left lists homes homes2 laws m n e r false g eh =
+    let same : (q : ℕ) → row_at new q ≡ row_at slots q = λ q. ⊎_elim
+    (λ z. ap (row_at new) z ∙ r.own ∙ ap {A = Bool} {B = Row} (λ c. if c then vacated (row_at slots (n - 2)) else row_at slots (n - 2)) g ∙ ap (row_at slots) (sym z))
     (λ z. r.others q z) (cases_eq q (n - 2)) in
-    subst (Marked new) (sym eh) (marked_same rows new homes m (λ q. ap mark (same q)) (λ q. ap (λ z. z.used) (same q)))
+    subst (Marked new) (sym eh) (marked_same slots new homes m (λ q. ap mark (same q)) (λ q. ap (λ z. z.used) (same q)))
 
 -- the slots of removed keys, operation by operation
-pub record Forgot (rows new : List Row) (homes : List ℕ) : Type 0 where
-  pub long : length new ≡ length rows
-  pub same : (q : ℕ) → forgetting (row_at new q) ≡ forgetting (row_at rows q)
+pub record Forgot (slots new : List Row) (homes : List ℕ) : Type 0 where
+  pub long : length new ≡ length slots
+  pub same : (q : ℕ) → forgetting (row_at new q) ≡ forgetting (row_at slots q)
   pub marked : Marked new homes
 
-pub forgot_end : (rows new : List Row) (lists : List (List ℕ)) (homes : List ℕ) → Laws lists homes → Forgot rows new homes → None ≡ slice_get (list_at lists 1) 0 → Forgets rows new
-forgot_end rows new lists homes laws f e = record {
+pub forgot_end : (slots new : List Row) (lists : List (List ℕ)) (homes : List ℕ) → Laws lists homes → Forgot slots new homes → None ≡ slice_get (list_at lists 1) 0 → Forgets slots new
+forgot_end slots new lists homes laws f e = record {
   long = f.long;
   all = λ q. sym (not_lacking new lists homes laws f.marked q (ap (has (node_of_slot q)) (go (list_at lists 1) e))) ∙ f.same q;
 }
@@ -285,7 +285,7 @@ forgot_end rows new lists homes laws f e = record {
     go [] g = refl
     go (x ∷ xs) g = absurd cc
 
-module _ (rows : List Row) (items : List Row) (lists : List (List ℕ)) (homes : List ℕ) (laws : Laws lists homes) (n : ℕ) (en : Some n ≡ slice_get (list_at lists 1) 0) (f : Forgot rows items homes) where
+module _ (slots : List Row) (items : List Row) (lists : List (List ℕ)) (homes : List ℕ) (laws : Laws lists homes) (n : ℕ) (en : Some n ≡ slice_get (list_at lists 1) 0) (f : Forgot slots items homes) where
   head_is : (ys : List ℕ) × (list_at lists 1 ≡ n ∷ ys)
   head_is = go (list_at lists 1) en
     where
@@ -326,14 +326,14 @@ module _ (rows : List Row) (items : List Row) (lists : List (List ℕ)) (homes :
     none : mark (row_at new (n - 2)) ≡ None
     none = ap mark own ∙ ap (λ l. if l then None else (if (row_at items (n - 2)).used then Some 0 else None)) lack_node.live
 
-    pub forget_on : Forgot rows new homes2
+    pub forget_on : Forgot slots new homes2
     forget_on = record {
       long = ap length en2 ∙ length-set items (n - 2) (record (row_at items (n - 2)) { gone = none_gone }) ∙ f.long;
       same = λ q. ⊎_elim
           (λ z. ap (λ w. forgetting (row_at new w)) z ∙ ap forgetting own
           ∙ ap {A = Bool} {B = Row} (λ l. if l then record (row_at items (n - 2)) { gone = none_gone } else record (row_at items (n - 2)) { gone = none_gone }) lack_node.live
           ∙ sym (ap {A = Bool} {B = Row} (λ l. if l then record (row_at items (n - 2)) { gone = none_gone } else row_at items (n - 2)) lack_node.live)
-          ∙ f.same (n - 2) ∙ ap (λ w. forgetting (row_at rows w)) (sym z))
+          ∙ f.same (n - 2) ∙ ap (λ w. forgetting (row_at slots w)) (sym z))
           (λ z. ap forgetting (other q z) ∙ f.same q)
           (cases_eq q (n - 2));
       marked = marked_edit items new homes homes2 (n - 2) f.marked (let w = lack_node.node in omega (arith, w, forget_item.inside)) other
@@ -341,33 +341,33 @@ module _ (rows : List Row) (items : List Row) (lists : List (List ℕ)) (homes :
     }
 
 -- both
-pub released_some : (from : ℕ) (rows new : List Row) (keys left : ℕ → Option ℕ) → eqb from 0 ≡ false → GivenUp from rows new keys left → Released from rows new keys left
-released_some from rows new keys left z g = record {
+pub released_some : (from : ℕ) (slots new : List Row) (keys left : ℕ → Option ℕ) → eqb from 0 ≡ false → GivenUp from slots new keys left → Released from slots new keys left
+released_some from slots new keys left z g = record {
   long = g.long;
-  all = λ q. g.all q ∙ go q (is_given from (row_at rows q)) (row_at rows q).live;
+  all = λ q. g.all q ∙ go q (is_given from (row_at slots q)) (row_at slots q).live;
   key = g.key;
 }
   where
-    go : (q : ℕ) (c l : Bool) → (if c then vacated (row_at rows q) else row_at rows q) ≡ (if c then vacated (row_at rows q) else (if l && eqb from 0 then record (row_at rows q) { gone = none_gone } else row_at rows q))
+    go : (q : ℕ) (c l : Bool) → (if c then vacated (row_at slots q) else row_at slots q) ≡ (if c then vacated (row_at slots q) else (if l && eqb from 0 then record (row_at slots q) { gone = none_gone } else row_at slots q))
     go q true l = refl
     go q false false = refl
-    go q false true = sym (ap {A = Bool} {B = Row} (λ b. if b then record (row_at rows q) { gone = none_gone } else row_at rows q) z)
+    go q false true = sym (ap {A = Bool} {B = Row} (λ b. if b then record (row_at slots q) { gone = none_gone } else row_at slots q) z)
 
-pub released_all : (from : ℕ) (rows new new2 : List Row) (keys left : ℕ → Option ℕ) → eqb from 0 ≡ true → GivenUp from rows new keys left → Forgets new new2 → Released from rows new2 keys left
-released_all from rows new new2 keys left z g f = record {
+pub released_all : (from : ℕ) (slots new new2 : List Row) (keys left : ℕ → Option ℕ) → eqb from 0 ≡ true → GivenUp from slots new keys left → Forgets new new2 → Released from slots new2 keys left
+released_all from slots new new2 keys left z g f = record {
   long = f.long ∙ g.long;
-  all = λ q. f.all q ∙ ap forgetting (g.all q) ∙ go q (is_given from (row_at rows q)) (row_at rows q).live refl refl;
+  all = λ q. f.all q ∙ ap forgetting (g.all q) ∙ go q (is_given from (row_at slots q)) (row_at slots q).live refl refl;
   key = g.key;
 }
   where
-    go : (q : ℕ) (c l : Bool) → is_given from (row_at rows q) ≡ c → (row_at rows q).live ≡ l → forgetting (if c then vacated (row_at rows q) else row_at rows q)
-        ≡ (if c then vacated (row_at rows q) else (if l && eqb from 0 then record (row_at rows q) { gone = none_gone } else row_at rows q))
-    go q true l e h = ap {A = Bool} {B = Row} (λ b. if b then record (vacated (row_at rows q)) { gone = none_gone } else vacated (row_at rows q)) (given_live (row_at rows q).used (row_at rows q).live (not (nat_lt (row_at rows q).head.id from)) e)
+    go : (q : ℕ) (c l : Bool) → is_given from (row_at slots q) ≡ c → (row_at slots q).live ≡ l → forgetting (if c then vacated (row_at slots q) else row_at slots q)
+        ≡ (if c then vacated (row_at slots q) else (if l && eqb from 0 then record (row_at slots q) { gone = none_gone } else row_at slots q))
+    go q true l e h = ap {A = Bool} {B = Row} (λ b. if b then record (vacated (row_at slots q)) { gone = none_gone } else vacated (row_at slots q)) (given_live (row_at slots q).used (row_at slots q).live (not (nat_lt (row_at slots q).head.id from)) e)
       where
         given_live : (u l b : Bool) → (u && (not l && b)) ≡ true → l ≡ false
         given_live true false b e = refl
         given_live true true b e = absurd (false≢true e)
         given_live false l b e = absurd (false≢true e)
-    go q false false e h = ap {A = Bool} {B = Row} (λ b. if b then record (row_at rows q) { gone = none_gone } else row_at rows q) h
-    go q false true e h = ap {A = Bool} {B = Row} (λ b. if b then record (row_at rows q) { gone = none_gone } else row_at rows q) h
-        ∙ sym (ap {A = Bool} {B = Row} (λ b. if b then record (row_at rows q) { gone = none_gone } else row_at rows q) z)
+    go q false false e h = ap {A = Bool} {B = Row} (λ b. if b then record (row_at slots q) { gone = none_gone } else row_at slots q) h
+    go q false true e h = ap {A = Bool} {B = Row} (λ b. if b then record (row_at slots q) { gone = none_gone } else row_at slots q) h
+        ∙ sym (ap {A = Bool} {B = Row} (λ b. if b then record (row_at slots q) { gone = none_gone } else row_at slots q) z)

@@ -28,11 +28,11 @@ apart : (u k : ℕ) → (u ≡ k → ⊥) → node_of_slot u ≡ node_of_slot k 
 apart u k n e = n (omega (arith, e))
 
 -- another row is written into a slot
-pub marked_edit : (rows rows' : List Row) (marks marks' : List ℕ) (k : ℕ) → Marked rows marks → node_of_slot k < length marks → ((q : ℕ) → (q ≡ k → ⊥) → row_at rows' q ≡ row_at rows q)
-    → marks' ≡ set marks (node_of_slot k) (home_of (mark (row_at rows' k))) → Marked rows' marks'
-marked_edit rows rows' marks marks' k m inside same e =
-    let long : length marks' ≡ length marks = ap length e ∙ length-set marks (node_of_slot k) (home_of (mark (row_at rows' k))) in
-    let at : (u : ℕ) → (u ≡ node_of_slot k → ⊥) → home_at marks' u ≡ home_at marks u = λ u n. ap (λ z. home_at z u) e ∙ get_or-set_other marks (node_of_slot k) u (home_of (mark (row_at rows' k))) free n in
+pub marked_edit : (slots slots' : List Row) (marks marks' : List ℕ) (k : ℕ) → Marked slots marks → node_of_slot k < length marks → ((q : ℕ) → (q ≡ k → ⊥) → row_at slots' q ≡ row_at slots q)
+    → marks' ≡ set marks (node_of_slot k) (home_of (mark (row_at slots' k))) → Marked slots' marks'
+marked_edit slots slots' marks marks' k m inside same e =
+    let long : length marks' ≡ length marks = ap length e ∙ length-set marks (node_of_slot k) (home_of (mark (row_at slots' k))) in
+    let at : (u : ℕ) → (u ≡ node_of_slot k → ⊥) → home_at marks' u ≡ home_at marks u = λ u n. ap (λ z. home_at z u) e ∙ get_or-set_other marks (node_of_slot k) u (home_of (mark (row_at slots' k))) free n in
     record {
       held = record { inside = omega (arith, m.held.inside, long); own = at 0 (λ z. omega (arith, z)) ∙ m.held.own };
       lacking = record { inside = omega (arith, m.lacking.inside, long); own = at 1 (λ z. omega (arith, z)) ∙ m.lacking.own };
@@ -41,14 +41,14 @@ marked_edit rows rows' marks marks' k m inside same e =
           (λ n. let w = m.inside q (record { used = sym (ap (λ z. z.used) (same q n)) ∙ u.used }) in omega (arith, w, long))
           (cases_eq q k);
       home = λ q. ⊎_elim
-          (λ z. ap (λ w. home_at marks' (node_of_slot w)) z ∙ ap (λ w. home_at w (node_of_slot k)) e ∙ get_or-set_same marks (node_of_slot k) (home_of (mark (row_at rows' k))) free inside ∙ ap (λ w. home_of (mark (row_at rows' w))) (sym z))
+          (λ z. ap (λ w. home_at marks' (node_of_slot w)) z ∙ ap (λ w. home_at w (node_of_slot k)) e ∙ get_or-set_same marks (node_of_slot k) (home_of (mark (row_at slots' k))) free inside ∙ ap (λ w. home_of (mark (row_at slots' w))) (sym z))
           (λ n. at (node_of_slot q) (apart q k n) ∙ m.home q ∙ ap (λ r. home_of (mark r)) (sym (same q n)))
           (cases_eq q k);
     }
 
 -- rows are written that belong to the same lists
-pub marked_same : (rows rows' : List Row) (marks : List ℕ) → Marked rows marks → ((q : ℕ) → mark (row_at rows' q) ≡ mark (row_at rows q)) → ((q : ℕ) → (row_at rows' q).used ≡ (row_at rows q).used) → Marked rows' marks
-marked_same rows rows' marks m same used = record {
+pub marked_same : (slots slots' : List Row) (marks : List ℕ) → Marked slots marks → ((q : ℕ) → mark (row_at slots' q) ≡ mark (row_at slots q)) → ((q : ℕ) → (row_at slots' q).used ≡ (row_at slots q).used) → Marked slots' marks
+marked_same slots slots' marks m same used = record {
   held = m.held;
   lacking = m.lacking;
   inside = λ q u. m.inside q (record { used = sym (used q) ∙ u.used });
@@ -56,8 +56,8 @@ marked_same rows rows' marks m same used = record {
 }
 
 -- more nodes are added
-pub marked_more : (rows : List Row) (marks more : List ℕ) → Marked rows marks → Reaches marks more → Marked rows more
-marked_more rows marks more m r = record {
+pub marked_more : (slots : List Row) (marks more : List ℕ) → Marked slots marks → Reaches marks more → Marked slots more
+marked_more slots marks more m r = record {
   held = record { inside = omega (arith, m.held.inside, r.longer); own = r.same 0 ∙ m.held.own };
   lacking = record { inside = omega (arith, m.lacking.inside, r.longer); own = r.same 1 ∙ m.lacking.own };
   inside = λ q u. let w = m.inside q u in omega (arith, w, r.longer);
@@ -82,16 +82,16 @@ low_mark b = go b.used b.live (has_gone b.gone)
     go u true true = inr (omega arith)
     go u true false = inl refl
 
-pub can_mark : (rows : List Row) (marks : List ℕ) (k : ℕ) → Marked rows marks → node_of_slot k < length marks → CanMark marks k
-can_mark rows marks k m l = record {
+pub can_mark : (slots : List Row) (marks : List ℕ) (k : ℕ) → Marked slots marks → node_of_slot k < length marks → CanMark marks k
+can_mark slots marks k m l = record {
   held = m.held;
   lacking = m.lacking;
   inside = l;
-  low = subst (λ z. (z ≡ free) ⊎ (z < 2)) (sym (m.home k)) (low_mark (row_at rows k));
+  low = subst (λ z. (z ≡ free) ⊎ (z < 2)) (sym (m.home k)) (low_mark (row_at slots k));
 }
 
-pub can_mark_used : (rows : List Row) (marks : List ℕ) (k : ℕ) → Marked rows marks → Used rows k → CanMark marks k
-can_mark_used rows marks k m u = can_mark rows marks k m (m.inside k u)
+pub can_mark_used : (slots : List Row) (marks : List ℕ) (k : ℕ) → Marked slots marks → Used slots k → CanMark marks k
+can_mark_used slots marks k m u = can_mark slots marks k m (m.inside k u)
 
 pub can_put : (marks : List ℕ) (k : ℕ) (b : Row) (u : ℕ) (list : Option ℕ) → length marks < free → u ≡ node_of_slot k → list ≡ mark b → CanMark marks k → CanPut marks u list
 can_put marks k b u list few eu el c = subst (λ z. CanPut marks z list) (sym eu) (subst (CanPut marks (node_of_slot k)) (sym el) (record {
@@ -140,5 +140,5 @@ marked_none marks more e r =
       home = λ q. f.same (node_of_slot q);
     }
 
-pub grow_there : (k : ℕ) (rows : List Row) (marks : List ℕ) (count : ℕ) → k < length rows → count ≡ length rows → suc count < length marks → node_of_slot k < length marks
-grow_there k rows marks count l e t = omega (arith, l, e, t)
+pub grow_there : (k : ℕ) (slots : List Row) (marks : List ℕ) (count : ℕ) → k < length slots → count ≡ length slots → suc count < length marks → node_of_slot k < length marks
+grow_there k slots marks count l e t = omega (arith, l, e, t)

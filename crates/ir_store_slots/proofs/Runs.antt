@@ -136,21 +136,21 @@ module _ (p : Parts) (even : IsEven p) (heads : Bool) (row n : ℕ) (homes' : Li
   })
 
 -- the parts with a slot added
-module _ (p : Parts) (even : IsEven p) (heads : Bool) (w : Row) (rows' : List Row) (sibs' : Lists) (a : AddsSlot heads w p.rows rows' p.sibs sibs') where
+module _ (p : Parts) (even : IsEven p) (heads : Bool) (w : Row) (slots' : List Row) (sibs' : Lists) (a : AddsSlot heads w p.slots slots' p.sibs sibs') where
   abbrev pub slotted : Parts
-  slotted = record p { rows = rows'; sibs = sibs' }
+  slotted = record p { slots = slots'; sibs = sibs' }
 
-  rows_long : length rows' ≡ length p.rows + 1
-  rows_long = ap length a.row ∙ push_long p.rows w no_row
+  rows_long : length slots' ≡ length p.slots + 1
+  rows_long = ap length a.row ∙ push_long p.slots w no_row
 
   homes_long : length sibs'.homes ≡ length p.sibs.homes + 1
   homes_long = ap length a.homes ∙ push_long p.sibs.homes (if heads then length p.sibs.homes else free) free
 
-  pub slot_row : row_at rows' (length p.rows) ≡ w
-  slot_row = ap (λ z. row_at z (length p.rows)) a.row ∙ push_new p.rows w no_row (length p.rows) refl
+  pub slot_row : row_at slots' (length p.slots) ≡ w
+  slot_row = ap (λ z. row_at z (length p.slots)) a.row ∙ push_new p.slots w no_row (length p.slots) refl
 
-  pub slot_home : home_at sibs'.homes (length p.rows) ≡ (if heads then length p.rows else free)
-  slot_home = ap (λ z. home_at z (length p.rows)) a.homes ∙ push_new p.sibs.homes (if heads then length p.sibs.homes else free) free (length p.rows) even.long ∙ ap (λ z. if heads then z else free) (sym even.long)
+  pub slot_home : home_at sibs'.homes (length p.slots) ≡ (if heads then length p.slots else free)
+  slot_home = ap (λ z. home_at z (length p.slots)) a.homes ∙ push_new p.sibs.homes (if heads then length p.sibs.homes else free) free (length p.slots) even.long ∙ ap (λ z. if heads then z else free) (sym even.long)
 
   lists_same : (k : ℕ) → list_at sibs'.lists k ≡ list_at p.sibs.lists k
   lists_same k = ap (λ z. list_at z k) a.lists ∙ ⊎_elim
@@ -165,13 +165,13 @@ module _ (p : Parts) (even : IsEven p) (heads : Bool) (w : Row) (rows' : List Ro
   slot_wide eu el = record {
     even = record { long = rows_long ∙ ap (λ z. z + 1) even.long ∙ sym homes_long; lists = ap length a.lists ∙ push_long p.sibs.lists [] [] ∙ ap (λ z. z + 1) even.lists ∙ sym homes_long; counted = even.counted };
     more = omega (arith, rows_long);
-    row = λ k l. ap (λ z. row_at z k) a.row ∙ push_old p.rows w no_row k l;
+    row = λ k l. ap (λ z. row_at z k) a.row ∙ push_old p.slots w no_row k l;
     spare = λ k l. ⊎_elim
-        (λ e. let f = ap (row_at rows') e ∙ slot_row in record { used = ap (λ z. z.used) f ∙ eu; live = ap (λ z. z.live) f ∙ el })
+        (λ e. let f = ap (row_at slots') e ∙ slot_row in record { used = ap (λ z. z.used) f ∙ eu; live = ap (λ z. z.live) f ∙ el })
         (λ ne.
-        let f = ap (λ z. row_at z k) a.row ∙ push_past p.rows w no_row k (omega (arith, l, ne)) in
+        let f = ap (λ z. row_at z k) a.row ∙ push_past p.slots w no_row k (omega (arith, l, ne)) in
         record { used = ap (λ z. z.used) f; live = ap (λ z. z.live) f })
-        (cases_eq k (length p.rows));
+        (cases_eq k (length p.slots));
     lists = lists_same;
     home = λ k l. ap (λ z. home_at z k) a.homes ∙ push_old p.sibs.homes (if heads then length p.sibs.homes else free) free k (omega (arith, l, even.long));
     uses_more = omega arith;
@@ -180,8 +180,8 @@ module _ (p : Parts) (even : IsEven p) (heads : Bool) (w : Row) (rows' : List Ro
     cell = λ u l. refl;
   }
 
-pub keep_wide : (p : Parts) → IsEven p → (rows' : List Row) (sibs' : Lists) → KeepsSlots p.rows rows' p.sibs sibs' → Wider p (record p { rows = rows'; sibs = sibs' })
-keep_wide p even rows' sibs' k = subst (λ z. Wider p (record p { rows = z; sibs = sibs' })) (sym k.same) (subst (λ z. Wider p (record p { sibs = z })) (sym k.kept) (wide_same p even))
+pub keep_wide : (p : Parts) → IsEven p → (slots' : List Row) (sibs' : Lists) → KeepsSlots p.slots slots' p.sibs sibs' → Wider p (record p { slots = slots'; sibs = sibs' })
+keep_wide p even slots' sibs' k = subst (λ z. Wider p (record p { slots = z; sibs = sibs' })) (sym k.same) (subst (λ z. Wider p (record p { sibs = z })) (sym k.kept) (wide_same p even))
 
 pub cells_push : (cells : List UseNode) (more : List UseNode) (c : UseNode) → more ≡ cells ++ c ∷ [] → cells_of more ≡ cells_of cells ++ (c.row, c.place) ∷ []
 cells_push cells more c e = ap cells_of e ∙ map-append (λ z. (z.row, z.place)) cells (c ∷ [])

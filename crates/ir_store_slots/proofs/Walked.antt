@@ -120,13 +120,13 @@ lt_le d b m = grind (arith, nat_tests)
 le_lt : (d m : ℕ) → nat_le d m ≡ nat_lt d (suc m)
 le_lt d m = grind (arith, nat_tests)
 
-module _ (rows : List Row) (lists : List (List ℕ)) where
+module _ (slots : List Row) (lists : List (List ℕ)) where
   mutual
-    pub fits_is : (n k : ℕ) (t : Op) → SpellsOp rows lists k t → slot_fits rows lists n k ≡ nat_lt (depth t) n
+    pub fits_is : (n k : ℕ) (t : Op) → SpellsOp slots lists k t → slot_fits slots lists n k ≡ nat_lt (depth t) n
     fits_is zero k (op h rs) s = sym (below_none (regions_depth rs))
-    fits_is (suc n) k (op h rs) s = (λ i. s.0 i && regions_fit n (row_at rows k).shapes rs s.1.1 i) ∙ le_lt (regions_depth rs) n
+    fits_is (suc n) k (op h rs) s = (λ i. s.0 i && regions_fit n (row_at slots k).shapes rs s.1.1 i) ∙ le_lt (regions_depth rs) n
 
-    regions_fit : (n : ℕ) (xs : List RegionShape) (rs : Regions) → SpellsRegions rows lists xs rs → shapes_pass lists (slot_fits rows lists n) xs ≡ nat_le (regions_depth rs) n
+    regions_fit : (n : ℕ) (xs : List RegionShape) (rs : Regions) → SpellsRegions slots lists xs rs → shapes_pass lists (slot_fits slots lists n) xs ≡ nat_le (regions_depth rs) n
     regions_fit n [] no_regions s = sym (zero_le n)
     regions_fit n [] (region g rs) s = absurd s
     regions_fit n (a ∷ xs) no_regions s = absurd s
@@ -135,15 +135,15 @@ module _ (rows : List Row) (lists : List (List ℕ)) where
     regions_fit n (Some a ∷ xs) (region empty rs) s = absurd s.0
     regions_fit n (Some a ∷ xs) (region (block args os) rs) s = (λ i. ops_fit n (list_at lists a.1) os s.0.1 i && regions_fit n xs rs s.1 i) ∙ sym (le_max (ops_depth os) (regions_depth rs) n)
 
-    ops_fit : (n : ℕ) (ks : List ℕ) (os : Ops) → SpellsOps rows lists ks os → list_all (slot_fits rows lists n) ks ≡ nat_le (ops_depth os) n
+    ops_fit : (n : ℕ) (ks : List ℕ) (os : Ops) → SpellsOps slots lists ks os → list_all (slot_fits slots lists n) ks ≡ nat_le (ops_depth os) n
     ops_fit n [] no_ops s = sym (zero_le n)
     ops_fit n [] (next o os) s = absurd s
     ops_fit n (k ∷ ks) no_ops s = absurd s
     ops_fit n (k ∷ ks) (next o os) s = (λ i. fits_is n k o s.0 i && ops_fit n ks os s.1 i) ∙ lt_le (depth o) (ops_depth os) n
 
 -- a slot whose row is read, if there are levels left
-pub fits_row : (rows : List Row) (lists : List (List ℕ)) (headroom k : ℕ) → (headroom ≡ 0 → ⊥) → (row_at rows k).live ≡ true → slot_fits rows lists headroom k ≡ shapes_pass lists (slot_fits rows lists (headroom - 1)) (row_at rows k).shapes
-fits_row rows lists zero k n l = absurd (n refl)
-fits_row rows lists (suc m) k n l =
+pub fits_row : (slots : List Row) (lists : List (List ℕ)) (headroom k : ℕ) → (headroom ≡ 0 → ⊥) → (row_at slots k).live ≡ true → slot_fits slots lists headroom k ≡ shapes_pass lists (slot_fits slots lists (headroom - 1)) (row_at slots k).shapes
+fits_row slots lists zero k n l = absurd (n refl)
+fits_row slots lists (suc m) k n l =
     let e : m ≡ suc m - 1 = omega arith in
-    ap (λ b. b && shapes_pass lists (slot_fits rows lists m) (row_at rows k).shapes) l ∙ ap (λ z. shapes_pass lists (slot_fits rows lists z) (row_at rows k).shapes) e
+    ap (λ b. b && shapes_pass lists (slot_fits slots lists m) (row_at slots k).shapes) l ∙ ap (λ z. shapes_pass lists (slot_fits slots lists z) (row_at slots k).shapes) e

@@ -15,5 +15,5 @@ slot_unless q (Some e) = Err e
 
 -- the slot of an operation in which an entry can be set
 abbrev pub entry_in : List Row → (ℕ → ℕ → Bool) → Part → ℕ → Option ℕ → Option ℕ → Result ℕ Refusal
-entry_in rows before part k a None = Err NoSuchOp
-entry_in rows before part k a (Some q) = slot_unless q (entry_reason before k a (part_of part (row_at rows q).head))
+entry_in slots before part k a None = Err NoSuchOp
+entry_in slots before part k a (Some q) = slot_unless q (entry_reason before k a (part_of part (row_at slots q).head))

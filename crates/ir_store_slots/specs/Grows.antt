@@ -13,33 +13,33 @@ use Rattle.ir_store_slots.specs.Index.{cell_at, cells_of}
 
 -- the slots and the use lists of a store
 pub record Parts : Type 0 where
-  pub rows : List Row
+  pub slots : List Row
   pub sibs : Lists
   pub homes : List ℕ
   pub cells : List (ℕ × ℕ)
 
 abbrev pub parts_of : List Row → Lists → Lists → List UseNode → Parts
-parts_of rows sibs uses cells = record { rows = rows; sibs = sibs; homes = uses.homes; cells = cells_of cells }
+parts_of slots sibs uses cells = record { slots = slots; sibs = sibs; homes = uses.homes; cells = cells_of cells }
 
 -- slot k is free
-pub record Spare (rows : List Row) (k : ℕ) : Type 0 where
-  pub used : (row_at rows k).used ≡ false
-  pub live : (row_at rows k).live ≡ false
+pub record Spare (slots : List Row) (k : ℕ) : Type 0 where
+  pub used : (row_at slots k).used ≡ false
+  pub live : (row_at slots k).live ≡ false
 
 -- there are as many rows as nodes of blocks, and as many cells as nodes of uses
 pub record IsEven (p : Parts) : Type 0 where
-  pub long : length p.rows ≡ length p.sibs.homes
+  pub long : length p.slots ≡ length p.sibs.homes
   pub lists : length p.sibs.lists ≡ length p.sibs.homes
   pub counted : length p.cells ≡ length p.homes
 
 -- slots and use lists with more free slots and nodes appended
 pub record Wider (p q : Parts) : Type 0 where
   pub even : IsEven q
-  pub more : length p.rows ≤ length q.rows
-  pub row : (k : ℕ) → k < length p.rows → row_at q.rows k ≡ row_at p.rows k
-  pub spare : (k : ℕ) → length p.rows ≤ k → Spare q.rows k
+  pub more : length p.slots ≤ length q.slots
+  pub row : (k : ℕ) → k < length p.slots → row_at q.slots k ≡ row_at p.slots k
+  pub spare : (k : ℕ) → length p.slots ≤ k → Spare q.slots k
   pub lists : (k : ℕ) → list_at q.sibs.lists k ≡ list_at p.sibs.lists k
-  pub home : (k : ℕ) → k < length p.rows → home_at q.sibs.homes k ≡ home_at p.sibs.homes k
+  pub home : (k : ℕ) → k < length p.slots → home_at q.sibs.homes k ≡ home_at p.sibs.homes k
   pub uses_more : length p.homes ≤ length q.homes
   pub use_home : (u : ℕ) → u < length p.homes → home_at q.homes u ≡ home_at p.homes u
   pub use_new : (u : ℕ) → length p.homes ≤ u → (home_at q.homes u ≡ free) ⊎ (home_at q.homes u ≡ u)
@@ -60,15 +60,15 @@ pub record NewUse (q : Parts) (k j u : ℕ) : Type 0 where
 -- an empty block for region i of slot k
 pub record NewBlock (q : Parts) (bound k i : ℕ) (a : List ℕ × ℕ) : Type 0 where
   pub head : IsHead q.sibs.homes a.1
-  pub owner : (row_at q.rows a.1).owner ≡ k
-  pub region : (row_at q.rows a.1).region ≡ i
+  pub owner : (row_at q.slots a.1).owner ≡ k
+  pub region : (row_at q.slots a.1).region ≡ i
   pub bare : list_at q.sibs.lists a.1 ≡ []
-  pub arguments : (j : ℕ) → j < length a.0 → NewHead q bound a.1 j ((row_at q.rows a.1).values + j)
+  pub arguments : (j : ℕ) → j < length a.0 → NewHead q bound a.1 j ((row_at q.slots a.1).values + j)
 
 -- row r of operation x may be written into slot k; the heads below the bound belong to other slots
 pub record Ready (q : Parts) (keys : ℕ → Option ℕ) (bound k x : ℕ) (r : Row) : Type 0 where
-  pub inside : k < length q.rows
-  pub spare : Spare q.rows k
+  pub inside : k < length q.slots
+  pub spare : Spare q.slots k
   pub out : IsFree q.sibs.homes k
   pub unknown : keys x ≡ None
   pub used : r.used ≡ true
@@ -114,14 +114,14 @@ pub record Grown (bound : ℕ) (q : Parts) (x : ℕ) (o : Op) (k : ℕ) (r : Row
   pub gone : r.gone ≡ none_gone
 
 -- the parts with one more slot, whose node is a head or free
-pub record AddsSlot (heads : Bool) (r : Row) (rows new : List Row) (sibs more : Lists) : Type 0 where
-  pub row : new ≡ rows ++ r ∷ []
+pub record AddsSlot (heads : Bool) (r : Row) (slots new : List Row) (sibs more : Lists) : Type 0 where
+  pub row : new ≡ slots ++ r ∷ []
   pub lists : more.lists ≡ sibs.lists ++ [] ∷ []
   pub homes : more.homes ≡ sibs.homes ++ (if heads then length sibs.homes else free) ∷ []
 
 -- the parts are unchanged
-pub record KeepsSlots (rows new : List Row) (sibs more : Lists) : Type 0 where
-  pub same : new ≡ rows
+pub record KeepsSlots (slots new : List Row) (sibs more : Lists) : Type 0 where
+  pub same : new ≡ slots
   pub kept : more ≡ sibs
 
 -- the shapes are those of the regions with empty blocks

@@ -21,34 +21,34 @@ cell_at cells u = get_or cells u (0, 0)
 
 -- operand j of the operation in slot k
 abbrev pub operand_at : List Row → ℕ → ℕ → Option Value
-operand_at rows k j = slice_get (row_at rows k).head.operands j
+operand_at slots k j = slice_get (row_at slots k).head.operands j
 
 -- the node of operand j
 abbrev pub use_at : List Row → ℕ → ℕ → ℕ
-use_at rows k j = (row_at rows k).uses + j
+use_at slots k j = (row_at slots k).uses + j
 
 -- the head of the use list of a result, and of a block argument
 abbrev pub result_head : ℕ → Row → Option ℕ
 result_head i r = if nat_lt i (length r.head.results) then Some (r.values + i) else None
 
 abbrev pub argument_head : List Row → ℕ → RegionShape → Option ℕ
-argument_head rows i None = None
-argument_head rows i (Some a) = if nat_lt i (length a.0) then Some ((row_at rows a.1).values + i) else None
+argument_head slots i None = None
+argument_head slots i (Some a) = if nat_lt i (length a.0) then Some ((row_at slots a.1).values + i) else None
 
 -- the head of the use list of a value whose operation is in slot q
 abbrev pub slot_head : List Row → Value → ℕ → Option ℕ
-slot_head rows (Result x i) q = result_head i (row_at rows q)
-slot_head rows (Arg x r i) q = option_and_then (argument_head rows i) (slice_get (row_at rows q).shapes r)
+slot_head slots (Result x i) q = result_head i (row_at slots q)
+slot_head slots (Arg x r i) q = option_and_then (argument_head slots i) (slice_get (row_at slots q).shapes r)
 
 -- the head of the use list of a value of an operation that has a slot
 abbrev pub value_head : List Row → (ℕ → Option ℕ) → Value → Option ℕ
-value_head rows slots v = option_and_then (slot_head rows v) (slots (owner_of v).0)
+value_head slots slot_map v = option_and_then (slot_head slots v) (slot_map (owner_of v).0)
 
 -- node u is the node of operand j of the operation in slot k, and the operand is v
-pub record UseOf (rows : List Row) (u k j : ℕ) (v : Value) : Type 0 where
-  pub used : Used rows k
-  pub operand : operand_at rows k j ≡ Some v
-  pub node : use_at rows k j ≡ u
+pub record UseOf (slots : List Row) (u k j : ℕ) (v : Value) : Type 0 where
+  pub used : Used slots k
+  pub operand : operand_at slots k j ≡ Some v
+  pub node : use_at slots k j ≡ u
 
 -- node u has the cell of operand j of slot k
 pub record CellOf (homes : List ℕ) (cells : List (ℕ × ℕ)) (u k j : ℕ) : Type 0 where
@@ -56,35 +56,35 @@ pub record CellOf (homes : List ℕ) (cells : List (ℕ × ℕ)) (u k j : ℕ) :
   pub cell : cell_at cells u ≡ (k, j)
 
 -- node u is in the use list of v
-pub record LinkedTo (rows : List Row) (keys : ℕ → Option ℕ) (homes : List ℕ) (u : ℕ) (v : Value) : Type 0 where
+pub record LinkedTo (slots : List Row) (keys : ℕ → Option ℕ) (homes : List ℕ) (u : ℕ) (v : Value) : Type 0 where
   pub item : IsItem homes u
-  pub home : value_head rows keys v ≡ Some (home_at homes u)
+  pub home : value_head slots keys v ≡ Some (home_at homes u)
 
 -- a node in a use list is the node of an operand that is linked
-pub record Stands (rows : List Row) (on : ℕ → ℕ → Bool) (u : ℕ) : Type 0 where
+pub record Stands (slots : List Row) (on : ℕ → ℕ → Bool) (u : ℕ) : Type 0 where
   pub row : ℕ
   pub place : ℕ
   pub value : Value
-  pub use_of : UseOf rows u row place value
+  pub use_of : UseOf slots u row place value
   pub put : on row place ≡ true
 
 -- exactly the operands that `on` selects are in the use lists of their values
-pub record Index (rows : List Row) (keys : ℕ → Option ℕ) (homes : List ℕ) (cells : List (ℕ × ℕ)) (on : ℕ → ℕ → Bool) : Type 0 where
+pub record Index (slots : List Row) (keys : ℕ → Option ℕ) (homes : List ℕ) (cells : List (ℕ × ℕ)) (on : ℕ → ℕ → Bool) : Type 0 where
   pub counted : length cells ≡ length homes
-  pub cell : (k j : ℕ) (v : Value) → Used rows k → operand_at rows k j ≡ Some v → CellOf homes cells (use_at rows k j) k j
-  pub linked : (k j : ℕ) (v : Value) → Used rows k → operand_at rows k j ≡ Some v → on k j ≡ true → LinkedTo rows keys homes (use_at rows k j) v
-  pub unlinked_home : (k j : ℕ) (v : Value) → Used rows k → operand_at rows k j ≡ Some v → on k j ≡ false → home_at homes (use_at rows k j) ≡ free
-  pub users : (u : ℕ) → IsItem homes u → Stands rows on u
-  pub heads : (v : Value) (h : ℕ) → value_head rows keys v ≡ Some h → IsHead homes h
-  pub one : (v w : Value) (h : ℕ) → value_head rows keys v ≡ Some h → value_head rows keys w ≡ Some h → v ≡ w
+  pub cell : (k j : ℕ) (v : Value) → Used slots k → operand_at slots k j ≡ Some v → CellOf homes cells (use_at slots k j) k j
+  pub linked : (k j : ℕ) (v : Value) → Used slots k → operand_at slots k j ≡ Some v → on k j ≡ true → LinkedTo slots keys homes (use_at slots k j) v
+  pub unlinked_home : (k j : ℕ) (v : Value) → Used slots k → operand_at slots k j ≡ Some v → on k j ≡ false → home_at homes (use_at slots k j) ≡ free
+  pub users : (u : ℕ) → IsItem homes u → Stands slots on u
+  pub heads : (v : Value) (h : ℕ) → value_head slots keys v ≡ Some h → IsHead homes h
+  pub one : (v w : Value) (h : ℕ) → value_head slots keys v ≡ Some h → value_head slots keys w ≡ Some h → v ≡ w
 
 -- the operands of the module's operations are linked
 abbrev pub lives : List Row → ℕ → ℕ → Bool
-lives rows k j = (row_at rows k).live
+lives slots k j = (row_at slots k).live
 
 -- the operands of the module's operations, with those of slot k only from index a on, and before b
 abbrev pub operands_between : List Row → ℕ → ℕ → ℕ → ℕ → ℕ → Bool
-operands_between rows k a b q j = if eqb q k then not (nat_lt j a) && nat_lt j b else (row_at rows q).live
+operands_between slots k a b q j = if eqb q k then not (nat_lt j a) && nat_lt j b else (row_at slots q).live
 
 -- the lists of n heads from b on are empty
 abbrev pub all_idle : List (List ℕ) → ℕ → ℕ → Bool
@@ -93,13 +93,13 @@ all_idle lists b (suc n) = is_nil (list_at lists b) && all_idle lists (b + 1) n
 
 -- the use lists of the arguments of blocks are empty
 abbrev pub args_idle : List Row → List (List ℕ) → List RegionShape → Bool
-args_idle rows lists [] = true
-args_idle rows lists (None ∷ xs) = args_idle rows lists xs
-args_idle rows lists (Some a ∷ xs) = all_idle lists (row_at rows a.1).values (length a.0) && args_idle rows lists xs
+args_idle slots lists [] = true
+args_idle slots lists (None ∷ xs) = args_idle slots lists xs
+args_idle slots lists (Some a ∷ xs) = all_idle lists (row_at slots a.1).values (length a.0) && args_idle slots lists xs
 
 -- the use lists of the values of the operation in slot k are empty
 abbrev pub row_idle : List Row → List (List ℕ) → ℕ → Bool
-row_idle rows lists k = all_idle lists (row_at rows k).values (length (row_at rows k).head.results) && args_idle rows lists (row_at rows k).shapes
+row_idle slots lists k = all_idle lists (row_at slots k).values (length (row_at slots k).head.results) && args_idle slots lists (row_at slots k).shapes
 
 -- n nodes from b on are free
 abbrev pub freed : ℕ → ℕ → List ℕ → List ℕ
@@ -135,40 +135,40 @@ pub record AreHeads (b n : ℕ) (homes : List ℕ) : Type 0 where
 
 -- the heads of the arguments of blocks are list heads
 abbrev pub ArgHeads : List Row → List ℕ → List RegionShape → Type 0
-ArgHeads rows homes [] = Unit {0}
-ArgHeads rows homes (None ∷ xs) = ArgHeads rows homes xs
-ArgHeads rows homes (Some a ∷ xs) = AreHeads (row_at rows a.1).values (length a.0) homes × ArgHeads rows homes xs
+ArgHeads slots homes [] = Unit {0}
+ArgHeads slots homes (None ∷ xs) = ArgHeads slots homes xs
+ArgHeads slots homes (Some a ∷ xs) = AreHeads (row_at slots a.1).values (length a.0) homes × ArgHeads slots homes xs
 
 -- the heads of the values of the operation in slot k are list heads
-pub record HasHeads (rows : List Row) (homes : List ℕ) (k : ℕ) : Type 0 where
-  pub results : AreHeads (row_at rows k).values (length (row_at rows k).head.results) homes
-  pub arguments : ArgHeads rows homes (row_at rows k).shapes
+pub record HasHeads (slots : List Row) (homes : List ℕ) (k : ℕ) : Type 0 where
+  pub results : AreHeads (row_at slots k).values (length (row_at slots k).head.results) homes
+  pub arguments : ArgHeads slots homes (row_at slots k).shapes
 
 -- the operation of each value that the module's operations use is in the module
 abbrev pub HasOwners : List Row → (ℕ → Option ℕ) → Type 0
-HasOwners rows keys = (k j : ℕ) (v : Value) → Live rows k → operand_at rows k j ≡ Some v → is_some (live_slot rows keys (owner_of v).0) ≡ true
+HasOwners slots keys = (k j : ℕ) (v : Value) → Live slots k → operand_at slots k j ≡ Some v → is_some (live_slot slots keys (owner_of v).0) ≡ true
 
 -- the ids of the module's operations are below a bound
 abbrev pub HasIdsBelow : ℕ → List Row → Type 0
-HasIdsBelow n rows = (k : ℕ) → Live rows k → (row_at rows k).head.id < n
+HasIdsBelow n slots = (k : ℕ) → Live slots k → (row_at slots k).head.id < n
 
 -- the cells of the heads of values have their owners: a result's cell has the slot of the operation, an argument's cell
 -- that of the block's head
-pub record Celled (rows : List Row) (cells : List (ℕ × ℕ)) : Type 0 where
-  pub results : (k i : ℕ) → Used rows k → i < length (row_at rows k).head.results → cell_at cells ((row_at rows k).values + i) ≡ (k, i)
-  pub arguments : (k r i : ℕ) (a : List ℕ × ℕ) → Used rows k → slice_get (row_at rows k).shapes r ≡ Some (Some a) → i < length a.0 → cell_at cells ((row_at rows a.1).values + i) ≡ (a.1, i)
+pub record Celled (slots : List Row) (cells : List (ℕ × ℕ)) : Type 0 where
+  pub results : (k i : ℕ) → Used slots k → i < length (row_at slots k).head.results → cell_at cells ((row_at slots k).values + i) ≡ (k, i)
+  pub arguments : (k r i : ℕ) (a : List ℕ × ℕ) → Used slots k → slice_get (row_at slots k).shapes r ≡ Some (Some a) → i < length a.0 → cell_at cells ((row_at slots a.1).values + i) ≡ (a.1, i)
 
 -- the slots and the use lists are consistent
-pub record Fits (rows : List Row) (keys : ℕ → Option ℕ) (sibs : Lists) (root : ℕ) (t : Op) (homes : List ℕ) (cells : List (ℕ × ℕ)) (count free_id : ℕ) (marks : List ℕ) : Type 0 where
-  pub right : Right rows keys sibs root t
+pub record Fits (slots : List Row) (keys : ℕ → Option ℕ) (sibs : Lists) (root : ℕ) (t : Op) (homes : List ℕ) (cells : List (ℕ × ℕ)) (count free_id : ℕ) (marks : List ℕ) : Type 0 where
+  pub right : Right slots keys sibs root t
   pub few : length homes < free
-  pub index : Index rows keys homes cells (lives rows)
+  pub index : Index slots keys homes cells (lives slots)
   pub distinct : HasDistinctIds t
   pub counted : count ≡ op_count t
-  pub below : HasIdsBelow free_id rows
-  pub owned : HasOwners rows keys
-  pub marked : Marked rows marks
-  pub celled : Celled rows cells
+  pub below : HasIdsBelow free_id slots
+  pub owned : HasOwners slots keys
+  pub marked : Marked slots marks
+  pub celled : Celled slots cells
 
 -- the type of a value of an operation that has a slot
 abbrev pub shape_type : ℕ → RegionShape → Option ℕ
@@ -176,8 +176,8 @@ shape_type i None = None
 shape_type i (Some a) = slice_get a.0 i
 
 abbrev pub slot_type : List Row → Value → ℕ → Option ℕ
-slot_type rows (Result x i) q = slice_get (row_at rows q).head.results i
-slot_type rows (Arg x r i) q = option_and_then (shape_type i) (slice_get (row_at rows q).shapes r)
+slot_type slots (Result x i) q = slice_get (row_at slots q).head.results i
+slot_type slots (Arg x r i) q = option_and_then (shape_type i) (slice_get (row_at slots q).shapes r)
 
 abbrev pub type_in : List Row → (ℕ → Option ℕ) → Value → Option ℕ
-type_in rows slots v = option_and_then (slot_type rows v) (slots (owner_of v).0)
+type_in slots slot_map v = option_and_then (slot_type slots v) (slot_map (owner_of v).0)

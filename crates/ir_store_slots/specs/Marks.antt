@@ -22,11 +22,11 @@ abbrev pub node_of_slot : ℕ → ℕ
 node_of_slot k = suc (suc k)
 
 -- each slot is in its list
-pub record Marked (rows : List Row) (marks : List ℕ) : Type 0 where
+pub record Marked (slots : List Row) (marks : List ℕ) : Type 0 where
   pub held : IsHead marks 0
   pub lacking : IsHead marks 1
-  pub inside : (k : ℕ) → Used rows k → node_of_slot k < length marks
-  pub home : (k : ℕ) → home_at marks (node_of_slot k) ≡ home_of (mark (row_at rows k))
+  pub inside : (k : ℕ) → Used slots k → node_of_slot k < length marks
+  pub home : (k : ℕ) → home_at marks (node_of_slot k) ≡ home_of (mark (row_at slots k))
 
 -- slot k can be moved to another list
 pub record CanMark (marks : List ℕ) (k : ℕ) : Type 0 where

@@ -25,8 +25,8 @@ all_bare lists (Some a ∷ xs) = is_nil (list_at lists a.1) && all_bare lists xs
 
 -- the slot of an operation that isn't the root and whose blocks are empty
 abbrev pub leaf_in : List Row → List (List ℕ) → ℕ → Option ℕ → Result ℕ Refusal
-leaf_in rows lists root None = Err NoSuchOp
-leaf_in rows lists root (Some k) = if eqb k root then Err IsRoot else (if all_bare lists (row_at rows k).shapes then Ok k else Err NotEmpty)
+leaf_in slots lists root None = Err NoSuchOp
+leaf_in slots lists root (Some k) = if eqb k root then Err IsRoot else (if all_bare lists (row_at slots k).shapes then Ok k else Err NotEmpty)
 
 -- the reason against taking out operation x, without a check of its uses
 abbrev pub cut_reason : {N T A : Type 0} → ℕ → OpOf N T A → Option Refusal
@@ -37,8 +37,8 @@ cut_reason x t =
 
 -- the slot of an operation that has operand j
 abbrev pub operand_in : List Row → ℕ → Option ℕ → Result ℕ Refusal
-operand_in rows j None = Err NoSuchOp
-operand_in rows j (Some k) = if nat_lt j (length (row_at rows k).head.operands) then Ok k else Err NoSuchIndex
+operand_in slots j None = Err NoSuchOp
+operand_in slots j (Some k) = if nat_lt j (length (row_at slots k).head.operands) then Ok k else Err NoSuchIndex
 
 -- the reason against setting operand j of operation x, without a check of the new value
 abbrev pub write_reason : {N T A : Type 0} → ℕ → ℕ → OpOf N T A → Option Refusal

@@ -22,22 +22,22 @@ abbrev pub at_slot : List ℕ → ℕ → ℕ → Option (ℕ × Option ℕ)
 at_slot homes n t = if stands homes n t then Some (n, Some t) else None
 
 abbrev pub before_in : List Row → (ℕ → Option ℕ) → List ℕ → Option ℕ → ℕ → Option (ℕ × Option ℕ)
-before_in rows keys homes None n = Some (n, None)
-before_in rows keys homes (Some b) n = option_and_then (at_slot homes n) (live_slot rows keys b)
+before_in slots keys homes None n = Some (n, None)
+before_in slots keys homes (Some b) n = option_and_then (at_slot homes n) (live_slot slots keys b)
 
 -- the head of a place's list, and the next slot there
 abbrev pub point_in : List Row → (ℕ → Option ℕ) → List ℕ → Place → Option (ℕ × Option ℕ)
-point_in rows keys homes place =
-    option_and_then (λ p. option_and_then (λ a. option_and_then (before_in rows keys homes place.before) (head_in a)) (slice_get (row_at rows p).shapes place.region)) (live_slot rows keys place.parent)
+point_in slots keys homes place =
+    option_and_then (λ p. option_and_then (λ a. option_and_then (before_in slots keys homes place.before) (head_in a)) (slice_get (row_at slots p).shapes place.region)) (live_slot slots keys place.parent)
 
 -- the operation in a slot
 abbrev pub id_in : List Row → ℕ → ℕ
-id_in rows k = (row_at rows k).head.id
+id_in slots k = (row_at slots k).head.id
 
 -- the place of the operation in slot k
 abbrev pub slot_place : List Row → List (List ℕ) → List ℕ → ℕ → Place
-slot_place rows lists homes k = record {
-  parent = id_in rows (row_at rows (home_at homes k)).owner;
-  region = (row_at rows (home_at homes k)).region;
-  before = option_map (id_in rows) (after k (list_at lists (home_at homes k)));
+slot_place slots lists homes k = record {
+  parent = id_in slots (row_at slots (home_at homes k)).owner;
+  region = (row_at slots (home_at homes k)).region;
+  before = option_map (id_in slots) (after k (list_at lists (home_at homes k)));
 }

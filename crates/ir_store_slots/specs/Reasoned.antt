@@ -12,8 +12,8 @@ use Rattle.ir_store_slots.specs.Index.{row_idle}
 
 -- a slot whose values have no uses
 abbrev pub idle_in : List Row → List (List ℕ) → Result ℕ Refusal → Result ℕ Refusal
-idle_in rows lists (Err e) = Err e
-idle_in rows lists (Ok k) = if row_idle rows lists k then Ok k else Err HasUses
+idle_in slots lists (Err e) = Err e
+idle_in slots lists (Ok k) = if row_idle slots lists k then Ok k else Err HasUses
 
 -- a slot, and the head of the use list of a value
 abbrev pub with_head : Result ℕ Refusal → Option ℕ → Result (ℕ × ℕ) Refusal

@@ -8,11 +8,11 @@ pub use Rattle.ir_store_arena.specs.Rows.{Row, no_head, no_row, kept_head, row_a
 
 -- the slot of an operation of the tree; `keys` maps ids to slots
 abbrev pub if_live : List Row → Option ℕ → Option ℕ
-if_live rows None = None
-if_live rows (Some k) = if (row_at rows k).live then Some k else None
+if_live slots None = None
+if_live slots (Some k) = if (row_at slots k).live then Some k else None
 
 abbrev pub live_slot : List Row → (ℕ → Option ℕ) → ℕ → Option ℕ
-live_slot rows keys x = if_live rows (keys x)
+live_slot slots keys x = if_live slots (keys x)
 
 -- the operation of a slot, with empty blocks
 abbrev pub bare_regions : List RegionShape → Regions
@@ -25,20 +25,20 @@ bare r = op r.head (bare_regions r.shapes)
 
 -- the held operations and the removed keys, as functions of the slots
 abbrev pub held_in : List Row → Option ℕ → Option Op
-held_in rows None = None
-held_in rows (Some k) = if (row_at rows k).live then None else Some (bare (row_at rows k))
+held_in slots None = None
+held_in slots (Some k) = if (row_at slots k).live then None else Some (bare (row_at slots k))
 
 abbrev pub gone_in : List Row → Option ℕ → Option Gone
-gone_in rows None = None
-gone_in rows (Some k) = Some (row_at rows k).gone
+gone_in slots None = None
+gone_in slots (Some k) = Some (row_at slots k).gone
 
 -- the slot of a held operation
 abbrev pub if_held : List Row → Option ℕ → Option ℕ
-if_held rows None = None
-if_held rows (Some k) = if (row_at rows k).used && not (row_at rows k).live then Some k else None
+if_held slots None = None
+if_held slots (Some k) = if (row_at slots k).used && not (row_at slots k).live then Some k else None
 
 abbrev pub held_slot : List Row → (ℕ → Option ℕ) → ℕ → Option ℕ
-held_slot rows keys x = if_held rows (keys x)
+held_slot slots keys x = if_held slots (keys x)
 
 -- the head of a region's list
 abbrev pub head_in : RegionShape → Option ℕ

@@ -8,11 +8,11 @@ use Rattle.ir_store_arena.specs.trees.Code.{head_code}
 use Rattle.ir_store_lists.specs.Lists.{list_at}
 use Rattle.ir_store_slots.specs.Rows.{Row, RegionShape, row_at}
 
-module _ (rows : List Row) (lists : List (List ℕ)) where
+module _ (slots : List Row) (lists : List (List ℕ)) where
   abbrev mutual
     -- slot k represents an operation
     pub SpellsOp : ℕ → Op → Type 0
-    SpellsOp k (op h rs) = ((row_at rows k).live ≡ true) × (((row_at rows k).head ≡ h) × SpellsRegions (row_at rows k).shapes rs)
+    SpellsOp k (op h rs) = ((row_at slots k).live ≡ true) × (((row_at slots k).head ≡ h) × SpellsRegions (row_at slots k).shapes rs)
 
     pub SpellsRegions : List RegionShape → Regions → Type 0
     SpellsRegions [] no_regions = Unit {0}
@@ -35,7 +35,7 @@ module _ (rows : List Row) (lists : List (List ℕ)) where
   mutual
     pub SpellsOp-prop : (k : ℕ) (t : Op) → IsProp (SpellsOp k t)
     SpellsOp-prop k (op h rs) =
-        ×_prop (Coded-set coded_bool _ _) (×_prop (Coded-set head_code _ _) (SpellsRegions-prop (row_at rows k).shapes rs))
+        ×_prop (Coded-set coded_bool _ _) (×_prop (Coded-set head_code _ _) (SpellsRegions-prop (row_at slots k).shapes rs))
 
     pub SpellsRegions-prop : (xs : List RegionShape) (rs : Regions) → IsProp (SpellsRegions xs rs)
     SpellsRegions-prop [] no_regions = Unit-prop
@@ -59,7 +59,7 @@ module _ (rows : List Row) (lists : List (List ℕ)) where
     pub SpellsOp-one : (k : ℕ) (t u : Op) → SpellsOp k t → SpellsOp k u → t ≡ u
     SpellsOp-one k (op g rs) (op h ss) s r =
         let e : g ≡ h = sym s.1.0 ∙ r.1.0 in
-        λ i. op (e i) (SpellsRegions-one (row_at rows k).shapes rs ss s.1.1 r.1.1 i)
+        λ i. op (e i) (SpellsRegions-one (row_at slots k).shapes rs ss s.1.1 r.1.1 i)
 
     pub SpellsRegions-one : (xs : List RegionShape) (rs ss : Regions) → SpellsRegions xs rs → SpellsRegions xs ss → rs ≡ ss
     SpellsRegions-one [] no_regions no_regions s r = refl

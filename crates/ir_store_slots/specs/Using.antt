@@ -27,9 +27,9 @@ pub record AreUses (v : Value) (t : Op) (us : List (ℕ × ℕ)) : Type 0 where
 
 -- the operation and the operand of a node
 abbrev pub use_in : List Row → List (ℕ × ℕ) → ℕ → ℕ × ℕ
-use_in rows cells u = ((row_at rows (cell_at cells u).0).head.id, (cell_at cells u).1)
+use_in slots cells u = ((row_at slots (cell_at cells u).0).head.id, (cell_at cells u).1)
 
 -- the uses in the list of a value's head
 abbrev pub uses_at : List Row → List (ℕ × ℕ) → List (List ℕ) → Option ℕ → List (ℕ × ℕ)
-uses_at rows cells lists None = []
-uses_at rows cells lists (Some h) = map (use_in rows cells) (list_at lists h)
+uses_at slots cells lists None = []
+uses_at slots cells lists (Some h) = map (use_in slots cells) (list_at lists h)

@@ -12,8 +12,8 @@ shapes_pass lists p (Some a ∷ xs) = list_all p (list_at lists a.1) && shapes_p
 
 -- whether the operation of slot k has fewer levels inside it than n
 abbrev pub slot_fits : List Row → List (List ℕ) → ℕ → ℕ → Bool
-slot_fits rows lists zero k = false
-slot_fits rows lists (suc n) k = (row_at rows k).live && shapes_pass lists (slot_fits rows lists n) (row_at rows k).shapes
+slot_fits slots lists zero k = false
+slot_fits slots lists (suc n) k = (row_at slots k).live && shapes_pass lists (slot_fits slots lists n) (row_at slots k).shapes
 
 -- a list from a slot on
 abbrev pub from_slot : Option ℕ → List ℕ → List ℕ

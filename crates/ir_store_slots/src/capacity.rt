@@ -9,13 +9,13 @@ pub struct Capacity {
     /// Operations.
     pub ops: usize,
     /// Slots of operations and blocks.
-    pub slots: usize,
+    pub slot_map: usize,
     /// Nodes of values and operands.
     pub uses: usize,
     /// Operations with few operands and results, and without entries and regions.
     pub short: usize,
     /// Other operations without entries and regions.
-    pub plain: usize,
+    pub simple: usize,
     /// Operations with entries and without regions.
     pub entered: usize,
     /// Operations with regions.
@@ -26,21 +26,21 @@ impl Capacity {
     fn add_op(&mut self, op: &TreeOp) {
         let uses = op.operands.len().saturating_add(op.results.len());
         self.ops = self.ops.saturating_add(1);
-        self.slots = self.slots.saturating_add(1);
+        self.slot_map = self.slot_map.saturating_add(1);
         self.uses = self.uses.saturating_add(uses);
         if !op.regions.is_empty() {
             self.whole = self.whole.saturating_add(1);
         } else if !op.props.is_empty() || !op.attrs.is_empty() {
             self.entered = self.entered.saturating_add(1);
         } else if op.operands.len() > FEW || op.results.len() > FEW {
-            self.plain = self.plain.saturating_add(1);
+            self.simple = self.simple.saturating_add(1);
         } else {
             self.short = self.short.saturating_add(1);
         }
     }
 
     fn add_block(&mut self, args: usize) {
-        self.slots = self.slots.saturating_add(1);
+        self.slot_map = self.slot_map.saturating_add(1);
         self.uses = self.uses.saturating_add(args);
     }
 }
@@ -49,10 +49,10 @@ impl Capacity {
 pub fn capacity_for(tree: &TreeOp) -> Capacity {
     let mut headroom = Capacity {
         ops: 0,
-        slots: 0,
+        slot_map: 0,
         uses: 0,
         short: 0,
-        plain: 0,
+        simple: 0,
         entered: 0,
         whole: 0,
     };

@@ -18,10 +18,10 @@ use ir_store_arena::types::refusal::Refusal;
 use ir_store_arena::{Dictionary, Slots};
 
 /// Returns whether a key has a slot in one dictionary of a row.
-pub fn has_slot_at(rows: &Slots, at: usize, part: Part, key: NameId) -> bool
-    ensures { result ≡ is_slot key (slots_in part (row_at rows.now at)) }
+pub fn has_slot_at(slots: &Slots, at: usize, part: Part, key: NameId) -> bool
+    ensures { result ≡ is_slot key (slots_in part (row_at slots.now at)) }
 {
-    match rows.dictionary(at, part) {
+    match slots.dictionary(at, part) {
         None => false,
         Some(entries) => entries.has_slot(key),
     }
@@ -58,15 +58,15 @@ fn entry_fault(
 /// Returns the reason that a key of one dictionary of the operation in a slot can't be set or removed, or `None`.
 fn row_fault(
     ctx: &Context,
-    rows: &Slots,
+    slots: &Slots,
     at: usize,
     part: Part,
     key: NameId,
     value: &Option<AttrId>,
 ) -> Option<Refusal>
-    ensures { result ≡ entry_reason (key_before_in ctx.now) key value.now (slots_in part (row_at rows.now at)).present }
+    ensures { result ≡ entry_reason (key_before_in ctx.now) key value.now (slots_in part (row_at slots.now at)).present }
 {
-    match rows.dictionary(at, part) {
+    match slots.dictionary(at, part) {
         Some(entries) => entry_fault(ctx, entries, key, value),
         None => match value {
             None => Some(Refusal::NoSuchKey),
@@ -79,19 +79,19 @@ fn row_fault(
 /// that it can't.
 pub fn find_entry(
     ctx: &Context,
-    rows: &Slots,
+    slots: &Slots,
     keys: &Keys,
     op: OpId,
     part: Part,
     key: NameId,
     value: &Option<AttrId>,
 ) -> Result<usize, Refusal>
-    ensures { result ≡ entry_in rows.now (key_before_in ctx.now) part key value.now (live_slot rows.now (finmap.get keys.now) op) }
+    ensures { result ≡ entry_in slots.now (key_before_in ctx.now) part key value.now (live_slot slots.now (finmap.get keys.now) op) }
 {
-    let Some(at) = find(rows, keys, op) else {
+    let Some(at) = find(slots, keys, op) else {
         return Err(Refusal::NoSuchOp);
     };
-    match row_fault(ctx, rows, at, part, key, value) {
+    match row_fault(ctx, slots, at, part, key, value) {
         None => Ok(at),
         Some(refusal) => Err(refusal),
     }

@@ -23,11 +23,11 @@ pub fn slot(keys: &Keys, op: OpId) -> Option<usize>
 }
 
 /// Returns the slot of an operation of the module, or `None` if it isn't in the module.
-pub fn find(rows: &Slots, keys: &Keys, op: OpId) -> Option<usize>
-    ensures { result ≡ live_slot rows.now (finmap.get keys.now) op }
+pub fn find(slots: &Slots, keys: &Keys, op: OpId) -> Option<usize>
+    ensures { result ≡ live_slot slots.now (finmap.get keys.now) op }
 {
     let key = slot(keys, op)?;
-    if rows.is_live(key) { Some(key) } else { None }
+    if slots.is_live(key) { Some(key) } else { None }
 }
 
 /// Returns whether the blocks of an operation are empty.
@@ -49,22 +49,22 @@ pub fn is_bare(areas: &[RegionData], sibs: &OrderedLists) -> bool
 
 /// Returns the slot of an operation that isn't the root and whose blocks are empty, or the reason that it isn't one.
 pub fn find_leaf(
-    rows: &Slots,
+    slots: &Slots,
     keys: &Keys,
     sibs: &OrderedLists,
     root: usize,
     op: OpId,
 ) -> Result<usize, Refusal>
-    requires { (k : ℕ) → Live rows.now k → AllHeads sibs.now.homes (row_at rows.now k).shapes }
-    ensures { result ≡ leaf_in rows.now sibs.now.lists root (live_slot rows.now (finmap.get keys.now) op) }
+    requires { (k : ℕ) → Live slots.now k → AllHeads sibs.now.homes (row_at slots.now k).shapes }
+    ensures { result ≡ leaf_in slots.now sibs.now.lists root (live_slot slots.now (finmap.get keys.now) op) }
 {
-    let Some(key) = find(rows, keys, op) else {
+    let Some(key) = find(slots, keys, op) else {
         return Err(Refusal::NoSuchOp);
     };
     if key == root {
         return Err(Refusal::IsRoot);
     }
-    if is_bare(rows.areas(key), sibs) {
+    if is_bare(slots.areas(key), sibs) {
         Ok(key)
     } else {
         Err(Refusal::NotEmpty)
@@ -72,13 +72,13 @@ pub fn find_leaf(
 }
 
 /// Returns the slot of an operation of the module that has this operand, or the reason that there is none.
-pub fn find_operand(rows: &Slots, keys: &Keys, op: OpId, place: usize) -> Result<usize, Refusal>
-    ensures { result ≡ operand_in rows.now place (live_slot rows.now (finmap.get keys.now) op) }
+pub fn find_operand(slots: &Slots, keys: &Keys, op: OpId, place: usize) -> Result<usize, Refusal>
+    ensures { result ≡ operand_in slots.now place (live_slot slots.now (finmap.get keys.now) op) }
 {
-    let Some(key) = find(rows, keys, op) else {
+    let Some(key) = find(slots, keys, op) else {
         return Err(Refusal::NoSuchOp);
     };
-    if place < operand_count(rows, key) {
+    if place < operand_count(slots, key) {
         Ok(key)
     } else {
         Err(Refusal::NoSuchIndex)
@@ -86,8 +86,8 @@ pub fn find_operand(rows: &Slots, keys: &Keys, op: OpId, place: usize) -> Result
 }
 
 /// Returns the number of operands of the operation in a slot.
-fn operand_count(rows: &Slots, key: usize) -> usize
-    ensures { result ≡ length (row_at rows.now key).head.operands }
+fn operand_count(slots: &Slots, key: usize) -> usize
+    ensures { result ≡ length (row_at slots.now key).head.operands }
 {
-    rows.operands(key).len()
+    slots.operands(key).len()
 }

@@ -18,19 +18,19 @@ use ir_store_lists::{LinkedLists, OrderedLists};
 use std::alloc::{AllocError, Global};
 
 /// Adds a free slot.
-fn add_spare(rows: &mut Slots, sibs: &mut OrderedLists) -> Result<(), AllocError>
+fn add_spare(slots: &mut Slots, sibs: &mut OrderedLists) -> Result<(), AllocError>
     ensures { MatchResult result
-        (λ _. AddsSlot false (row_spare 0 0 0) rows.old rows.new sibs.old sibs.new)
-        (λ _. KeepsSlots rows.old rows.new sibs.old sibs.new) }
+        (λ _. AddsSlot false (row_spare 0 0 0) slots.old slots.new sibs.old sibs.new)
+        (λ _. KeepsSlots slots.old slots.new sibs.old sibs.new) }
 {
-    match rows.push_spare() {
+    match slots.push_spare() {
         Ok(()) => {}
         Err(e) => return Err(e),
     }
     match add_block_node(sibs, false) {
         Ok(()) => Ok(()),
         Err(e) => {
-            rows.pop();
+            slots.pop();
             Err(e)
         }
     }
@@ -38,7 +38,7 @@ fn add_spare(rows: &mut Slots, sibs: &mut OrderedLists) -> Result<(), AllocError
 
 /// Adds a slot for the head of a block, with its owner and the index of its region.
 fn add_head(
-    rows: &mut Slots,
+    slots: &mut Slots,
     sibs: &mut OrderedLists,
     owner: u32,
     region: u32,
@@ -46,17 +46,17 @@ fn add_head(
 ) -> Result<(), AllocError>
     requires { values < free }
     ensures { MatchResult result
-        (λ _. AddsSlot true (row_spare owner region values) rows.old rows.new sibs.old sibs.new)
-        (λ _. KeepsSlots rows.old rows.new sibs.old sibs.new) }
+        (λ _. AddsSlot true (row_spare owner region values) slots.old slots.new sibs.old sibs.new)
+        (λ _. KeepsSlots slots.old slots.new sibs.old sibs.new) }
 {
-    match rows.push_head(owner, region, values as u32) {
+    match slots.push_head(owner, region, values as u32) {
         Ok(()) => {}
         Err(e) => return Err(e),
     }
     match add_block_node(sibs, true) {
         Ok(()) => Ok(()),
         Err(e) => {
-            rows.pop();
+            slots.pop();
             Err(e)
         }
     }
@@ -156,10 +156,10 @@ fn add_run(
 }
 
 /// Returns the number of rows.
-fn row_count(rows: &Slots) -> usize
-    ensures { result ≡ length rows.now }
+fn row_count(slots: &Slots) -> usize
+    ensures { result ≡ length slots.now }
 {
-    rows.len()
+    slots.len()
 }
 
 /// Returns the number of types.
@@ -179,7 +179,7 @@ fn operand_count(operands: &[Value]) -> usize
 /// Adds the region of a slot, without operations.
 fn add_area(
     alloc: Global,
-    rows: &mut Slots,
+    slots: &mut Slots,
     sibs: &mut OrderedLists,
     uses: &mut LinkedLists,
     cells: &mut Vec<UseNode>,
@@ -187,10 +187,10 @@ fn add_area(
     number: u32,
     region: &TreeRegion,
 ) -> Result<RegionData, AllocError>
-    requires { IsEven (parts_of rows.old sibs.old uses.old cells.old.items) }
-    ensures wider { Wider (parts_of rows.old sibs.old uses.old cells.old.items) (parts_of rows.new sibs.new uses.new cells.new.items) }
+    requires { IsEven (parts_of slots.old sibs.old uses.old cells.old.items) }
+    ensures wider { Wider (parts_of slots.old sibs.old uses.old cells.old.items) (parts_of slots.new sibs.new uses.new cells.new.items) }
     ensures area { IfOk result (λ a. (bare_region (shape_of a) ≡ emptied_region (region_view region.now))
-        × IsBlock (parts_of rows.new sibs.new uses.new cells.new.items) (length uses.old.homes) owner number (shape_of a)) }
+        × IsBlock (parts_of slots.new sibs.new uses.new cells.new.items) (length uses.old.homes) owner number (shape_of a)) }
 {
     match region {
         TreeRegion::Empty => Ok(RegionData::Empty),
@@ -199,14 +199,14 @@ fn add_area(
                 Ok(args) => args,
                 Err(e) => return Err(e),
             };
-            add_block(rows, sibs, uses, cells, owner, number, args)
+            add_block(slots, sibs, uses, cells, owner, number, args)
         }
     }
 }
 
 /// Adds a block of a slot, without operations.
 fn add_block(
-    rows: &mut Slots,
+    slots: &mut Slots,
     sibs: &mut OrderedLists,
     uses: &mut LinkedLists,
     cells: &mut Vec<UseNode>,
@@ -214,20 +214,20 @@ fn add_block(
     number: u32,
     args: Vec<TypeId>,
 ) -> Result<RegionData, AllocError>
-    requires { IsEven (parts_of rows.old sibs.old uses.old cells.old.items) }
-    ensures wider { Wider (parts_of rows.old sibs.old uses.old cells.old.items) (parts_of rows.new sibs.new uses.new cells.new.items) }
+    requires { IsEven (parts_of slots.old sibs.old uses.old cells.old.items) }
+    ensures wider { Wider (parts_of slots.old sibs.old uses.old cells.old.items) (parts_of slots.new sibs.new uses.new cells.new.items) }
     ensures area { IfOk result (λ a. (bare_region (shape_of a) ≡ block args.items no_ops)
-        × IsBlock (parts_of rows.new sibs.new uses.new cells.new.items) (length uses.old.homes) owner number (shape_of a)) }
+        × IsBlock (parts_of slots.new sibs.new uses.new cells.new.items) (length uses.old.homes) owner number (shape_of a)) }
 {
     sibs.laws();
     uses.laws();
-    let head = row_count(rows);
+    let head = row_count(slots);
     let count = type_count(&args);
     let values = match add_run(uses, cells, head, count, true) {
         Ok(values) => values,
         Err(e) => return Err(e),
     };
-    match add_head(rows, sibs, owner, number, values) {
+    match add_head(slots, sibs, owner, number, values) {
         Ok(()) => Ok(RegionData::Block { args, head }),
         Err(e) => Err(e),
     }
@@ -236,23 +236,23 @@ fn add_block(
 /// Adds the regions of a slot, without operations.
 fn add_areas(
     alloc: Global,
-    rows: &mut Slots,
+    slots: &mut Slots,
     sibs: &mut OrderedLists,
     uses: &mut LinkedLists,
     cells: &mut Vec<UseNode>,
     owner: u32,
     regions: &[TreeRegion],
 ) -> Result<Vec<RegionData>, AllocError>
-    requires { IsEven (parts_of rows.old sibs.old uses.old cells.old.items) }
-    ensures wider { Wider (parts_of rows.old sibs.old uses.old cells.old.items) (parts_of rows.new sibs.new uses.new cells.new.items) }
+    requires { IsEven (parts_of slots.old sibs.old uses.old cells.old.items) }
+    ensures wider { Wider (parts_of slots.old sibs.old uses.old cells.old.items) (parts_of slots.new sibs.new uses.new cells.new.items) }
     ensures areas { IfOk result (λ a. AreEmptied (map shape_of a.items) (map region_view regions.now)
-        × AreBlocks (parts_of rows.new sibs.new uses.new cells.new.items) (length uses.old.homes) owner (map shape_of a.items)) }
+        × AreBlocks (parts_of slots.new sibs.new uses.new cells.new.items) (length uses.old.homes) owner (map shape_of a.items)) }
 {
     let mut areas = Vec::with_capacity(alloc, regions.len())?;
     let mut number = 0;
     let mut rest = regions;
     'regions: while let [region, tail @ ..] = rest {
-        let area = match add_area(alloc, rows, sibs, uses, cells, owner, number, region) {
+        let area = match add_area(alloc, slots, sibs, uses, cells, owner, number, region) {
             Ok(area) => area,
             Err(e) => return Err(e),
         };
@@ -273,24 +273,32 @@ fn add_areas(
 /// it.
 pub fn grow_slot(
     alloc: Global,
-    rows: &mut Slots,
+    slots: &mut Slots,
     sibs: &mut OrderedLists,
     uses: &mut LinkedLists,
     cells: &mut Vec<UseNode>,
     op: OpId,
     header: &TreeOp,
 ) -> Result<(usize, Draft), AllocError>
-    requires { IsEven (parts_of rows.old sibs.old uses.old cells.old.items) }
-    ensures wider { Wider (parts_of rows.old sibs.old uses.old cells.old.items) (parts_of rows.new sibs.new uses.new cells.new.items) }
-    ensures grown { IfOk result (λ p. Grown (length uses.old.homes) (parts_of rows.new sibs.new uses.new cells.new.items) op header.now p.0 p.1) }
+    requires { IsEven (parts_of slots.old sibs.old uses.old cells.old.items) }
+    ensures wider { Wider (parts_of slots.old sibs.old uses.old cells.old.items) (parts_of slots.new sibs.new uses.new cells.new.items) }
+    ensures grown { IfOk result (λ p. Grown (length uses.old.homes) (parts_of slots.new sibs.new uses.new cells.new.items) op header.now p.0 p.1) }
 {
     sibs.laws();
-    let slot = row_count(rows);
-    match add_spare(rows, sibs) {
+    let slot = row_count(slots);
+    match add_spare(slots, sibs) {
         Ok(()) => {}
         Err(e) => return Err(e),
     }
-    let areas = match add_areas(alloc, rows, sibs, uses, cells, slot as u32, &header.regions) {
+    let areas = match add_areas(
+        alloc,
+        slots,
+        sibs,
+        uses,
+        cells,
+        slot as u32,
+        &header.regions,
+    ) {
         Ok(areas) => areas,
         Err(e) => return Err(e),
     };

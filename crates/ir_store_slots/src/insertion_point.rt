@@ -14,11 +14,11 @@ use ir_store_arena::types::ids::OpId;
 use ir_store_lists::OrderedLists;
 
 /// Returns the slot of a held operation, or `None` if the operation isn't held.
-pub fn find_held(rows: &Slots, keys: &Keys, op: OpId) -> Option<usize>
-    ensures { result ≡ held_slot rows.now (finmap.get keys.now) op }
+pub fn find_held(slots: &Slots, keys: &Keys, op: OpId) -> Option<usize>
+    ensures { result ≡ held_slot slots.now (finmap.get keys.now) op }
 {
     let key = slot(keys, op)?;
-    if rows.is_used(key) && !rows.is_live(key) {
+    if slots.is_used(key) && !slots.is_live(key) {
         Some(key)
     } else {
         None
@@ -37,20 +37,20 @@ pub fn block_head(areas: &[RegionData], region: usize) -> Option<usize>
 
 /// Returns the head of the list of a place, and the slot of the next operation there; `None` if there is no such place.
 pub fn find_insertion_point(
-    rows: &Slots,
+    slots: &Slots,
     keys: &Keys,
     sibs: &OrderedLists,
     place: Place,
 ) -> Option<(usize, Option<usize>)>
-    requires { length rows.now ≡ length sibs.now.homes }
-    ensures { result ≡ point_in rows.now (finmap.get keys.now) sibs.now.homes place }
+    requires { length slots.now ≡ length sibs.now.homes }
+    ensures { result ≡ point_in slots.now (finmap.get keys.now) sibs.now.homes place }
 {
-    let parent = find(rows, keys, place.parent)?;
-    let head = block_head(rows.areas(parent), place.region as usize)?;
+    let parent = find(slots, keys, place.parent)?;
+    let head = block_head(slots.areas(parent), place.region as usize)?;
     match place.before {
         None => Some((head, None)),
         Some(before) => {
-            let at = find(rows, keys, before)?;
+            let at = find(slots, keys, before)?;
             if is_node_in_list(sibs, at, head) {
                 Some((head, Some(at)))
             } else {
@@ -87,17 +87,17 @@ pub fn link(sibs: &mut OrderedLists, node: usize, head: usize, before: Option<us
 
 /// Returns the slot of a held operation, and its insertion point.
 pub fn find_insertion(
-    rows: &Slots,
+    slots: &Slots,
     keys: &Keys,
     sibs: &OrderedLists,
     op: OpId,
     place: Place,
 ) -> Option<(usize, usize, Option<usize>)>
-    requires { length rows.now ≡ length sibs.now.homes }
-    ensures { MatchOption result ((is_some (held_slot rows.now (finmap.get keys.now) op) && is_some (point_in rows.now (finmap.get keys.now) sibs.now.homes place)) ≡ false)
-        (λ p. (Some p.0 ≡ held_slot rows.now (finmap.get keys.now) op) × (Some (p.1, p.2) ≡ point_in rows.now (finmap.get keys.now) sibs.now.homes place)) }
+    requires { length slots.now ≡ length sibs.now.homes }
+    ensures { MatchOption result ((is_some (held_slot slots.now (finmap.get keys.now) op) && is_some (point_in slots.now (finmap.get keys.now) sibs.now.homes place)) ≡ false)
+        (λ p. (Some p.0 ≡ held_slot slots.now (finmap.get keys.now) op) × (Some (p.1, p.2) ≡ point_in slots.now (finmap.get keys.now) sibs.now.homes place)) }
 {
-    let key = find_held(rows, keys, op)?;
-    let (head, before) = find_insertion_point(rows, keys, sibs, place)?;
+    let key = find_held(slots, keys, op)?;
+    let (head, before) = find_insertion_point(slots, keys, sibs, place)?;
     Some((key, head, before))
 }

@@ -40,13 +40,13 @@ pub fn reach(marks: &mut LinkedLists, count: usize) -> Result<(), AllocError>
 }
 
 /// Returns the list to which a slot belongs, or `None` if it belongs to neither.
-fn mark_at(rows: &Slots, key: usize) -> Option<usize>
-    ensures { result ≡ mark (row_at rows.now key) }
+fn mark_at(slots: &Slots, key: usize) -> Option<usize>
+    ensures { result ≡ mark (row_at slots.now key) }
 {
-    if !rows.is_live(key) {
-        return if rows.is_used(key) { Some(0) } else { None };
+    if !slots.is_live(key) {
+        return if slots.is_used(key) { Some(0) } else { None };
     }
-    if rows.has_gone(key) { Some(1) } else { None }
+    if slots.has_gone(key) { Some(1) } else { None }
 }
 
 /// Removes a node from its list, if it is in one, and appends it to another list, if one is given.
@@ -63,10 +63,10 @@ fn set_home(marks: &mut LinkedLists, node: usize, list: Option<usize>)
 }
 
 /// Moves a slot to the list to which its row belongs.
-pub fn link_slot(marks: &mut LinkedLists, rows: &Slots, key: usize)
+pub fn link_slot(marks: &mut LinkedLists, slots: &Slots, key: usize)
     requires { CanMark marks.old.homes key }
-    ensures { marks.new.homes ≡ slice_set marks.old.homes (node_of_slot key) (home_of (mark (row_at rows.now key))) }
+    ensures { marks.new.homes ≡ slice_set marks.old.homes (node_of_slot key) (home_of (mark (row_at slots.now key))) }
 {
     marks.laws();
-    set_home(marks, key + 2, mark_at(rows, key));
+    set_home(marks, key + 2, mark_at(slots, key));
 }

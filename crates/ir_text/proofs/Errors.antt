@@ -22,10 +22,10 @@ error_reported bytes (inner.Full left) = within (length bytes) left
 error_reported bytes (inner.Refused f) = (of_texts f.refusal, within (length bytes) f.left)
 
 -- such an error is also an error of an operation's text
-pub told_of_op : (bytes : List ℕ) (e : ReadError) → IsTextRefusal bytes e → IsOpRefusal bytes e
-told_of_op bytes errors.Memory h = tt
-told_of_op bytes (errors.Full offset) h = h
-told_of_op bytes (errors.Refused refusal offset) h = (inl h.0, h.1)
+pub reported_of_op : (bytes : List ℕ) (e : ReadError) → IsTextRefusal bytes e → IsOpRefusal bytes e
+reported_of_op bytes errors.Memory h = tt
+reported_of_op bytes (errors.Full offset) h = h
+reported_of_op bytes (errors.Refused refusal offset) h = (inl h.0, h.1)
 
 -- a consequence of every refusal is one of the converted refusal
 pub refused_so : {X Y : Type 0} (n : ℕ) (e : Inner) (g : ReadError) (P : Type 0) → ((f : Fault) → ◌≡◌ {A = Result X Inner} (Err e) (Err (inner.Refused f)) → P) → g ≡ error_at n e

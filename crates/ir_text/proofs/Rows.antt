@@ -6,8 +6,8 @@ use Rattle.std.proofs.lemmas.List.{drop_more}
 use Rattle.ir_tree.proofs.Steps.{next_left}
 
 -- one more text is printed, after the separator unless the text is the first
-pub one_more : (mark whole before between after text : List ℕ) (first : Bool) (now rest : List (List ℕ)) → now ≡ text ∷ rest → between ≡ before ++ (if first then [] else mark) → after ≡ between ++ text → before ++ parted mark first now ≡ whole → after ++ parted mark false rest ≡ whole
-one_more mark whole before between after text first now rest e p q s =
+pub one_more : (mark whole before intermediate after text : List ℕ) (first : Bool) (now rest : List (List ℕ)) → now ≡ text ∷ rest → intermediate ≡ before ++ (if first then [] else mark) → after ≡ intermediate ++ text → before ++ parted mark first now ≡ whole → after ++ parted mark false rest ≡ whole
+one_more mark whole before intermediate after text first now rest e p q s =
     let preceding = if first then [] else mark in
     let back = parted mark false rest in
     ap (λ l. l ++ back) (q ∙ ap (λ l. l ++ text) p) ∙ append_assoc (before ++ preceding) text back ∙ append_assoc before preceding (text ++ back) ∙ ap (λ ts. before ++ parted mark first ts) (sym e) ∙ s
@@ -19,10 +19,10 @@ no_more mark whole before first f xs i h n s =
     sym (append-nil before) ∙ ap (λ ts. before ++ parted mark first ts) (sym none) ∙ s
 
 -- the same before the text that closes the list
-pub one_more_closed : (mark close whole before between after text : List ℕ) (first : Bool) (now rest : List (List ℕ)) → now ≡ text ∷ rest → between ≡ before ++ (if first then [] else mark) → after ≡ between ++ text → before ++ (parted mark first now ++ close) ≡ whole → after ++ (parted mark false rest ++ close) ≡ whole
-one_more_closed mark close whole before between after text first now rest e p q s =
+pub one_more_closed : (mark close whole before intermediate after text : List ℕ) (first : Bool) (now rest : List (List ℕ)) → now ≡ text ∷ rest → intermediate ≡ before ++ (if first then [] else mark) → after ≡ intermediate ++ text → before ++ (parted mark first now ++ close) ≡ whole → after ++ (parted mark false rest ++ close) ≡ whole
+one_more_closed mark close whole before intermediate after text first now rest e p q s =
     sym (append_assoc after (parted mark false rest) close)
-    ∙ ap (λ l. l ++ close) (one_more mark (before ++ parted mark first now) before between after text first now rest e p q refl)
+    ∙ ap (λ l. l ++ close) (one_more mark (before ++ parted mark first now) before intermediate after text first now rest e p q refl)
     ∙ append_assoc before (parted mark first now) close
     ∙ s
 

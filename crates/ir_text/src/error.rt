@@ -26,7 +26,7 @@ impl ReadError {
     #[tactic(auto, using(crate::proofs::Errors::error_reported))]
     pub(crate) fn at(error: error::ReadError, bytes: &[u8]) -> ReadError
         ensures is { result ≡ error_at (length bytes.now) error }
-        ensures told { IsTextRefusal bytes.now result }
+        ensures reported { IsTextRefusal bytes.now result }
     {
         match error {
             error::ReadError::Memory => ReadError::Memory,

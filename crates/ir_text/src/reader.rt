@@ -37,7 +37,7 @@ pub fn read(alloc: Global, ctx: &mut Context, bytes: &[u8]) -> Result<TreeOp, Re
     ensures read { IfOk result (λ t. IsOnly (Spells ctx.old.opaque bytes.now) ctx.new t) }
     ensures sound { IfOk result (λ t. IsSoundIn ctx.new t) }
     ensures refused { (r : Refusal) (o : ℕ) → result ≡ Err (ReadError.Refused r o) → IsNone (Spells ctx.old.opaque bytes.now) }
-    ensures told { IfErr result (λ e. IsTextRefusal bytes.now e) }
+    ensures reported { IfErr result (λ e. IsTextRefusal bytes.now e) }
     ensures grows { IsExtendedBy ctx.old ctx.new }
     ensures full { (o : ℕ) → result ≡ Err (ReadError.Full o) → IsFull ctx.new }
 {
@@ -66,7 +66,7 @@ pub fn read_new(
     ensures sound { IfOk result (λ x. IsSoundIn x.0 x.1) }
     ensures mode { IfOk result (λ x. x.0.opaque ≡ opaque) }
     ensures refused { (r : Refusal) (o : ℕ) → result ≡ Err (ReadError.Refused r o) → IsNone (Spells opaque bytes.now) }
-    ensures told { IfErr result (λ e. IsTextRefusal bytes.now e) }
+    ensures reported { IfErr result (λ e. IsTextRefusal bytes.now e) }
     ensures headroom { (o : ℕ) → result ≡ Err (ReadError.Full o) → ⊥ }
 {
     match tree_alone(alloc, key, opaque, bytes) {
@@ -92,7 +92,7 @@ pub fn read_op<O: Outer>(
     ensures read { IfOk result (λ t. IsOnly (SpellsOp ctx.old.opaque (free_term (O.types outer.now) ctx.old) (O.next outer.now) bytes.now) ctx.new t) }
     ensures sound { IfOk result (λ t. IsSoundIn ctx.new t) }
     ensures refused { (r : Refusal) (o : ℕ) → result ≡ Err (ReadError.Refused r o) → IsNone (SpellsOp ctx.old.opaque (free_term (O.types outer.now) ctx.old) (O.next outer.now) bytes.now) }
-    ensures told { IfErr result (λ e. IsOpRefusal bytes.now e) }
+    ensures reported { IfErr result (λ e. IsOpRefusal bytes.now e) }
     ensures grows { IsExtendedBy ctx.old ctx.new }
     ensures full { (o : ℕ) → result ≡ Err (ReadError.Full o) → IsFull ctx.new }
 {
@@ -116,7 +116,7 @@ pub fn parse_attr(alloc: Global, ctx: &mut Context, bytes: &[u8]) -> Result<Attr
     ensures read { IfOk result (λ n. IsOnlyAttr (SpellsAttr ctx.old.opaque bytes.now) ctx.new n) }
     ensures grows { IsExtendedBy ctx.old ctx.new }
     ensures refused { (r : Refusal) (o : ℕ) → result ≡ Err (ReadError.Refused r o) → IsNoAttr (SpellsAttr ctx.old.opaque bytes.now) }
-    ensures told { IfErr result (λ e. IsTextRefusal bytes.now e) }
+    ensures reported { IfErr result (λ e. IsTextRefusal bytes.now e) }
     ensures full { (o : ℕ) → result ≡ Err (ReadError.Full o) → IsFull ctx.new }
 {
     let opaque = ctx.is_opaque();

@@ -41,9 +41,9 @@ module _ (p : TextPart) (values : List ℕ) (env : Aliases) where
 
   -- ---- one step of a walk
 
-  stopped : (f : ScanState) (outer : List Bracket) (c : ℕ) (cs out : List ℕ) (marks : List Mark) → stops p f c cs ≡ true → walk p values env f outer 0 (c ∷ cs) out marks ≡ walked out marks (c ∷ cs) None
+  aborted : (f : ScanState) (outer : List Bracket) (c : ℕ) (cs out : List ℕ) (marks : List Mark) → stops p f c cs ≡ true → walk p values env f outer 0 (c ∷ cs) out marks ≡ walked out marks (c ∷ cs) None
   unfolding walk
-  stopped f outer c cs out marks e = rw e refl
+  aborted f outer c cs out marks e = rw e refl
 
   extra : (f : ScanState) (outer : List Bracket) (c : ℕ) (cs out : List ℕ) (marks : List Mark) (m : Move) → stops p f c cs ≡ false → move p values env f outer (length out) c cs ≡ m
       → walk p values env f outer 0 (c ∷ cs) out marks ≡ unless m.fault (c ∷ cs) out marks (walk p values env m.scanned m.outer m.len cs (out ++ m.put) (marks ++ m.marks))
@@ -69,7 +69,7 @@ module _ (p : TextPart) (values : List ℕ) (env : Aliases) where
       from false false = lexeme_within c cs
 
   pub stops_here : (f : ScanState) (outer : List Bracket) (c : ℕ) (all tail out : List ℕ) (marks : List Mark) → all ≡ c ∷ tail → stops p f c tail ≡ true → walk p values env f outer 0 all out marks ≡ walked out marks all None
-  stops_here f outer c all tail out marks a e = ap (λ l. walk p values env f outer 0 l out marks) a ∙ stopped f outer c tail out marks e ∙ ap (λ l. walked out marks l None) (sym a)
+  stops_here f outer c all tail out marks a e = ap (λ l. walk p values env f outer 0 l out marks) a ∙ aborted f outer c tail out marks e ∙ ap (λ l. walked out marks l None) (sym a)
 
   pub goes_on : (f scanned : ScanState) (outer after : List Bracket) (c : ℕ) (all tail rest out new : List ℕ) (marks more : List Mark) → all ≡ c ∷ tail → stops p f c tail ≡ false
       → Moved (move p values env f outer (length out) c tail) scanned after tail rest out new marks more → walk p values env f outer 0 all out marks ≡ walk p values env scanned after 0 rest new more

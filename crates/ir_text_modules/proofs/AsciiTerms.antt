@@ -74,18 +74,18 @@ truth_word : (b : Bool) → IsAscii (truth_text b)
 truth_word true = word (codes "false") refl
 truth_word false = word (codes "true") refl
 
-plain : (truth : Bool) (z : ℤ) → IsAscii (number_text truth z)
+simple : (truth : Bool) (z : ℤ) → IsAscii (number_text truth z)
 unfolding number_text
-plain true z = truth_word (int_eq z (pos 0))
-plain false z = signed z
+simple true z = truth_word (int_eq z (pos 0))
+simple false z = signed z
 
 integer : (ty : TypeTerm) (z : ℤ) → is_written_type false ty ≡ true → IsAscii (integer_text ty z)
-integer ty z e = either (is_truth ty) (number_text true z) (number_text false z ++ (codes " : " ++ type_text ty)) (plain true z)
-    (IsAscii-append (number_text false z) (codes " : " ++ type_text ty) (plain false z) (IsAscii-append (codes " : ") (type_text ty) (word (codes " : ") refl) (type ty e)))
+integer ty z e = either (is_truth ty) (number_text true z) (number_text false z ++ (codes " : " ++ type_text ty)) (simple true z)
+    (IsAscii-append (number_text false z) (codes " : " ++ type_text ty) (simple false z) (IsAscii-append (codes " : ") (type_text ty) (word (codes " : ") refl) (type ty e)))
 
 numbers : (truth : Bool) (zs : List ℤ) → AllByRecursion IsAscii (map (number_text truth) zs)
 numbers truth [] = tt
-numbers truth (z ∷ zs) = (plain truth z, numbers truth zs)
+numbers truth (z ∷ zs) = (simple truth z, numbers truth zs)
 
 items : (truth : Bool) (zs : List ℤ) → IsAscii (items_text truth zs)
 items truth [] = IsAscii-nil

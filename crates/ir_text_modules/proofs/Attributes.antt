@@ -153,7 +153,7 @@ unit_again (suc depth) rest le = (refl, refl, refl)
 module _ (o : Bool) (depth : ℕ) (item : IsReadAgain o depth) where
   attr_items : Items CloseSquare (λ before. IsAttr o depth) attr_text (λ before. FitsAttr o depth) (EndsAttr o)
   attr_items = record {
-    reads = λ preceding a rest fit s. item a rest fit s;
+    reads = λ preceding a rest fits_in s. item a rest fits_in s;
     ahead = λ preceding. attr_ahead o depth;
     lacks = λ preceding. attr_lacks o depth;
     comma = comma_ends o;
@@ -172,9 +172,9 @@ module _ (o : Bool) (depth : ℕ) (item : IsReadAgain o depth) where
       rw apart (mark OpenSquare, row ++ 93 ∷ rest, mark_token OpenSquare (row ++ 93 ∷ rest) tt, (attrs_list as', rest, rw (texts_of_attrs as') inside, (rw (attrs_again as') (array_fine as' (omega arith)), rw (attrs_again as') refl, refl)))
 
   entry_read : (preceding : List EntryTerm) (e : EntryTerm) (rest : List ℕ) → FitsEntry o depth preceding e → EndsEntry o rest → IsEntry depth (IsAttr o depth) preceding e (text_of_entry e ++ rest) rest
-  entry_read preceding e rest fit s =
-      let k = entry_parts o (IsAttr o depth) (IsUnitValue depth) (attr_ahead o depth) e.0 e.1 rest fit.1 s (item e.1 rest fit.2 s.2) (λ f. unit_again depth rest (omega (arith, some_attr_depth o e.1 fit.2.1, fit.2.0))) in
-      (e.0, k.0, k.1, (fit.0, (e.1, rest, k.2, (refl, refl))))
+  entry_read preceding e rest fits_in s =
+      let k = entry_parts o (IsAttr o depth) (IsUnitValue depth) (attr_ahead o depth) e.0 e.1 rest fits_in.1 s (item e.1 rest fits_in.2 s.2) (λ f. unit_again depth rest (omega (arith, some_attr_depth o e.1 fits_in.2.1, fits_in.2.0))) in
+      (e.0, k.0, k.1, (fits_in.0, (e.1, rest, k.2, (refl, refl))))
 
   entry_items : Items CloseCurly (IsEntry depth (IsAttr o depth)) text_of_entry (FitsEntry o depth) (EndsEntry o)
   entry_items = record {
@@ -216,17 +216,17 @@ opaque_read true depth text ty rest small le e s =
 
 pub attr_again : (o : Bool) (depth : ℕ) → depth ≤ 32 → IsReadAgain o depth
 unfolding IsAttr
-attr_again o zero small a rest fit s = absurd (omega (arith, some_attr_depth o a fit.1, fit.0))
-attr_again o (suc depth) small (IntegerOf ty bits) rest fit s = let p = and_parts (is_written_type o ty) (is_bits_of ty bits) fit.1 in integer_read o depth ty bits rest p.0 p.1 (ends_type o rest s)
-attr_again o (suc depth) small (String v) rest fit s = string_read o depth v rest (are_bytes v fit.1) s
-attr_again o (suc depth) small (TypeOf ty) rest fit s = type_read o depth ty rest small fit.0 fit.1 (ends_type o rest s)
-attr_again o (suc depth) small Flag rest fit s = unit_read o depth rest (ends_word rest (ends_suffix o rest s))
-attr_again o (suc depth) small (Array items) rest fit s = array_read o depth (attr_again o depth (omega arith)) items rest fit.0 small fit.1
-attr_again o (suc depth) small (Dictionary es) rest fit s = dictionary_read o depth (attr_again o depth (omega arith)) es rest fit.0 small fit.1
-attr_again o (suc depth) small (Symbol parts) rest fit s = symbol_read o depth parts rest fit.1 s
-attr_again o (suc depth) small (DenseArray elem zs) rest fit s =
-    let p = and_parts (is_element elem) (nat_le (length zs) many && list_all (is_value_number elem) zs) fit.1 in
+attr_again o zero small a rest fits_in s = absurd (omega (arith, some_attr_depth o a fits_in.1, fits_in.0))
+attr_again o (suc depth) small (IntegerOf ty bits) rest fits_in s = let p = and_parts (is_written_type o ty) (is_bits_of ty bits) fits_in.1 in integer_read o depth ty bits rest p.0 p.1 (ends_type o rest s)
+attr_again o (suc depth) small (String v) rest fits_in s = string_read o depth v rest (are_bytes v fits_in.1) s
+attr_again o (suc depth) small (TypeOf ty) rest fits_in s = type_read o depth ty rest small fits_in.0 fits_in.1 (ends_type o rest s)
+attr_again o (suc depth) small Flag rest fits_in s = unit_read o depth rest (ends_word rest (ends_suffix o rest s))
+attr_again o (suc depth) small (Array items) rest fits_in s = array_read o depth (attr_again o depth (omega arith)) items rest fits_in.0 small fits_in.1
+attr_again o (suc depth) small (Dictionary es) rest fits_in s = dictionary_read o depth (attr_again o depth (omega arith)) es rest fits_in.0 small fits_in.1
+attr_again o (suc depth) small (Symbol parts) rest fits_in s = symbol_read o depth parts rest fits_in.1 s
+attr_again o (suc depth) small (DenseArray elem zs) rest fits_in s =
+    let p = and_parts (is_element elem) (nat_le (length zs) many && list_all (is_value_number elem) zs) fits_in.1 in
     let q = and_parts (nat_le (length zs) many) (list_all (is_value_number elem) zs) p.1 in
     dense_read o depth elem zs rest p.0 q.0 q.1
-attr_again o (suc depth) small (Overflow nsw nuw) rest fit s = overflow_read o depth nsw nuw rest
-attr_again o (suc depth) small (OpaqueOf text ty) rest fit s = opaque_read o depth text ty rest small fit.0 fit.1 s
+attr_again o (suc depth) small (Overflow nsw nuw) rest fits_in s = overflow_read o depth nsw nuw rest
+attr_again o (suc depth) small (OpaqueOf text ty) rest fits_in s = opaque_read o depth text ty rest small fits_in.0 fits_in.1 s

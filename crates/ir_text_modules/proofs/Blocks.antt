@@ -66,7 +66,7 @@ after_argument id r k m t s rest = record { bytes = rest; scopes = with_argument
 
 argument_read : (o : Bool) (id r : ℕ) (before : List TypeTerm) (m : ℕ) (t : TypeTerm) (s : ParseState) (c : ℕ) (rest : List ℕ) → m < 2 ^ 128 → FitsType o 32 t → (c ≡ 44) ⊎ (c ≡ 41) → find (argument_word m) s.scopes.here ≡ None
     → next_token s.bytes ≡ next_token (argument_text m t ++ c ∷ rest) → IsArg o id r before t s (after_argument id r (length before) m t s (c ∷ rest))
-argument_read o id r before m t s c rest lt fit ends fresh e =
+argument_read o id r before m t s c rest lt fits_in ends fresh e =
     let typed = type_text t ++ c ∷ rest in
     let back = 58 ∷ 32 ∷ typed in
     let apart : argument_text m t ++ c ∷ rest ≡ 37 ∷ (argument_word m ++ back) = ap (λ (l : List ℕ). 37 ∷ 97 ∷ 114 ∷ 103 ∷ l) (append_assoc (decimal m) (58 ∷ 32 ∷ type_text t) (c ∷ rest)) in
@@ -75,8 +75,8 @@ argument_read o id r before m t s c rest lt fit ends fresh e =
     (argument_word m, state_with_rest s back, (back, name, refl), (state_with_rest s (32 ∷ typed), mark_seen Colon (state_with_rest s back) (32 ∷ typed) (mark_token Colon (32 ∷ typed) refl), (t, state_with_rest s (c ∷ rest), (c ∷ rest, type, refl), (with_argument id r (length before) m t s.scopes, (fresh, refl), refl, refl))))
   where
     rendered : (c : ℕ) → (c ≡ 44) ⊎ (c ≡ 41) → IsType o 32 t (type_text t ++ c ∷ rest) (c ∷ rest)
-    rendered c (inl k) = subst (λ (d : ℕ). IsType o 32 t (type_text t ++ d ∷ rest) (d ∷ rest)) (sym k) (type_again o 32 (omega arith) t (44 ∷ rest) fit.0 fit.1 (comma_ends o rest))
-    rendered c (inr k) = subst (λ (d : ℕ). IsType o 32 t (type_text t ++ d ∷ rest) (d ∷ rest)) (sym k) (type_again o 32 (omega arith) t (41 ∷ rest) fit.0 fit.1 (round_ends o rest))
+    rendered c (inl k) = subst (λ (d : ℕ). IsType o 32 t (type_text t ++ d ∷ rest) (d ∷ rest)) (sym k) (type_again o 32 (omega arith) t (44 ∷ rest) fits_in.0 fits_in.1 (comma_ends o rest))
+    rendered c (inr k) = subst (λ (d : ℕ). IsType o 32 t (type_text t ++ d ∷ rest) (d ∷ rest)) (sym k) (type_again o 32 (omega arith) t (41 ∷ rest) fits_in.0 fits_in.1 (round_ends o rest))
 
 -- ---- arguments up to the closing parenthesis
 
@@ -91,17 +91,17 @@ module _ (o : Bool) (f : ℕ → ℕ) (scope : List Frame) (x r : ℕ) (away : (
   pub arguments_more : (headroom : ℕ) (preceding : List TypeTerm) (t : TypeTerm) (ts : List TypeTerm) (n : Names) (s : ParseState) (rest : List ℕ) → Joined o f (scope ++ arguments x r (length preceding) ∷ []) n s.scopes.here → n.arguments + length (t ∷ ts) < 2 ^ 128 → AllByRecursion (FitsType o 32) (t ∷ ts) → length (t ∷ ts) ≤ headroom
       → next_token s.bytes ≡ next_token (argument_text n.arguments t ++ arguments_then (length preceding + 1) ts (n.arguments + 1) (41 ∷ rest)) → ArgumentsRead headroom preceding t ts n s rest
   unfolding IsMore
-  arguments_more zero preceding t ts n s rest j small fit le e = absurd (omega (arith, le))
-  arguments_more (suc headroom) preceding t [] n s rest j small fit le e =
+  arguments_more zero preceding t ts n s rest j small fits_in le e = absurd (omega (arith, le))
+  arguments_more (suc headroom) preceding t [] n s rest j small fits_in le e =
       let k = length preceding in
       let one : k + length (t ∷ []) ≡ k + 1 = omega arith in
       record {
         scopes = with_argument (f x) r k n.arguments t s.scopes;
-        reads = (t, after_argument (f x) r k n.arguments t s (41 ∷ rest), argument_read o (f x) r preceding n.arguments t s 41 rest (omega arith) fit.0 (inr refl) (j.fresh_arguments n.arguments (omega arith) (omega arith)) e, inl (mark_seen CloseRound (after_argument (f x) r k n.arguments t s (41 ∷ rest)) rest (mark_token CloseRound rest tt), refl));
-        joined = subst (λ (i : ℕ). Joined o f (scope ++ arguments x r i ∷ []) (argument_names x r k t n) (with_argument (f x) r k n.arguments t s.scopes).here) (sym one) (joined_argument o f scope n s.scopes.here x r k t away j (omega arith) fit.0);
+        reads = (t, after_argument (f x) r k n.arguments t s (41 ∷ rest), argument_read o (f x) r preceding n.arguments t s 41 rest (omega arith) fits_in.0 (inr refl) (j.fresh_arguments n.arguments (omega arith) (omega arith)) e, inl (mark_seen CloseRound (after_argument (f x) r k n.arguments t s (41 ∷ rest)) rest (mark_token CloseRound rest tt), refl));
+        joined = subst (λ (i : ℕ). Joined o f (scope ++ arguments x r i ∷ []) (argument_names x r k t n) (with_argument (f x) r k n.arguments t s.scopes).here) (sym one) (joined_argument o f scope n s.scopes.here x r k t away j (omega arith) fits_in.0);
         outer = refl;
       }
-  arguments_more (suc headroom) preceding t (u ∷ us) n s rest j small fit le e =
+  arguments_more (suc headroom) preceding t (u ∷ us) n s rest j small fits_in le e =
       let k = length preceding in
       let preceding' = preceding ++ t ∷ [] in
       let grown : length preceding' ≡ k + 1 = length-append preceding (t ∷ []) ∙ omega arith in
@@ -111,12 +111,12 @@ module _ (o : Bool) (f : ℕ → ℕ) (scope : List Frame) (x r : ℕ) (away : (
       let here = e ∙ ap (λ (l : List ℕ). next_token (argument_text n.arguments t ++ l)) comma in
       let mid = after_argument (f x) r k n.arguments t s (44 ∷ 32 ∷ trailing) in
       let after = state_with_rest mid (32 ∷ trailing) in
-      let first = argument_read o (f x) r preceding n.arguments t s 44 (32 ∷ trailing) (omega arith) fit.0 (inl refl) (j.fresh_arguments n.arguments (omega arith) (omega arith)) here in
+      let first = argument_read o (f x) r preceding n.arguments t s 44 (32 ∷ trailing) (omega arith) fits_in.0 (inl refl) (j.fresh_arguments n.arguments (omega arith) (omega arith)) here in
       let names = argument_names x r k t n in
-      let there = joined_argument o f scope n s.scopes.here x r k t away j (omega arith) fit.0 in
+      let there = joined_argument o f scope n s.scopes.here x r k t away j (omega arith) fits_in.0 in
       let joined = subst (λ (i : ℕ). Joined o f (scope ++ arguments x r i ∷ []) names mid.scopes.here) (sym grown) there in
       let text : next_token (32 ∷ trailing) ≡ next_token (argument_text names.arguments u ++ arguments_then (length preceding' + 1) us (names.arguments + 1) (41 ∷ rest)) = blank_passed 32 trailing refl ∙ ap (λ (i : ℕ). next_token (argument_text (n.arguments + 1) u ++ arguments_then (i + 1) us (n.arguments + 1 + 1) (41 ∷ rest))) (sym grown) in
-      let more = arguments_more headroom preceding' u us names after rest joined (omega (arith, small)) fit.1 (omega arith) text in
+      let more = arguments_more headroom preceding' u us names after rest joined (omega (arith, small)) fits_in.1 (omega arith) text in
       let all : preceding ++ t ∷ u ∷ us ≡ preceding' ++ u ∷ us = sym (append_assoc preceding (t ∷ []) (u ∷ us)) in
       let open_yet = not_seen CloseRound mid (lacks_token (mark Comma) CloseRound (44 ∷ 32 ∷ trailing) (32 ∷ trailing) (mark_token Comma (32 ∷ trailing) tt) (λ e. absurd cc)) in
       let count : length preceding' + length (u ∷ us) ≡ k + length (t ∷ u ∷ us) = omega (arith, grown) in

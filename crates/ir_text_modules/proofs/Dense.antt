@@ -33,7 +33,7 @@ use Rattle.ir_text_modules.specs.WrittenAttributes.{is_element}
 use Rattle.ir_text_modules.proofs.Small.{lacks_token}
 use Rattle.ir_text_modules.proofs.Ahead.{Ahead, Lacks, more_ahead, space}
 use Rattle.ir_text_modules.proofs.Rows.{AllFit, Items, more_again}
-use Rattle.ir_text_modules.proofs.Values.{IsPlain, plain}
+use Rattle.ir_text_modules.proofs.Values.{IsPlain, simple}
 use Rattle.ir_text_modules.proofs.Leaves.{Begins}
 use Rattle.ir_text_modules.proofs.TypeWords.{word_after}
 use Rattle.ir_text_tokens.proofs.Places.{is_below}
@@ -148,11 +148,11 @@ item_read elem z rest k v s = from (is_truth elem) refl
   where
     from : (b : Bool) → is_truth elem ≡ b → IsItem elem z (number_text (is_truth elem) z ++ rest) rest
     from true e = subst (λ u. is_value_number u z ≡ true → IsItem u z (number_text (is_truth u) z ++ rest) rest) (sym (k.truth e)) (λ w. truth_item z rest w s.0) v
-    from false e = subst (λ b. IsItem elem z (number_text b z ++ rest) rest) (sym e) (number_item elem z rest (plain false elem z k.type v) s.1)
+    from false e = subst (λ b. IsItem elem z (number_text b z ++ rest) rest) (sym e) (number_item elem z rest (simple false elem z k.type v) s.1)
 
 dense_items : (elem : TypeTerm) → IsNamed elem → Items Greater (λ before. IsItem elem) (number_text (is_truth elem)) (FitsItem elem) EndsItem
 dense_items elem k = record {
-  reads = λ preceding z rest fit s. item_read elem z rest k fit s;
+  reads = λ preceding z rest fits_in s. item_read elem z rest k fits_in s;
   ahead = λ preceding. item_ahead elem;
   lacks = λ preceding. item_lacks elem;
   comma = λ rest. (refl, refl);

@@ -27,7 +27,7 @@ use Rattle.ir_text_modules.proofs.ModuleValues.{Away, all_preceding}
 use Rattle.ir_text_modules.proofs.Grown.{Grown}
 use Rattle.ir_text_modules.proofs.Joined.{Here, IsParseState, Joined, OwnNames, joined_nothing, joined_no_results, joined_results}
 use Rattle.ir_text_modules.proofs.Preceding.{result_read}
-use Rattle.ir_text_modules.proofs.Labels.{Plain}
+use Rattle.ir_text_modules.proofs.Labels.{Simple}
 use Rattle.ir_text_modules.proofs.Tails.{finished}
 
 -- ---- ids
@@ -122,13 +122,13 @@ types_count a (v ∷ vs) = ap suc (types_count a vs)
 
 pub joined_end : (o : Bool) (f : ℕ → ℕ) (scope : List Frame) (n m : Names) (s : Scopes PackTerm) (x : ℕ) (ts : List TypeTerm) → Joined o f scope n s.here → ((v : Value) → in_scope scope v ≡ true → naming_of m.named v ≡ naming_of n.named v) → length ts ≤ 256 → AllByRecursion (FitsType o 32) ts → OwnNames m x ts n.results → n.results < 2 ^ 128 → (results_names x ts n).results ≤ m.results → n.arguments ≤ m.arguments
     → Joined o f (scope ++ results x (length ts) ∷ []) m (finished n.results (f x) ts s).here
-joined_end o f scope n m s x [] j keep few fit own small more more_arguments = joined_no_results o f scope n m s.here j keep x more_arguments more
-joined_end o f scope n m s x (t ∷ ts) j keep few fit own small more more_arguments = joined_results o f scope n m s.here j keep x more_arguments (t ∷ ts) few fit own small more
+joined_end o f scope n m s x [] j keep few fits_in own small more more_arguments = joined_no_results o f scope n m s.here j keep x more_arguments more
+joined_end o f scope n m s x (t ∷ ts) j keep few fits_in own small more more_arguments = joined_results o f scope n m s.here j keep x more_arguments (t ∷ ts) few fits_in own small more
 
 -- an operation begins with a string or the name of a value
-pub plain_head : (o : Bool) (m : ℕ) (ts : List TypeTerm) (h : Head) (named : Named) (rest : List ℕ) → FitsHead o h → m < 2 ^ 128 → length ts ≤ 256 → Plain o (results_then m ts (name_then h named rest))
-plain_head o m [] h named rest fit lt few = record { lexeme = string (raw_text h.name); trailing = _; token = string_token h.name _ (are_bytes h.name fit.written.bytes); no_label = λ id r s. (refl, refl); no_mark = λ k e. absurd cc }
-plain_head o m (t ∷ ts) h named rest fit lt few =
+pub plain_head : (o : Bool) (m : ℕ) (ts : List TypeTerm) (h : Head) (named : Named) (rest : List ℕ) → FitsHead o h → m < 2 ^ 128 → length ts ≤ 256 → Simple o (results_then m ts (name_then h named rest))
+plain_head o m [] h named rest fits_in lt few = record { lexeme = string (raw_text h.name); trailing = _; token = string_token h.name _ (are_bytes h.name fits_in.written.bytes); no_label = λ id r s. (refl, refl); no_mark = λ k e. absurd cc }
+plain_head o m (t ∷ ts) h named rest fits_in lt few =
     let r = result_read m (length (t ∷ ts)) (name_then h named rest) lt (omega arith) few in
     record { lexeme = value (decimal m); trailing = r.mid; token = r.name; no_label = λ id q s. (refl, refl); no_mark = λ k e. absurd cc }
 

@@ -39,26 +39,26 @@ grown_arguments x r k (t ∷ ts) n = grown_then n (argument_names x r k t n) (ar
 
 mutual
   pub grown_op : (o : Bool) (t : Operation) (n : Names) → FitsOp o t → Grown n (op_names t n) (length (ids t)) (4096 * length (ids t))
-  grown_op o (op h rs) n fit =
+  grown_op o (op h rs) n fits_in =
       let m = results_names h.id h.results n in
-      grown_then n m (regions_names h.id 0 rs m) 1 0 (length (regions_ids rs)) (256 * region_count rs + 4096 * length (regions_ids rs)) (length (ids (op h rs))) (4096 * length (ids (op h rs))) (grown_results h.id h.results n) (grown_regions o h.id 0 rs m fit.2) (omega arith) (omega (arith, fit.1))
+      grown_then n m (regions_names h.id 0 rs m) 1 0 (length (regions_ids rs)) (256 * region_count rs + 4096 * length (regions_ids rs)) (length (ids (op h rs))) (4096 * length (ids (op h rs))) (grown_results h.id h.results n) (grown_regions o h.id 0 rs m fits_in.2) (omega arith) (omega (arith, fits_in.1))
 
   pub grown_regions : (o : Bool) (x r : ℕ) (rs : Regions) (n : Names) → FitsRegions o rs → Grown n (regions_names x r rs n) (length (regions_ids rs)) (256 * region_count rs + 4096 * length (regions_ids rs))
-  grown_regions o x r no_regions n fit = grown_then n n n 0 0 0 0 0 (256 * 0 + 4096 * 0) (grown_none n) (grown_none n) (omega arith) (omega arith)
-  grown_regions o x r (region g rs) n fit =
+  grown_regions o x r no_regions n fits_in = grown_then n n n 0 0 0 0 0 (256 * 0 + 4096 * 0) (grown_none n) (grown_none n) (omega arith) (omega arith)
+  grown_regions o x r (region g rs) n fits_in =
       let m = region_names x r g n in
       let count = length-append (region_ids g) (regions_ids rs) in
-      grown_then n m (regions_names x (r + 1) rs m) (length (region_ids g)) (256 + 4096 * length (region_ids g)) (length (regions_ids rs)) (256 * region_count rs + 4096 * length (regions_ids rs)) (length (regions_ids (region g rs))) (256 * region_count (region g rs) + 4096 * length (regions_ids (region g rs))) (grown_region o x r g n fit.0) (grown_regions o x (r + 1) rs m fit.1) (omega (arith, count)) (omega (arith, count))
+      grown_then n m (regions_names x (r + 1) rs m) (length (region_ids g)) (256 + 4096 * length (region_ids g)) (length (regions_ids rs)) (256 * region_count rs + 4096 * length (regions_ids rs)) (length (regions_ids (region g rs))) (256 * region_count (region g rs) + 4096 * length (regions_ids (region g rs))) (grown_region o x r g n fits_in.0) (grown_regions o x (r + 1) rs m fits_in.1) (omega (arith, count)) (omega (arith, count))
 
   pub grown_region : (o : Bool) (x r : ℕ) (g : Region) (n : Names) → FitsRegion o g → Grown n (region_names x r g n) (length (region_ids g)) (256 + 4096 * length (region_ids g))
-  grown_region o x r empty n fit = grown_then n n n 0 0 0 0 0 (256 + 4096 * 0) (grown_none n) (grown_none n) (omega arith) (omega arith)
-  grown_region o x r (block args os) n fit =
+  grown_region o x r empty n fits_in = grown_then n n n 0 0 0 0 0 (256 + 4096 * 0) (grown_none n) (grown_none n) (omega arith) (omega arith)
+  grown_region o x r (block args os) n fits_in =
       let m = arguments_names x r 0 args n in
-      grown_then n m (ops_names os m) 0 (length args) (length (ops_ids os)) (4096 * length (ops_ids os)) (length (ops_ids os)) (256 + 4096 * length (ops_ids os)) (grown_arguments x r 0 args n) (grown_ops o os m fit.2) (omega arith) (omega (arith, fit.0))
+      grown_then n m (ops_names os m) 0 (length args) (length (ops_ids os)) (4096 * length (ops_ids os)) (length (ops_ids os)) (256 + 4096 * length (ops_ids os)) (grown_arguments x r 0 args n) (grown_ops o os m fits_in.2) (omega arith) (omega (arith, fits_in.0))
 
   pub grown_ops : (o : Bool) (os : Ops) (n : Names) → FitsOps o os → Grown n (ops_names os n) (length (ops_ids os)) (4096 * length (ops_ids os))
-  grown_ops o no_ops n fit = grown_then n n n 0 0 0 0 0 (4096 * 0) (grown_none n) (grown_none n) (omega arith) (omega arith)
-  grown_ops o (next t ts) n fit =
+  grown_ops o no_ops n fits_in = grown_then n n n 0 0 0 0 0 (4096 * 0) (grown_none n) (grown_none n) (omega arith) (omega arith)
+  grown_ops o (next t ts) n fits_in =
       let m = op_names t n in
       let count = length-append (ids t) (ops_ids ts) in
-      grown_then n m (ops_names ts m) (length (ids t)) (4096 * length (ids t)) (length (ops_ids ts)) (4096 * length (ops_ids ts)) (length (ops_ids (next t ts))) (4096 * length (ops_ids (next t ts))) (grown_op o t n fit.0) (grown_ops o ts m fit.1) (omega (arith, count)) (omega (arith, count))
+      grown_then n m (ops_names ts m) (length (ids t)) (4096 * length (ids t)) (length (ops_ids ts)) (4096 * length (ops_ids ts)) (length (ops_ids (next t ts))) (4096 * length (ops_ids (next t ts))) (grown_op o t n fits_in.0) (grown_ops o ts m fits_in.1) (omega (arith, count)) (omega (arith, count))

@@ -134,7 +134,7 @@ result_shown (Arg y s k) x n e = absurd cc
 
 result_read : (o : Bool) (f : ℕ → ℕ) (here : Here) (x : ℕ) (ts : List TypeTerm) (n k : ℕ) (t : TypeTerm) → n < 2 ^ 128 → length ts ≤ 256 → k < length ts → slice_get ts k ≡ Some t → FitsType o 32 t
     → IsRead o f (here ++ (record { name = decimal n; value = result_terms (f x) 0 ts }) ∷ []) (Result x k) (record { name = result_name (length ts == 1) n k; type = t })
-result_read o f here x ts n k t lt few within e fit = from (length ts == 1) refl
+result_read o f here x ts n k t lt few within e fits_in = from (length ts == 1) refl
   where
     pack : PackTerm
     pack = result_terms (f x) 0 ts
@@ -146,8 +146,8 @@ result_read o f here x ts n k t lt few within e fit = from (length ts == 1) refl
     from true only =
         let lone : length ts ≡ 1 = eqb-true (length ts) 1 only in
         let first : k ≡ 0 = omega arith in
-        record { pack = pack; bound = find_new (decimal n) here pack; place = subst (λ (j : ℕ). slice_get pack j ≡ Some (term_of f (Result x k) t)) first there; small = lt; type = fit }
-    from false many = record { pack = pack; bound = find_new (decimal n) here pack; place = there; small = (lt, omega arith); type = fit }
+        record { pack = pack; bound = find_new (decimal n) here pack; place = subst (λ (j : ℕ). slice_get pack j ≡ Some (term_of f (Result x k) t)) first there; small = lt; type = fits_in }
+    from false many = record { pack = pack; bound = find_new (decimal n) here pack; place = there; small = (lt, omega arith); type = fits_in }
 
 module _ (o : Bool) (f : ℕ → ℕ) (scope : List Frame) (n m : Names) (here : Here) (j : Joined o f scope n here) (keep : (v : Value) → in_scope scope v ≡ true → naming_of m.named v ≡ naming_of n.named v) (x : ℕ) (more_arguments : n.arguments ≤ m.arguments) where
   pub joined_no_results : n.results ≤ m.results → Joined o f (scope ++ results x 0 ∷ []) m here
@@ -162,7 +162,7 @@ module _ (o : Bool) (f : ℕ → ℕ) (scope : List Frame) (n m : Names) (here :
 
   pub joined_results : (ts : List TypeTerm) → length ts ≤ 256 → AllByRecursion (FitsType o 32) ts → OwnNames m x ts n.results → n.results < 2 ^ 128 → n.results + 1 ≤ m.results
       → Joined o f (scope ++ results x (length ts) ∷ []) m (here ++ (record { name = decimal n.results; value = result_terms (f x) 0 ts }) ∷ [])
-  joined_results ts few fit own small more = record {
+  joined_results ts few fits_in own small more = record {
     seen = λ v e. ⊎_elim
         (λ (k : in_scope scope v ≡ true). let s = j.seen v k in record { naming = s.naming; named = keep v k ∙ s.named; read = read_kept o f here v s.naming (decimal n.results) pack unused s.read })
         (λ (k : shows v (results x (length ts)) ≡ true). shown v (result_shown v x (length ts) k))
@@ -184,7 +184,7 @@ module _ (o : Bool) (f : ℕ → ℕ) (scope : List Frame) (n m : Names) (here :
           (record {
             naming = record { name = result_name (length ts == 1) n.results r.0; type = t.0 };
             named = own r.0 t.0 t.1;
-            read = result_read o f here x ts n.results r.0 t.0 small few r.2 t.1 (all_get (FitsType o 32) ts r.0 t.0 fit t.1);
+            read = result_read o f here x ts n.results r.0 t.0 small few r.2 t.1 (all_get (FitsType o 32) ts r.0 t.0 fits_in t.1);
           })
 
 -- ---- an argument becomes visible
@@ -216,7 +216,7 @@ elsewhere (Arg y s k) x r n e = rw e refl
 module _ (o : Bool) (f : ℕ → ℕ) (scope : List Frame) (n : Names) (here : Here) (x r k : ℕ) (t : TypeTerm) (away : (v : Value) → in_scope scope v ≡ true → (source_id (source_of v) == x) ≡ false) where
   pub joined_argument : Joined o f (scope ++ arguments x r k ∷ []) n here → n.arguments < 2 ^ 128 → FitsType o 32 t
       → Joined o f (scope ++ arguments x r (k + 1) ∷ []) (argument_names x r k t n) (here ++ (record { name = argument_word n.arguments; value = record { value = Arg (f x) r k; type = t } ∷ [] }) ∷ [])
-  joined_argument j small fit = record {
+  joined_argument j small fits_in = record {
     seen = λ v e. ⊎_elim
         (λ (i : in_scope scope v ≡ true). old v (in_first scope (arguments x r k) v i) (elsewhere v x r k (away v i)))
         (λ (i : shows v (arguments x r (k + 1)) ≡ true). ⊎_elim
@@ -244,7 +244,7 @@ module _ (o : Bool) (f : ℕ → ℕ) (scope : List Frame) (n : Names) (here : H
       named = (argument_names x r k t n).named
 
       new : IsParseState o f named all (Arg x r k)
-      new = record { naming = naming; named = found_new n.named (source.Argument x r k) naming; read = record { pack = pack; bound = find_new word here pack; place = refl; small = small; type = fit } }
+      new = record { naming = naming; named = found_new n.named (source.Argument x r k) naming; read = record { pack = pack; bound = find_new word here pack; place = refl; small = small; type = fits_in } }
 
       in_it : (v : Value) → shows v (arguments x r k) ≡ true → in_scope (scope ++ arguments x r k ∷ []) v ≡ true
       in_it v l = last_in scope

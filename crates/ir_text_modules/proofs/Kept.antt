@@ -20,7 +20,7 @@ use Rattle.ir_text_types.specs.OpaqueTypes.{is_alone, is_angled, is_opaque_word,
 use Rattle.ir_text_types.specs.Scalars.{memref_word}
 use Rattle.ir_text_types.specs.TypeGrammar.{IsWordFrom, IsAfter}
 use Rattle.ir_text_modules.specs.Kept.{EndsType, is_all, is_type_text, kept_after, kept_from}
-use Rattle.ir_text_modules.proofs.Plain.{plain_again}
+use Rattle.ir_text_modules.proofs.Simple.{plain_again}
 
 -- ---- bodies in angle brackets
 

@@ -20,7 +20,7 @@ use Rattle.ir_text_types.proofs.TextLaws.{after_only}
 use Rattle.ir_text_attributes.specs.OpaqueAttributes.{begins_other, is_other_element, is_so, opens_other}
 use Rattle.ir_text_modules.proofs.Kept.{no_word}
 use Rattle.ir_text_modules.proofs.KeptNumbers.{digits_stay, hex_stays, no_digit, no_dot, run_stays, stops_as}
-use Rattle.ir_text_modules.proofs.Plain.{Blanks, blanks_again}
+use Rattle.ir_text_modules.proofs.Simple.{Blanks, blanks_again}
 
 -- whether a token begins another element type
 abbrev other : Option (Lexeme × List ℕ) → Bool

@@ -66,23 +66,23 @@ some_fine text ty le = let e : nat_le (type_depth ty) 32 ≡ true = grind (arith
 
 module _ (types : ℕ) (small : types ≤ 32) where
   typed : (ty : TypeTerm) (rest : List ℕ) → FitsType true types ty → EndsAttr true rest → IsType true types ty (32 ∷ (type_text ty ++ rest)) rest
-  typed ty rest fit s = space (IsType true types) (type_ahead true types) ty (type_text ty ++ rest) rest (type_again true types small ty rest fit.0 fit.1 (ends_type true rest s))
+  typed ty rest fits_in s = space (IsType true types) (type_ahead true types) ty (type_text ty ++ rest) rest (type_again true types small ty rest fits_in.0 fits_in.1 (ends_type true rest s))
 
   colon : (ty : TypeTerm) (rest : List ℕ) → IsMark Colon (trailing (Some ty) rest) (32 ∷ (type_text ty ++ rest))
   colon ty rest = space_token (mark Colon) (58 ∷ 32 ∷ (type_text ty ++ rest)) (32 ∷ (type_text ty ++ rest)) (mark_token Colon (32 ∷ (type_text ty ++ rest)) refl)
 
   fine : (text : List ℕ) (ty : TypeTerm) → FitsType true types ty → attr_fault (OpaqueOf text (Some ty)) ≡ None
-  fine text ty fit = some_fine text ty (omega (arith, fit.0, small))
+  fine text ty fits_in = some_fine text ty (omega (arith, fits_in.0, small))
 
   tail_again : (tail : Tail) (text : List ℕ) (ty : Option TypeTerm) (rest : List ℕ) → eligible tail ty ≡ true → FitsTail types ty → EndsAttr true rest → IsTail true types tail text (OpaqueOf text ty) (trailing ty rest) rest
-  tail_again SomeType text None rest e fit s = absurd cc
-  tail_again SomeType text (Some ty) rest e fit s = (32 ∷ (type_text ty ++ rest), colon ty rest, (ty, rest, typed ty rest fit s, (fine text ty fit, refl, refl)))
-  tail_again TypeOrNone text None rest e fit s = inr (s.2, (refl, refl, refl))
-  tail_again TypeOrNone text (Some ty) rest e fit s = inl (32 ∷ (type_text ty ++ rest), colon ty rest, (ty, rest, typed ty rest fit s, (fine text ty fit, refl, refl)))
-  tail_again OpaqueOrNone text None rest e fit s = inr (s.2, (refl, refl, refl))
-  tail_again OpaqueOrNone text (Some ty) rest e fit s = inl (32 ∷ (type_text ty ++ rest), colon ty rest, (ty, rest, typed ty rest fit s, (e, (fine text ty fit, refl, refl))))
-  tail_again NoType text None rest e fit s = (refl, refl, refl)
-  tail_again NoType text (Some ty) rest e fit s = absurd cc
+  tail_again SomeType text None rest e fits_in s = absurd cc
+  tail_again SomeType text (Some ty) rest e fits_in s = (32 ∷ (type_text ty ++ rest), colon ty rest, (ty, rest, typed ty rest fits_in s, (fine text ty fits_in, refl, refl)))
+  tail_again TypeOrNone text None rest e fits_in s = inr (s.2, (refl, refl, refl))
+  tail_again TypeOrNone text (Some ty) rest e fits_in s = inl (32 ∷ (type_text ty ++ rest), colon ty rest, (ty, rest, typed ty rest fits_in s, (fine text ty fits_in, refl, refl)))
+  tail_again OpaqueOrNone text None rest e fits_in s = inr (s.2, (refl, refl, refl))
+  tail_again OpaqueOrNone text (Some ty) rest e fits_in s = inl (32 ∷ (type_text ty ++ rest), colon ty rest, (ty, rest, typed ty rest fits_in s, (e, (fine text ty fits_in, refl, refl))))
+  tail_again NoType text None rest e fits_in s = (refl, refl, refl)
+  tail_again NoType text (Some ty) rest e fits_in s = absurd cc
 
 -- the text doesn't extend a name and doesn't begin with `<`
 abbrev Follows : List ℕ → Type 0
@@ -204,9 +204,9 @@ double w q text back same s e = by (bracketed 91 w (skip q)) refl e
 
     two : (v u : List ℕ) → AnyBody 91 v → AnyBody 60 u → text ≡ (w ++ v) ++ u → WordAgain w text back
     two v u a b is =
-        let stay = body_stays 60 u back angle b.0 in
-        let there = ap (begins 60) stay ∙ begins_there 60 u back b.0 in
-        let found : angled (w ++ v) (u ++ back) ≡ Some ((w ++ v) ++ u, back) = rw (there, stay) (ap (joined (w ++ v)) (b.1 back)) in
+        let remains = body_stays 60 u back angle b.0 in
+        let there = ap (begins 60) remains ∙ begins_there 60 u back b.0 in
+        let found : angled (w ++ v) (u ++ back) ≡ Some ((w ++ v) ++ u, back) = rw (there, remains) (ap (joined (w ++ v)) (b.1 back)) in
         let all : ((w ++ v) ++ u) ++ back ≡ w ++ (v ++ (u ++ back)) = append_assoc (w ++ v) u back ∙ append_assoc w v (u ++ back) in
         (v ++ (u ++ back), ap (λ l. l ++ back) is ∙ all, square_again v (u ++ back) a ∙ found ∙ ap (λ l. Some (l, back)) (sym is), body_stops 91 v (u ++ back) square a.0)
 
@@ -247,8 +247,8 @@ opens_again : (q v back : List ℕ) → Stops is_suffix back → skip q ≡ v ++
 opens_again q [] back s e a o = absurd (let h = a.0 in cc)
 opens_again q (c ∷ cs) back s e a o =
     let is = eqb-true c 60 a.0 in
-    let stay = body_stays 60 (c ∷ cs) [] angle a.0 in
-    let was : opens_other (c ∷ cs ++ []) ≡ true = sym (opens_skipped q (c ∷ cs ++ []) e stay) ∙ o in
+    let remains = body_stays 60 (c ∷ cs) [] angle a.0 in
+    let was : opens_other (c ∷ cs ++ []) ≡ true = sym (opens_skipped q (c ∷ cs ++ []) e remains) ∙ o in
     subst (λ d. ((rest : List ℕ) → body_at (d ∷ cs ++ rest) ≡ Some (d ∷ cs, rest)) → opens_other (d ∷ cs ++ []) ≡ true → opens_other (d ∷ cs ++ back) ≡ true) (sym is) (from cs back s) a.1 was
   where
     from : (cs back : List ℕ) → Stops is_suffix back → ((rest : List ℕ) → body_at (60 ∷ cs ++ rest) ≡ Some (60 ∷ cs, rest)) → opens_other (60 ∷ cs ++ []) ≡ true → opens_other (60 ∷ cs ++ back) ≡ true
@@ -312,23 +312,23 @@ digits_parts digits ty e =
     type (Some t) e = (t, refl, e)
 
 fits_more : (types : ℕ) (ty : Option TypeTerm) → types ≤ 32 → FitsTail types ty → FitsTail 32 ty
-fits_more types None le fit = tt
-fits_more types (Some ty) le fit = (omega (arith, le, fit.0), fit.1)
+fits_more types None le fits_in = tt
+fits_more types (Some ty) le fits_in = (omega (arith, le, fits_in.0), fits_in.1)
 
 literal_again : (negative : Bool) (digits text : List ℕ) (ty : Option TypeTerm) (rest : List ℕ) → signed_text negative digits ≡ text → Digits digits ty → FitsTail 32 ty → EndsAttr true rest → IsLiteral true negative digits (OpaqueOf text ty) (trailing ty rest) rest
-literal_again negative digits text ty rest is f fit s = subst (λ u. FitsTail 32 u → IsLiteral true negative digits (OpaqueOf text u) (trailing u rest) rest) (sym f.4) (λ fit. from fit) fit
+literal_again negative digits text ty rest is f fits_in s = subst (λ u. FitsTail 32 u → IsLiteral true negative digits (OpaqueOf text u) (trailing u rest) rest) (sym f.4) (λ fits_in. from fits_in) fits_in
   where
     from : FitsType true 32 f.3 → IsLiteral true negative digits (OpaqueOf text (Some f.3)) (trailing (Some f.3) rest) rest
-    from fit =
+    from fits_in =
         let known : (is_opaque_type f.3 && is_hexadecimal digits) ≡ true = rw (f.5, f.0) refl in
-        let suffix : IsSuffix true f.3 (trailing (Some f.3) rest) rest = inl (32 ∷ (type_text f.3 ++ rest), colon 32 (omega arith) f.3 rest, typed 32 (omega arith) f.3 rest fit s) in
-        (f.1, f.2, (f.3, rest, suffix, inl (known, subst (λ l. IsFine (OpaqueOf l (Some f.3)) (OpaqueOf text (Some f.3)) rest rest) (sym is) (some_fine text f.3 fit.0, refl, refl))))
+        let suffix : IsSuffix true f.3 (trailing (Some f.3) rest) rest = inl (32 ∷ (type_text f.3 ++ rest), colon 32 (omega arith) f.3 rest, typed 32 (omega arith) f.3 rest fits_in s) in
+        (f.1, f.2, (f.3, rest, suffix, inl (known, subst (λ l. IsFine (OpaqueOf l (Some f.3)) (OpaqueOf text (Some f.3)) rest rest) (sym is) (some_fine text f.3 fits_in.0, refl, refl))))
 
 -- ---- attributes
 
 pub kept_read : (depth : ℕ) (text : List ℕ) (ty : Option TypeTerm) (rest : List ℕ) → suc depth ≤ 32 → is_attr_text text ty ≡ true → FitsTail (suc depth) ty → EndsAttr true rest → Begins true depth (OpaqueOf text ty) (attr_text (OpaqueOf text ty) ++ rest) rest
 unfolding is_attr_text
-kept_read depth text ty rest small e fit s = rw (text_apart text ty rest) (by (next text) refl e)
+kept_read depth text ty rest small e fits_in s = rw (text_apart text ty rest) (by (next text) refl e)
   where
     back : List ℕ
     back = trailing ty rest
@@ -337,7 +337,7 @@ kept_read depth text ty rest small e fit s = rw (text_apart text ty rest) (by (n
     Kept = Begins true depth (OpaqueOf text ty) (text ++ back) rest
 
     tail : (tail : Tail) → eligible tail ty ≡ true → IsTail true (suc depth) tail text (OpaqueOf text ty) back rest
-    tail t f = tail_again (suc depth) small t text ty rest f fit s
+    tail t f = tail_again (suc depth) small t text ty rest f fits_in s
 
     array_again : (v z : List ℕ) → text ≡ array_word ++ v → z ≡ v ++ back → bracketed 60 array_word (skip z) ≡ Some (text, back) → opens_other z ≡ true → Stops is_word z → IsTail true (suc depth) NoType text (OpaqueOf text ty) back rest → Kept
     array_again v z is all found opens stops t =
@@ -387,7 +387,7 @@ kept_read depth text ty rest small e fit s = rw (text_apart text ty rest) (by (n
         let token : next digits ≡ Some (integer digits, []) = ap next same ∙ m ∙ ap (λ w. Some (integer digits, w)) is.1 in
         let stands : next (text ++ back) ≡ Some (mark Minus, digits ++ back) = ap (λ w. next (w ++ back)) (sym is.0) ∙ minus_next digits back d in
         let there = hex_again digits back f.0 (after_follows ty rest s).0 token in
-        (mark Minus, digits ++ back, stands, (integer digits, back, there, literal_again true digits text ty rest is.0 f (fits_more (suc depth) ty small fit) s))
+        (mark Minus, digits ++ back, stands, (integer digits, back, there, literal_again true digits text ty rest is.0 f (fits_more (suc depth) ty small fits_in) s))
 
     by_negative : (t : Lexeme) (l q : List ℕ) → next q ≡ Some (t, l) → is_negative_by text ty t l ≡ true → next text ≡ Some (mark Minus, q) → Kept
     by_negative (float digits) l q m k n = negative digits l q m k n
@@ -424,7 +424,7 @@ kept_read depth text ty rest small e fit s = rw (text_apart text ty rest) (by (n
         let token : next digits ≡ Some (integer digits, []) = ap next is.0 ∙ m ∙ ap (λ l. Some (integer digits, l)) is.1 in
         let f = digits_parts digits ty p.0 in
         let stands : next (text ++ back) ≡ Some (integer digits, back) = ap (λ l. next (l ++ back)) (sym is.0) ∙ hex_again digits back f.0 (after_follows ty rest s).0 token in
-        (integer digits, back, stands, literal_again false digits text ty rest is.0 f (fits_more (suc depth) ty small fit) s)
+        (integer digits, back, stands, literal_again false digits text ty rest is.0 f (fits_more (suc depth) ty small fits_in) s)
     by_token (mark Minus) q m k = by_minus q (next q) refl k m
     by_token _ q m k = absurd cc
 

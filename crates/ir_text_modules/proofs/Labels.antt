@@ -32,7 +32,7 @@ use Rattle.ir_text_modules.proofs.Blocks.{AreBlank, blanks_passed, mark_seen, no
 use Rattle.std.proofs.lemmas.Bool.{and_parts}
 
 -- a text that an operation may begin: its first token is no label and no mark
-pub record Plain (o : Bool) (bytes : List ℕ) : Type 0 where
+pub record Simple (o : Bool) (bytes : List ℕ) : Type 0 where
   pub lexeme : Lexeme
   pub trailing : List ℕ
   pub token : Token lexeme bytes trailing
@@ -42,7 +42,7 @@ pub record Plain (o : Bool) (bytes : List ℕ) : Type 0 where
 -- the first operation, if there is one, begins with such a token
 abbrev pub PlainFirst : Bool → Ops → List ℕ → Type 0
 PlainFirst o no_ops bytes = Unit {0}
-PlainFirst o (next t ts) bytes = Plain o bytes
+PlainFirst o (next t ts) bytes = Simple o bytes
 
 pub lists_back : (os : Ops) → ops_of (op_list os) ≡ os
 lists_back no_ops = refl
@@ -82,7 +82,7 @@ module _ (o : Bool) (f : ℕ → ℕ) (scope : List Frame) (x r : ℕ) (away : (
   pub label_again : (margin : List ℕ) (args : List TypeTerm) (os : Ops) (n : Names) (s : ParseState) (rest : List ℕ) → AreBlank margin → Joined o f scope n s.scopes.here → n.arguments + length args < 2 ^ 128 → AllByRecursion (FitsType o 32) args → length args ≤ 256
       → next_token s.bytes ≡ next_token (label_then margin args os n rest) → PlainFirst o os rest → LabelRead args os n s rest
   unfolding IsList
-  label_again margin [] no_ops n s rest blank j small fit few e plain =
+  label_again margin [] no_ops n s rest blank j small fits_in few e simple =
       let first = e ∙ blanks_passed margin (94 ∷ (block_word ++ 58 ∷ 10 ∷ rest)) blank ∙ label_token block_word (58 ∷ 10 ∷ rest) refl refl in
       let trailing = state_with_rest s (58 ∷ 10 ∷ rest) in
       let colon = mark_token Colon (10 ∷ rest) refl in
@@ -97,23 +97,23 @@ module _ (o : Bool) (f : ℕ → ℕ) (scope : List Frame) (x r : ℕ) (away : (
         same = refl;
         made = refl;
       }
-  label_again margin [] (next t ts) n s rest blank j small fit few e plain = record {
+  label_again margin [] (next t ts) n s rest blank j small fits_in few e simple = record {
     preceding = None;
     now = s;
-    reads = (plain.lexeme, plain.trailing, e ∙ plain.token, plain.no_label (f x) r s);
+    reads = (simple.lexeme, simple.trailing, e ∙ simple.token, simple.no_label (f x) r s);
     text = e;
     joined = joined_no_arguments o f scope n s.scopes.here x r j;
     outer = refl;
     same = refl;
     made = ap (λ (o : Ops). block [] (next (with_ids f t) o)) (lists_back (ops_with_ids f ts));
   }
-  label_again margin (t ∷ ts) os n s rest blank j small fit few e plain =
+  label_again margin (t ∷ ts) os n s rest blank j small fits_in few e simple =
       let last = 41 ∷ 58 ∷ 10 ∷ rest in
       let inside = argument_text n.arguments t ++ arguments_then (0 + 1) ts (n.arguments + 1) last in
       let first = e ∙ blanks_passed margin (94 ∷ (block_word ++ 40 ∷ inside)) blank ∙ label_token block_word (40 ∷ inside) refl refl in
       let trailing = state_with_rest s (40 ∷ inside) in
       let opened = state_with_rest s inside in
-      let more = arguments_more o f scope x r away 256 [] t ts n opened (58 ∷ 10 ∷ rest) (joined_no_arguments o f scope n s.scopes.here x r j) small fit few refl in
+      let more = arguments_more o f scope x r away 256 [] t ts n opened (58 ∷ 10 ∷ rest) (joined_no_arguments o f scope n s.scopes.here x r j) small fits_in few refl in
       let done : ParseState = record { bytes = 58 ∷ 10 ∷ rest; scopes = more.scopes; next = s.next } in
       let lacks = not_seen CloseRound opened (argument_begins n.arguments t (arguments_then (0 + 1) ts (n.arguments + 1) last) (omega (arith, small))) in
       let count : 0 + length (t ∷ ts) ≡ length (t ∷ ts) = omega arith in

@@ -6,7 +6,7 @@ pub mod Rows
 pub mod Words
 pub mod Shapes
 pub mod Commas
-pub mod Plain
+pub mod Simple
 pub mod Kept
 pub mod Known
 pub mod Passed

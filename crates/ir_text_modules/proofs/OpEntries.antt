@@ -33,9 +33,9 @@ abbrev FitsEntry : Bool → Option (List ℕ) → List EntryTerm → List EntryT
 FitsEntry o op properties before e = (is_refused bytes_eq (is_property op) properties e.0 before ≡ false) × AreBytes e.0 × FitsAttr o 32 e.1
 
 entry_read : (o : Bool) (op : Option (List ℕ)) (properties preceding : List EntryTerm) (e : EntryTerm) (rest : List ℕ) → FitsEntry o op properties preceding e → EndsEntry o rest → IsOpEntry o op properties preceding e (text_of_entry e ++ rest) rest
-entry_read o op properties preceding e rest fit s =
-    let k = entry_parts o (IsAttr o 32) (IsFine Flag) (attr_ahead o 32) e.0 e.1 rest fit.1 s (attr_again o 32 (omega arith) e.1 rest fit.2 s.2) (λ f. (refl, refl, refl)) in
-    (e.0, k.0, k.1, (fit.0, (e.1, rest, k.2, (refl, refl))))
+entry_read o op properties preceding e rest fits_in s =
+    let k = entry_parts o (IsAttr o 32) (IsFine Flag) (attr_ahead o 32) e.0 e.1 rest fits_in.1 s (attr_again o 32 (omega arith) e.1 rest fits_in.2 s.2) (λ f. (refl, refl, refl)) in
+    (e.0, k.0, k.1, (fits_in.0, (e.1, rest, k.2, (refl, refl))))
 
 entry_items : (o : Bool) (op : Option (List ℕ)) (properties : List EntryTerm) → Items CloseCurly (IsOpEntry o op properties) text_of_entry (FitsEntry o op properties) (EndsEntry o)
 entry_items o op properties = record {
@@ -57,7 +57,7 @@ texts_of es = texts_of_entries (entries_of es) ∙ ap (map text_of_entry) (list_
 
 -- a dictionary after its opening brace
 entries_read : (o : Bool) (op : Option (List ℕ)) (properties es : List EntryTerm) (rest : List ℕ) → AllFit (FitsEntry o op properties) [] es → length es ≤ 513 → IsEntries o op properties es (parted (codes ", ") true (entry_texts (entries_of es)) ++ 125 ∷ rest) rest
-entries_read o op properties es rest fit le = rw (texts_of es) (list_again CloseCurly (IsOpEntry o op properties) text_of_entry (FitsEntry o op properties) (EndsEntry o) (entry_items o op properties) 513 es rest fit le)
+entries_read o op properties es rest fits_in le = rw (texts_of es) (list_again CloseCurly (IsOpEntry o op properties) text_of_entry (FitsEntry o op properties) (EndsEntry o) (entry_items o op properties) 513 es rest fits_in le)
 
 -- ---- the allowed keys
 

@@ -35,7 +35,7 @@ use Rattle.ir_text_modules.proofs.Joined.{IsParseState, Joined, joined_later, in
 use Rattle.ir_text_modules.proofs.Preceding.{start_of, start_again}
 use Rattle.ir_text_modules.proofs.Blocks.{AreBlank, blanks_passed, blanks_deeper, mark_seen, not_seen}
 use Rattle.ir_text_modules.proofs.Grown.{grown_results, grown_op, grown_regions, grown_region, grown_arguments}
-use Rattle.ir_text_modules.proofs.Labels.{Plain, PlainFirst, label_again}
+use Rattle.ir_text_modules.proofs.Labels.{Simple, PlainFirst, label_again}
 use Rattle.ir_text_modules.proofs.Tails.{tail_lacks, finished, finished_outer, tail_again}
 use Rattle.ir_text_modules.proofs.Fresh.{distinct_first, Fresh, fresh_preceding, fresh_back, in_inside, joined_inside, left_is, all_so, types_fit, same_types, types_count, joined_end, plain_head, op_from, ops_close, ops_one, more_last, more_one}
 
@@ -66,14 +66,14 @@ shown_away : (v : Value) (x r n : ℕ) (xs : List ℕ) → AllByRecursion (λ y.
 shown_away (Result y k) x r n xs h e = absurd cc
 shown_away (Arg y s k) x r n xs h e = subst (λ (u : ℕ). Away (source_of (Arg u s k)) xs) (sym (eqb-true y x (and_parts (y == x) ((s == r) && nat_lt k n) e).0)) h
 
-pub op_plain : (o : Bool) (margin : List ℕ) (t : Operation) (n : Names) (rest : List ℕ) → FitsOp o t → n.results < 2 ^ 128 → Plain o (op_then margin t n rest)
-op_plain o margin (op h rs) n rest fit lt = plain_head o n.results h.results h (results_names h.id h.results n).named _ fit.0 lt fit.0.results
+pub op_plain : (o : Bool) (margin : List ℕ) (t : Operation) (n : Names) (rest : List ℕ) → FitsOp o t → n.results < 2 ^ 128 → Simple o (op_then margin t n rest)
+op_plain o margin (op h rs) n rest fits_in lt = plain_head o n.results h.results h (results_names h.id h.results n).named _ fits_in.0 lt fits_in.0.results
 
 first_plain : (o : Bool) (margin : List ℕ) (os : Ops) (n : Names) (rest : List ℕ) → AreBlank margin → FitsOps o os → n.results < 2 ^ 128 → PlainFirst o os (ops_then margin os n rest)
-first_plain o margin no_ops n rest blank fit lt = tt
-first_plain o margin (next t ts) n rest blank fit lt =
+first_plain o margin no_ops n rest blank fits_in lt = tt
+first_plain o margin (next t ts) n rest blank fits_in lt =
     let trailing = ops_then margin ts (op_names t n) rest in
-    let p = op_plain o margin t n trailing fit.0 lt in
+    let p = op_plain o margin t n trailing fits_in.0 lt in
     record { lexeme = p.lexeme; trailing = p.trailing; token = blanks_passed margin (op_then margin t n trailing) blank ∙ p.token; no_label = p.no_label; no_mark = p.no_mark }
 
 -- ---- operations
@@ -114,7 +114,7 @@ module _ (o : Bool) (f : ℕ → ℕ) (last : ℕ) where
   some_id (op h rs) = omega arith
 
   pub no_ops_read : (d : ℕ) → ReadsOps d no_ops
-  no_ops_read d headroom preceding margin close rest scope n s blank fit dominated_by deep few fresh j closed e =
+  no_ops_read d headroom preceding margin close rest scope n s blank fits_in dominated_by deep few fresh j closed e =
       let count : s.next ≡ s.next + 0 = omega arith in
       let h = ops_close (One d) headroom preceding s (state_with_rest s rest) (omega (arith, few)) (mark_seen CloseCurly s rest (e ∙ closed)) in
       record {
@@ -125,8 +125,8 @@ module _ (o : Bool) (f : ℕ → ℕ) (last : ℕ) where
 
   -- one operation, and then the operations after it
   pub next_read : (d : ℕ) (h : Head) (rs : Regions) (ts : Ops) → ReadsOp d (op h rs) → ReadsOps d ts → ReadsOps d (next (op h rs) ts)
-  next_read d h rs ts first others zero preceding margin close rest scope n s blank fit dominated_by deep few fresh j closed e = absurd (omega (arith, few))
-  next_read d h rs ts first others (suc headroom) preceding margin close rest scope n s blank fit dominated_by deep few fresh j closed e =
+  next_read d h rs ts first others zero preceding margin close rest scope n s blank fits_in dominated_by deep few fresh j closed e = absurd (omega (arith, few))
+  next_read d h rs ts first others (suc headroom) preceding margin close rest scope n s blank fits_in dominated_by deep few fresh j closed e =
       let t = op h rs in
       let m = op_names t n in
       let trailing = ops_then margin ts m close in
@@ -137,12 +137,12 @@ module _ (o : Bool) (f : ℕ → ℕ) (last : ℕ) where
       (λ (k : in_scope scope v ≡ true). all_back _ (ids t) (ops_ids ts) (fresh.away v k))
       (λ (k : shows v (results_of t) ≡ true). result_away v h.id (length h.results) (ops_ids ts) (all_back _ (regions_ids rs) (ops_ids ts) own.0) k)
       (in_last scope (results_of t) v i) in
-      let one = first margin scope n s trailing blank fit.0 dominated_by.0 (omega (arith, deep)) (fresh_preceding f last scope n s.next 0 0 (ids t) (ops_ids ts) fresh (omega arith)) j here in
+      let one = first margin scope n s trailing blank fits_in.0 dominated_by.0 (omega (arith, deep)) (fresh_preceding f last scope n s.next 0 0 (ids t) (ops_ids ts) fresh (omega arith)) j here in
       let mid : ParseState = record { bytes = 10 ∷ trailing; scopes = one.scopes; next = s.next + length (ids t) } in
-      let fresh_more = fresh_back f last scope (scope ++ results_of t ∷ []) n m s.next 0 0 (4096 * length (ids t)) (ids t) (ops_ids ts) fresh (grown_op o t n fit.0) (omega arith) away in
-      let more = others headroom (preceding ++ with_ids f t ∷ []) margin close rest (scope ++ results_of t ∷ []) m mid blank fit.1 dominated_by.1 (omega (arith, deep)) (omega (arith, few, count, some_id t)) fresh_more one.joined closed (blank_passed 10 trailing refl) in
-      let plain = op_plain o margin t n trailing fit.0 (omega (arith, fresh.few_results)) in
-      let lacks = not_seen CloseCurly s (lacks_token plain.lexeme CloseCurly s.bytes plain.trailing (here ∙ plain.token) (plain.no_mark CloseCurly)) in
+      let fresh_more = fresh_back f last scope (scope ++ results_of t ∷ []) n m s.next 0 0 (4096 * length (ids t)) (ids t) (ops_ids ts) fresh (grown_op o t n fits_in.0) (omega arith) away in
+      let more = others headroom (preceding ++ with_ids f t ∷ []) margin close rest (scope ++ results_of t ∷ []) m mid blank fits_in.1 dominated_by.1 (omega (arith, deep)) (omega (arith, few, count, some_id t)) fresh_more one.joined closed (blank_passed 10 trailing refl) in
+      let simple = op_plain o margin t n trailing fits_in.0 (omega (arith, fresh.few_results)) in
+      let lacks = not_seen CloseCurly s (lacks_token simple.lexeme CloseCurly s.bytes simple.trailing (here ∙ simple.token) (simple.no_mark CloseCurly)) in
       let ys = preceding ++ op_list (ops_with_ids f (next t ts)) in
       let all : (preceding ++ with_ids f t ∷ []) ++ op_list (ops_with_ids f ts) ≡ ys = append_assoc preceding (with_ids f t ∷ []) (op_list (ops_with_ids f ts)) in
       let sum : s.next + length (ids t) + length (ops_ids ts) ≡ s.next + length (ops_ids (next t ts)) = omega (arith, count) in
@@ -166,7 +166,7 @@ module _ (o : Bool) (f : ℕ → ℕ) (last : ℕ) where
       → Joined o f scope n (if isolated then [] else s.scopes.here) → next_token s.bytes ≡ next_token (region_then margin x r g n rest) → IsRegion o (Row d) (f x) isolated preceding (region_with_ids f g) s (trailing s rest (length (region_ids g)))
 
   pub empty_read : (d : ℕ) → ReadsRegion d empty
-  empty_read d margin isolated scope x r preceding n s rest blank fit dominated_by deep few place fresh own apart j e =
+  empty_read d margin isolated scope x r preceding n s rest blank fits_in dominated_by deep few place fresh own apart j e =
       let close = 125 ∷ rest in
       let closed = mark_token CloseCurly rest tt in
       let opened = state_with_rest s close in
@@ -178,7 +178,7 @@ module _ (o : Bool) (f : ℕ → ℕ) (last : ℕ) where
       (opened, mark_seen OpenCurly s close (e ∙ mark_token OpenCurly close tt), (None, within, (mark CloseCurly, rest, closed, (refl, refl)), ([], record { bytes = rest; scopes = row.scopes; next = s.next + 0 }, row.reads, (refl, state))))
 
   pub block_read : (d : ℕ) (args : List TypeTerm) (os : Ops) → ReadsOps d os → ReadsRegion d (block args os)
-  block_read d args os ops margin isolated scope x r preceding n s rest blank fit dominated_by deep few place fresh own apart j e =
+  block_read d args os ops margin isolated scope x r preceding n s rest blank fits_in dominated_by deep few place fresh own apart j e =
       let m = arguments_names x r 0 args n in
       let close = margin ++ 125 ∷ rest in
       let closed : Token (mark CloseCurly) close rest = blanks_passed margin (125 ∷ rest) blank ∙ mark_token CloseCurly rest tt in
@@ -189,7 +189,7 @@ module _ (o : Bool) (f : ℕ → ℕ) (last : ℕ) where
       let opened = state_with_rest s text in
       let within = state_inside isolated opened in
       let named = grown_arguments x r 0 args n in
-      let label = label_again o f scope x r apart margin args os n within inner blank j (omega (arith, fresh.few_arguments, fit.0)) fit.1 fit.0 (blank_passed 10 (label_then margin args os n inner) refl) (first_plain o far os m close wide fit.2 (omega (arith, fresh.few_results, named.few_results))) in
+      let label = label_again o f scope x r apart margin args os n within inner blank j (omega (arith, fresh.few_arguments, fits_in.0)) fits_in.1 fits_in.0 (blank_passed 10 (label_then margin args os n inner) refl) (first_plain o far os m close wide fits_in.2 (omega (arith, fresh.few_results, named.few_results))) in
       let dominance = scope ++ arguments x r (length args) ∷ [] in
       let fresh_ops : Fresh f last dominance m s.next 0 (ops_ids os) = record {
         runs = fresh.runs;
@@ -197,9 +197,9 @@ module _ (o : Bool) (f : ℕ → ℕ) (last : ℕ) where
         away = λ v i. ⊎_elim (λ (k : in_scope scope v ≡ true). fresh.away v k) (λ (k : shows v (arguments x r (length args)) ≡ true). shown_away v x r (length args) (ops_ids os) own k) (in_last scope (arguments x r (length args)) v i);
         below = fresh.below;
         few_results = omega (arith, fresh.few_results, named.few_results);
-        few_arguments = omega (arith, fresh.few_arguments, named.few_arguments, fit.0);
+        few_arguments = omega (arith, fresh.few_arguments, named.few_arguments, fits_in.0);
       } in
-      let row = ops 1048576 [] far close rest dominance m label.now wide fit.2 dominated_by deep few (subst (λ (i : ℕ). Fresh f last dominance m i 0 (ops_ids os)) (sym label.same) fresh_ops) label.joined closed label.text in
+      let row = ops 1048576 [] far close rest dominance m label.now wide fits_in.2 dominated_by deep few (subst (λ (i : ℕ). Fresh f last dominance m i 0 (ops_ids os)) (sym label.same) fresh_ops) label.joined closed label.text in
       let ended : ParseState = record { bytes = rest; scopes = row.scopes; next = label.now.next + length (ops_ids os) } in
       let scopes_back = left_is row.scopes s.scopes (row.outer ∙ label.outer) in
       let state : trailing s rest (length (ops_ids os)) ≡ state_outside ended =
@@ -214,19 +214,19 @@ module _ (o : Bool) (f : ℕ → ℕ) (last : ℕ) where
       → IsMore IsMarkToken CloseRound (IsRegion o (Row d) (f x) isolated) headroom preceding (preceding ++ region_list (regions_with_ids f (region g rs))) s (trailing s rest (length (regions_ids (region g rs))))
 
   pub last_read : (d : ℕ) (g : Region) → ReadsRegion d g → ReadsRegions d g no_regions
-  last_read d g one zero margin isolated scope x r preceding n s rest blank fit dominated_by deep few count place fresh own apart j e = absurd (omega (arith, count))
-  last_read d g one (suc headroom) margin isolated scope x r preceding n s rest blank fit dominated_by deep few count place fresh own apart j e =
+  last_read d g one zero margin isolated scope x r preceding n s rest blank fits_in dominated_by deep few count place fresh own apart j e = absurd (omega (arith, count))
+  last_read d g one (suc headroom) margin isolated scope x r preceding n s rest blank fits_in dominated_by deep few count place fresh own apart j e =
       let sum = length-append (region_ids g) [] in
       let same : length (region_ids g) ≡ length (regions_ids (region g no_regions)) = omega (arith, sum) in
       let fresh_one = fresh_preceding f last scope n s.next (256 * region_count (region g no_regions)) 256 (region_ids g) [] fresh (omega arith) in
-      let read = one margin isolated scope x r preceding n s (41 ∷ rest) blank fit.0 dominated_by.0 (omega (arith, deep)) (omega (arith, few, same)) place fresh_one (all_preceding _ (region_ids g) [] own) apart j e in
+      let read = one margin isolated scope x r preceding n s (41 ∷ rest) blank fits_in.0 dominated_by.0 (omega (arith, deep)) (omega (arith, few, same)) place fresh_one (all_preceding _ (region_ids g) [] own) apart j e in
       let mid = trailing s (41 ∷ rest) (length (region_ids g)) in
       subst (λ (i : ℕ). IsMore IsMarkToken CloseRound (IsRegion o (Row d) (f x) isolated) (suc headroom) preceding (preceding ++ region_with_ids f g ∷ []) s (trailing s rest i)) same
       (more_last (IsRegion o (Row d) (f x) isolated) headroom preceding (region_with_ids f g) s mid (state_with_rest mid rest) read (mark_seen CloseRound mid rest (mark_token CloseRound rest tt)))
 
   pub extra_read : (d : ℕ) (g k : Region) (rs : Regions) → ReadsRegion d g → ReadsRegions d k rs → ReadsRegions d g (region k rs)
-  extra_read d g k rs one others zero margin isolated scope x r preceding n s rest blank fit dominated_by deep few count place fresh own apart j e = absurd (omega (arith, count))
-  extra_read d g k rs one others (suc headroom) margin isolated scope x r preceding n s rest blank fit dominated_by deep few count place fresh own apart j e =
+  extra_read d g k rs one others zero margin isolated scope x r preceding n s rest blank fits_in dominated_by deep few count place fresh own apart j e = absurd (omega (arith, count))
+  extra_read d g k rs one others (suc headroom) margin isolated scope x r preceding n s rest blank fits_in dominated_by deep few count place fresh own apart j e =
       let m = region_names x r g n in
       let tail = regions_ids (region k rs) in
       let sum = length-append (region_ids g) tail in
@@ -235,16 +235,16 @@ module _ (o : Bool) (f : ℕ → ℕ) (last : ℕ) where
       let comma : regions_then margin x (r + 1) (region k rs) m (41 ∷ rest) ≡ 44 ∷ 32 ∷ ahead = rw no_first refl in
       let here = e ∙ ap (λ (l : List ℕ). next_token (region_then margin x r g n l)) comma in
       let fresh_one = fresh_preceding f last scope n s.next (256 * region_count (region g (region k rs))) 256 (region_ids g) tail fresh (omega arith) in
-      let read = one margin isolated scope x r preceding n s (44 ∷ 32 ∷ ahead) blank fit.0 dominated_by.0 (omega (arith, deep)) (omega (arith, few, sum)) place fresh_one (all_preceding _ (region_ids g) tail own) apart j here in
+      let read = one margin isolated scope x r preceding n s (44 ∷ 32 ∷ ahead) blank fits_in.0 dominated_by.0 (omega (arith, deep)) (omega (arith, few, sum)) place fresh_one (all_preceding _ (region_ids g) tail own) apart j here in
       let mid = trailing s (44 ∷ 32 ∷ ahead) (length (region_ids g)) in
       let after = state_with_rest mid (32 ∷ ahead) in
-      let grown = grown_region o x r g n fit.0 in
+      let grown = grown_region o x r g n fits_in.0 in
       let fresh_more = fresh_back f last scope scope n m s.next (256 * region_count (region g (region k rs))) (256 * region_count (region k rs)) (256 + 4096 * length (region_ids g)) (region_ids g) tail fresh grown (omega arith) (λ v i. all_back _ (region_ids g) tail (fresh.away v i)) in
       let keep : (v : Value) → in_scope scope v ≡ true → naming_of m.named v ≡ naming_of n.named v = λ v i. region_keeps (source_of v) x r g n (λ q a. argument_away (source_of v) x q a (apart v i)) (all_preceding _ (region_ids g) tail (fresh.away v i)) in
       let joined = joined_later o f scope n m (if isolated then [] else s.scopes.here) j keep grown.results grown.arguments in
       let preceding' = preceding ++ region_with_ids f g ∷ [] in
       let placed : length preceding' ≡ r + 1 = length-append preceding (region_with_ids f g ∷ []) ∙ omega (arith, place) in
-      let more = others headroom margin isolated scope x (r + 1) preceding' m after rest blank fit.1 dominated_by.1 (omega (arith, deep)) (omega (arith, few, sum)) (omega (arith, count)) placed fresh_more (all_back _ (region_ids g) tail own) apart joined (blank_passed 32 ahead refl) in
+      let more = others headroom margin isolated scope x (r + 1) preceding' m after rest blank fits_in.1 dominated_by.1 (omega (arith, deep)) (omega (arith, few, sum)) (omega (arith, count)) placed fresh_more (all_back _ (region_ids g) tail own) apart joined (blank_passed 32 ahead refl) in
       let open_yet = not_seen CloseRound mid (lacks_token (mark Comma) CloseRound (44 ∷ 32 ∷ ahead) (32 ∷ ahead) (mark_token Comma (32 ∷ ahead) tt) (λ e. absurd cc)) in
       let all : preceding' ++ region_list (regions_with_ids f (region k rs)) ≡ preceding ++ region_list (regions_with_ids f (region g (region k rs))) = append_assoc preceding (region_with_ids f g ∷ []) (region_list (regions_with_ids f (region k rs))) in
       let total : s.next + length (region_ids g) + length tail ≡ s.next + length (regions_ids (region g (region k rs))) = omega (arith, sum) in
@@ -268,7 +268,7 @@ module _ (o : Bool) (f : ℕ → ℕ) (last : ℕ) where
       → Joined o f scope m (if is_isolated h.name then [] else s.scopes.here) → s.bytes ≡ middle margin h rs m (tail_then h named rest) → MiddleRead d margin h rs m s (tail_then h named rest)
 
   pub none_read : (d : ℕ) → ReadsMiddle d no_regions
-  none_read d margin scope h m s named rest blank fit dominated_by deep few count fresh own apart j e =
+  none_read d margin scope h m s named rest blank fits_in dominated_by deep few count fresh own apart j e =
       let tail = tail_then h named rest in
       let lacks = tail_lacks OpenRound (λ k. absurd cc) (λ k. absurd cc) h named rest in
       let zero_on : s.next ≡ s.next + 0 = omega arith in
@@ -279,7 +279,7 @@ module _ (o : Bool) (f : ℕ → ℕ) (last : ℕ) where
       }
 
   pub some_read : (d : ℕ) (g : Region) (rs : Regions) → ReadsRegions d g rs → ReadsMiddle d (region g rs)
-  some_read d g rs all margin scope h m s named rest blank fit dominated_by deep few count fresh own apart j e =
+  some_read d g rs all margin scope h m s named rest blank fits_in dominated_by deep few count fresh own apart j e =
       let tail = tail_then h named rest in
       let inner = region_then margin h.id 0 g m (regions_then margin h.id (0 + 1) rs (region_names h.id 0 g m) (41 ∷ tail)) in
       let opened = space_token (mark OpenRound) (40 ∷ inner) inner (mark_token OpenRound inner tt) in
@@ -287,11 +287,11 @@ module _ (o : Bool) (f : ℕ → ℕ) (last : ℕ) where
       let mid = state_with_rest s inner in
       record {
         no_less = lacks_token (mark OpenRound) Less (32 ∷ 40 ∷ inner) inner opened (λ k. absurd cc);
-        reads = inl (mid, mark_seen OpenRound s inner here, all 16 margin (is_isolated h.name) scope h.id 0 [] m mid tail blank fit dominated_by deep few count refl fresh own apart j refl);
+        reads = inl (mid, mark_seen OpenRound s inner here, all 16 margin (is_isolated h.name) scope h.id 0 [] m mid tail blank fits_in dominated_by deep few count refl fresh own apart j refl);
       }
 
   pub head_read : (small : last ≤ 1048576) (d : ℕ) (h : Head) (rs : Regions) → ReadsMiddle d rs → ReadsOp (suc d) (op h rs)
-  head_read small d h rs regions margin scope n s rest blank fit dominated_by deep fresh j e =
+  head_read small d h rs regions margin scope n s rest blank fits_in dominated_by deep fresh j e =
       let m = results_names h.id h.results n in
       let p = regions_names h.id 0 rs m in
       let tail = tail_then h p.named rest in
@@ -299,7 +299,7 @@ module _ (o : Bool) (f : ℕ → ℕ) (last : ℕ) where
       let dominance = inside is_isolated h scope in
       let own = distinct_first h.id (regions_ids rs) fresh.distinct in
       let named = grown_results h.id h.results n in
-      let inner = grown_regions o h.id 0 rs m fit.2 in
+      let inner = grown_regions o h.id 0 rs m fits_in.2 in
       let lt : n.results < 2 ^ 128 = omega (arith, fresh.few_results) in
       let apart : (v : Value) → in_scope scope v ≡ true → (source_id (source_of v) == h.id) ≡ false = λ v i. (fresh.away v i).0 in
       let keep_m : (v : Value) → in_scope scope v ≡ true → naming_of m.named v ≡ naming_of n.named v = λ v i. results_names_keep (source_of v) h.id h.results n (apart v i) in
@@ -315,16 +315,16 @@ module _ (o : Bool) (f : ℕ → ℕ) (last : ℕ) where
         away = λ v i. (fresh.away v (in_inside isolated scope v i)).1;
         below = omega (arith, fresh.below);
         few_results = omega (arith, fresh.few_results, named.few_results);
-        few_arguments = omega (arith, fresh.few_arguments, named.few_arguments, fit.1);
+        few_arguments = omega (arith, fresh.few_arguments, named.few_arguments, fits_in.1);
       } in
       let back = middle margin h rs m tail in
       let begun : ParseState = record { bytes = back; scopes = s.scopes; next = s.next + 1 } in
-      let mid = regions margin dominance h m begun p.named rest blank fit.2 dominated_by.1 (omega (arith, deep)) (omega (arith, fresh.below, small)) fit.1 fresh_rs own.0 (λ v i. apart v (in_inside isolated scope v i)) (joined_inside o f isolated scope m s.scopes.here jm) refl in
-      let start = start_again o f m.named s.scopes.here n.results h s.bytes back lt (are_bytes h.name fit.0.written.bytes) fit.0.written.named fit.0.operands fit.0.results seen_m e in
-      let properties = properties_again o h.properties back fit.0.properties fit.0.written.properties mid.no_less in
+      let mid = regions margin dominance h m begun p.named rest blank fits_in.2 dominated_by.1 (omega (arith, deep)) (omega (arith, fresh.below, small)) fits_in.1 fresh_rs own.0 (λ v i. apart v (in_inside isolated scope v i)) (joined_inside o f isolated scope m s.scopes.here jm) refl in
+      let start = start_again o f m.named s.scopes.here n.results h s.bytes back lt (are_bytes h.name fits_in.0.written.bytes) fits_in.0.written.named fits_in.0.operands fits_in.0.results seen_m e in
+      let properties = properties_again o h.properties back fits_in.0.properties fits_in.0.written.properties mid.no_less in
       let after : ParseState = trailing begun tail (length (regions_ids rs)) in
-      let few_types : length (map (value_type p.named) h.operands) ≤ 256 = omega (arith, types_count p.named h.operands, fit.0.operands) in
-      let ended = tail_again o f n.results m.named p.named h rs s.next after rest fit.0 (types_fit o f p.named s.scopes.here h.operands seen_p) few_types alike fresh.runs.0 (j.fresh n.results (omega arith) lt) refl in
+      let few_types : length (map (value_type p.named) h.operands) ≤ 256 = omega (arith, types_count p.named h.operands, fits_in.0.operands) in
+      let ended = tail_again o f n.results m.named p.named h rs s.next after rest fits_in.0 (types_fit o f p.named s.scopes.here h.operands seen_p) few_types alike fresh.runs.0 (j.fresh n.results (omega arith) lt) refl in
       let count : s.next + 1 + length (regions_ids rs) ≡ s.next + length (ids (op h rs)) = omega arith in
       let scopes = finished n.results s.next h.results s.scopes in
       let y = with_ids f (op h rs) in
@@ -334,7 +334,7 @@ module _ (o : Bool) (f : ℕ → ℕ) (last : ℕ) where
       let regions_read = subst (λ (i : ℕ). IsRegions o (Row d) i isolated kids begun after) fresh.runs.0 mid.reads in
       let keep_all : (v : Value) → in_scope scope v ≡ true → naming_of p.named v ≡ naming_of n.named v = λ v i. keep_p v i ∙ keep_m v i in
       let more_arguments : n.arguments ≤ p.arguments = omega (arith, named.arguments, inner.arguments) in
-      let end = joined_end o f scope n p s.scopes h.id h.results j keep_all fit.0.results fit.0.written.types (λ i t k. own_results h.id 0 rs h.results n i t own.0 k) lt inner.results more_arguments in
+      let end = joined_end o f scope n p s.scopes h.id h.results j keep_all fits_in.0.results fits_in.0.written.types (λ i t k. own_results h.id 0 rs h.results n i t own.0 k) lt inner.results more_arguments in
       record {
         scopes = scopes;
         reads = op_from o last d y s (record { bytes = 10 ∷ rest; scopes = scopes; next = s.next + length (ids (op h rs)) }) (omega (arith, fresh.below)) (first, properties_text h.properties ++ back, h.properties, back, start, properties, (kids, after, regions_read, tail_read));
@@ -345,7 +345,7 @@ module _ (o : Bool) (f : ℕ → ℕ) (last : ℕ) where
   -- ---- all operations
 
   no_level : (t : Operation) → ReadsOp zero t
-  no_level t margin scope n s rest blank fit dominated_by deep fresh j e = absurd (omega (arith, deep))
+  no_level t margin scope n s rest blank fits_in dominated_by deep fresh j e = absurd (omega (arith, deep))
 
   -- the premise that the regions of an operation are parsed back, if it has any
   abbrev ReadsAll : ℕ → Regions → Type 0

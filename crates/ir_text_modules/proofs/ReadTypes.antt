@@ -79,15 +79,15 @@ text_of_form text f = from (form_again no_memref text [] f (tt, refl))
 
 -- properties of such a type with at most `depth` nested memrefs
 record WordFits (o : Bool) (depth : ℕ) (t : TypeTerm) : Type 0 where
-  pub plain : is_function t ≡ false
+  pub simple : is_function t ≡ false
   pub deep : (is_scalar t ≡ true) ⊎ (type_depth t ≤ depth)
   pub written : is_written_type o t ≡ true
 
 kept_fits : (depth : ℕ) (text : List ℕ) → Form text → WordFits true depth (OpaqueType text)
-kept_fits depth text f = record { plain = refl; deep = inl refl; written = text_of_form text f }
+kept_fits depth text f = record { simple = refl; deep = inl refl; written = text_of_form text f }
 
 scalar_fits : (o : Bool) (depth : ℕ) (w : List ℕ) (n : TypeNode) → scalar_of w ≡ Some n → WordFits o depth (type_from [] n)
-scalar_fits o depth w n e = let s = scalar_written o w n e in record { plain = no_function (type_from [] n) s.0; deep = inl s.0; written = s.1 }
+scalar_fits o depth w n e = let s = scalar_written o w n e in record { simple = no_function (type_from [] n) s.0; deep = inl s.0; written = s.1 }
   where
     no_function : (t : TypeTerm) → is_scalar t ≡ true → is_function t ≡ false
     no_function (Integer sign width) k = refl
@@ -111,9 +111,9 @@ fine_dimensions dims elem e = elim (cases_Bool (list_all is_dimension dims)) [
 ]
 
 memref_fits : (o : Bool) (depth : ℕ) (dims : List (Option ℕ)) (elem : TypeTerm) → length dims ≤ many → type_fault (Memref dims elem) ≡ None → may_stand o elem ≡ true → WordFits o depth elem → WordFits o (suc depth) (Memref dims elem)
-memref_fits o depth dims elem few fine stand fit =
+memref_fits o depth dims elem few fine stand fits_in =
     let count : nat_le (length dims) many ≡ true = grind (arith, nat_tests) in
-    record { plain = refl; deep = inr (memref_depth dims elem depth fit.deep); written = rw (count, fine_dimensions dims elem fine, stand, fit.written) refl }
+    record { simple = refl; deep = inr (memref_depth dims elem depth fits_in.deep); written = rw (count, fine_dimensions dims elem fine, stand, fits_in.written) refl }
 
 -- nested memrefs have these properties
 abbrev ReadsWord : Bool → ℕ → Type 0
@@ -123,7 +123,7 @@ abbrev ReadsMemref : Bool → ℕ → Type 0
 ReadsMemref o depth = (t : TypeTerm) (old new : List ℕ) → IsMemref o depth t old new → WordFits o depth t
 
 element_fits : (o : Bool) (depth : ℕ) → ReadsWord o depth → (t : TypeTerm) (old new : List ℕ) → IsElement o (IsMemref o depth) t old new → WordFits o depth t × (may_stand o t ≡ true)
-element_fits o depth word t old new (inl k) = let f = word t old new k.1 in (f, rw (k.0, f.plain) refl)
+element_fits o depth word t old new (inl k) = let f = word t old new k.1 in (f, rw (k.0, f.simple) refl)
 element_fits o depth word t old new (inr k) =
     let s = k.1 in
     (subst (WordFits o depth) (sym s.4) (scalar_fits o depth s.0 s.1 s.3), rw k.0 (ap is_scalar s.4 ∙ (scalar_written o s.0 s.1 s.3).0))

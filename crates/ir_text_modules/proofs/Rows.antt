@@ -32,28 +32,28 @@ module _ {B : Type 0} (close : Mark) (P : List B → Grammar (List ℕ) B) (text
 
   pub more_again : (headroom : ℕ) (preceding : List B) (y : B) (ys : List B) (rest : List ℕ) → AllFit Fits preceding (y ∷ ys) → length (y ∷ ys) ≤ headroom → IsMore IsMark close P headroom preceding (preceding ++ y ∷ ys) (text y ++ others ys rest) rest
   unfolding IsMore
-  more_again zero preceding y ys rest fit le = absurd (omega (arith, le))
-  more_again (suc headroom) preceding y [] rest fit le = (y, mark_text close ++ rest, items.reads preceding y (mark_text close ++ rest) fit.0 (items.closing rest), inl (items.closes rest, refl))
-  more_again (suc headroom) preceding y (z ∷ zs) rest fit le =
+  more_again zero preceding y ys rest fits_in le = absurd (omega (arith, le))
+  more_again (suc headroom) preceding y [] rest fits_in le = (y, mark_text close ++ rest, items.reads preceding y (mark_text close ++ rest) fits_in.0 (items.closing rest), inl (items.closes rest, refl))
+  more_again (suc headroom) preceding y (z ∷ zs) rest fits_in le =
       let tail = 32 ∷ (text z ++ others zs rest) in
       let apart : others (z ∷ zs) rest ≡ 44 ∷ tail = ap (λ (l : List ℕ). 44 ∷ 32 ∷ l) (append_assoc (text z) (parted (codes ", ") false (map text zs)) (mark_text close ++ rest)) in
       let all : preceding ++ y ∷ z ∷ zs ≡ (preceding ++ y ∷ []) ++ z ∷ zs = sym (append_assoc preceding (y ∷ []) (z ∷ zs)) in
-      let more = more_again headroom (preceding ++ y ∷ []) z zs rest fit.1 (omega arith) in
+      let more = more_again headroom (preceding ++ y ∷ []) z zs rest fits_in.1 (omega arith) in
       let spaced = space (IsMore IsMark close P headroom (preceding ++ y ∷ [])) (more_ahead close P items.ahead headroom (preceding ++ y ∷ [])) ((preceding ++ y ∷ []) ++ z ∷ zs) (text z ++ others zs rest) rest more in
       subst (λ l. IsMore IsMark close P (suc headroom) preceding (preceding ++ y ∷ z ∷ zs) (text y ++ l) rest) (sym apart)
-      (y, 44 ∷ tail, items.reads preceding y (44 ∷ tail) fit.0 (items.comma tail), inr (items.open_yet tail, tail, mark_token Comma tail tt, subst (λ l. IsMore IsMark close P headroom (preceding ++ y ∷ []) l tail rest) (sym all) spaced))
+      (y, 44 ∷ tail, items.reads preceding y (44 ∷ tail) fits_in.0 (items.comma tail), inr (items.open_yet tail, tail, mark_token Comma tail tt, subst (λ l. IsMore IsMark close P headroom (preceding ++ y ∷ []) l tail rest) (sym all) spaced))
 
   pub list_again : (headroom : ℕ) (ys : List B) (rest : List ℕ) → AllFit Fits [] ys → length ys ≤ headroom → IsList IsMark close P headroom ys (parted (codes ", ") true (map text ys) ++ (mark_text close ++ rest)) rest
   unfolding IsList
-  list_again headroom [] rest fit le = inl (items.closes rest, refl)
-  list_again headroom (y ∷ ys) rest fit le =
+  list_again headroom [] rest fits_in le = inl (items.closes rest, refl)
+  list_again headroom (y ∷ ys) rest fits_in le =
       let apart : (text y ++ parted (codes ", ") false (map text ys)) ++ (mark_text close ++ rest) ≡ text y ++ others ys rest = append_assoc (text y) (parted (codes ", ") false (map text ys)) (mark_text close ++ rest) in
-      let more = more_again headroom [] y ys rest fit le in
-      subst (λ l. IsList IsMark close P headroom (y ∷ ys) l rest) (sym apart) (inr (first headroom y ys rest fit, more))
+      let more = more_again headroom [] y ys rest fits_in le in
+      subst (λ l. IsList IsMark close P headroom (y ∷ ys) l rest) (sym apart) (inr (first headroom y ys rest fits_in, more))
     where
       ends_next : (ys : List B) (rest : List ℕ) → Ends (others ys rest)
       ends_next [] rest = items.closing rest
       ends_next (z ∷ zs) rest = items.comma _
 
       first : (headroom : ℕ) (y : B) (ys : List B) (rest : List ℕ) → AllFit Fits [] (y ∷ ys) → Not IsMark close (text y ++ others ys rest)
-      first headroom y ys rest fit = items.lacks [] y (text y ++ others ys rest) (others ys rest) (items.reads [] y (others ys rest) fit.0 (ends_next ys rest))
+      first headroom y ys rest fits_in = items.lacks [] y (text y ++ others ys rest) (others ys rest) (items.reads [] y (others ys rest) fits_in.0 (ends_next ys rest))

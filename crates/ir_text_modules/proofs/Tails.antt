@@ -74,9 +74,9 @@ regions_back (region g rs) = ap (region g) (regions_back rs)
 -- the operation is built from the parts that were parsed
 made_again : (o : Bool) (f : ℕ → ℕ) (id : ℕ) (named : Named) (h : Head) (rs : Regions) → FitsHead o h → f h.id ≡ id
     → with_ids f (op h rs) ≡ made (is_property (Some h.name)) key_before id h.name (map (λ (b : BoundTerm). b.value) (map (bound_of f named []) h.operands)) h.properties h.attributes h.results (region_list (regions_with_ids f rs))
-made_again o f id named h rs fit e =
-    let p = properties_stay h.name h.properties h.attributes fit.written.properties.sorted fit.written.others in
-    let a = attributes_stay h.name h.properties h.attributes fit.written.attributes.sorted fit.written.others in
+made_again o f id named h rs fits_in e =
+    let p = properties_stay h.name h.properties h.attributes fits_in.written.properties.sorted fits_in.written.others in
+    let a = attributes_stay h.name h.properties h.attributes fits_in.written.attributes.sorted fits_in.written.others in
     rw (bound_values f named [] h.operands, p, a, regions_back (regions_with_ids f rs), sym e) refl
 
 type_spaced : (o : Bool) (ins outs : List TypeTerm) (back rest : List ℕ) → IsFunctionType o (ins, outs) back rest → IsFunctionType o (ins, outs) (32 ∷ back) rest
@@ -85,12 +85,12 @@ type_spaced o ins outs back rest k = (k.0, space_token _ back k.0 k.1, k.2)
 
 pub tail_again : (o : Bool) (f : ℕ → ℕ) (m : ℕ) (first named : Named) (h : Head) (rs : Regions) (id : ℕ) (s : ParseState) (rest : List ℕ) → FitsHead o h → AllByRecursion (FitsType o 32) (map (value_type named) h.operands) → length (map (value_type named) h.operands) ≤ 256 → map (value_type first) h.operands ≡ map (value_type named) h.operands → f h.id ≡ id
     → find (decimal m) s.scopes.here ≡ None → s.bytes ≡ tail_then h named rest → IsTail o id (start_of f first m h) h.properties (region_list (regions_with_ids f rs)) (with_ids f (op h rs)) s (record { bytes = 10 ∷ rest; scopes = finished m id h.results s.scopes; next = s.next })
-tail_again o f m first named h rs id s rest fit types few same e fresh bytes =
+tail_again o f m first named h rs id s rest fits_in types few same e fresh bytes =
     let ins = map (value_type named) h.operands in
     let back = types_then h named rest in
     let colon : Token (mark Colon) (colon_then h named rest) (32 ∷ back) = space_token (mark Colon) (58 ∷ 32 ∷ back) (32 ∷ back) (mark_token Colon (32 ∷ back) refl) in
     let lacks = lacks_token (mark Colon) OpenCurly (colon_then h named rest) (32 ∷ back) colon (λ k. absurd cc) in
-    let attributes = attributes_again o h.name h.properties h.attributes (colon_then h named rest) fit.attributes fit.written.attributes fit.written.others lacks in
-    let type = type_spaced o ins h.results back (10 ∷ rest) (function_type_again o ins h.results (10 ∷ rest) (omega (arith, few)) fit.results types fit.written.types (line_ends o rest)) in
+    let attributes = attributes_again o h.name h.properties h.attributes (colon_then h named rest) fits_in.attributes fits_in.written.attributes fits_in.written.others lacks in
+    let type = type_spaced o ins h.results back (10 ∷ rest) (function_type_again o ins h.results (10 ∷ rest) (omega (arith, few)) fits_in.results types fits_in.written.types (line_ends o rest)) in
     let inputs : map (λ (b : BoundTerm). b.type) (map (bound_of f first []) h.operands) ≡ ins = bound_types f first [] h.operands ∙ same in
-    (h.attributes, state_with_rest s (colon_then h named rest), (colon_then h named rest, rw bytes attributes, refl), (state_with_rest s (32 ∷ back), (32 ∷ back, colon, refl), ((ins, h.results), state_with_rest s (10 ∷ rest), (10 ∷ rest, type, refl), (inputs, (finished m id h.results s.scopes, finish_read m id h.results s.scopes fresh, refl, made_again o f id first h rs fit e)))))
+    (h.attributes, state_with_rest s (colon_then h named rest), (colon_then h named rest, rw bytes attributes, refl), (state_with_rest s (32 ∷ back), (32 ∷ back, colon, refl), ((ins, h.results), state_with_rest s (10 ∷ rest), (10 ∷ rest, type, refl), (inputs, (finished m id h.results s.scopes, finish_read m id h.results s.scopes fresh, refl, made_again o f id first h rs fits_in e)))))

@@ -131,9 +131,9 @@ known_word (Memref dims elem) (suc depth) rest n le small e s =
     let mid = type_text elem ++ 62 ∷ rest in
     let back = flat_map dimension_text dims ++ mid in
     let scalar = scalar_read elem (62 ∷ rest) p.2 p.3 refl in
-    let shape = dimensions_again dims mid p.1 (word_no_dimension scalar.0 mid (62 ∷ rest) scalar.2) in
+    let shaped_as = dimensions_again dims mid p.1 (word_no_dimension scalar.0 mid (62 ∷ rest) scalar.2) in
     let inside : IsMemref false (suc depth) (Memref dims elem) (60 ∷ back) rest =
-    (back, mark_token Less back tt, (dims, mid, (p.0, shape), (elem, 62 ∷ rest, inr (refl, scalar), (rest, mark_token Greater rest tt, (memref_fine dims elem p.1 small, refl, refl))))) in
+    (back, mark_token Less back tt, (dims, mid, (p.0, shaped_as), (elem, 62 ∷ rest, inr (refl, scalar), (rest, mark_token Greater rest tt, (memref_fine dims elem p.1 small, refl, refl))))) in
     rw (inner_text dims elem rest) (bare memref_word, 60 ∷ back, bare_token memref_word (60 ∷ back) refl refl, inside)
 
 kept_word : (t : TypeTerm) (depth : ℕ) (rest : List ℕ) → is_function t ≡ false → nested t ≤ depth → type_depth t ≤ 32 → is_written_type true t ≡ true → EndsType true rest → IsWordType true (IsMemref true depth) t (type_text t ++ rest) rest
@@ -147,13 +147,13 @@ kept_word (Memref dims elem) (suc depth) rest n le small e s =
     let p = memref_parts true dims elem e in
     let mid = type_text elem ++ 62 ∷ rest in
     let back = flat_map dimension_text dims ++ mid in
-    let plain = not-true (is_function elem) p.2 in
-    let read = kept_word elem depth (62 ∷ rest) plain (omega (arith, le)) (element_depth dims elem small) p.3 (refl, refl) in
+    let simple = not-true (is_function elem) p.2 in
+    let read = kept_word elem depth (62 ∷ rest) simple (omega (arith, le)) (element_depth dims elem small) p.3 (refl, refl) in
     let star = element_star (IsMemref true depth) read.0 elem mid read.1 (62 ∷ rest) read.2 read.3 in
-    let shape = dimensions_again dims mid p.1 (element_dimension (IsMemref true depth) read.0 elem mid read.1 (62 ∷ rest) read.2 read.3) in
-    let known = memref_known (60 ∷ back) (memref_plain dims elem rest p.1 plain p.3 star) in
+    let shaped_as = dimensions_again dims mid p.1 (element_dimension (IsMemref true depth) read.0 elem mid read.1 (62 ∷ rest) read.2 read.3) in
+    let known = memref_known (60 ∷ back) (memref_plain dims elem rest p.1 simple p.3 star) in
     let inside : IsMemref true (suc depth) (Memref dims elem) (60 ∷ back) rest =
-    (back, mark_token Less back tt, (dims, mid, (p.0, shape), (elem, 62 ∷ rest, inl (refl, read), (rest, mark_token Greater rest tt, (memref_fine dims elem p.1 small, refl, refl))))) in
+    (back, mark_token Less back tt, (dims, mid, (p.0, shaped_as), (elem, 62 ∷ rest, inl (refl, read), (rest, mark_token Greater rest tt, (memref_fine dims elem p.1 small, refl, refl))))) in
     rw (inner_text dims elem rest)
     (bare memref_word, 60 ∷ back, bare_token memref_word (60 ∷ back) refl refl, subst (λ b. IsWordFrom (IsMemref true (suc depth)) b true memref_word (Memref dims elem) (60 ∷ back) rest) (sym known) inside)
 
@@ -210,7 +210,7 @@ module _ (o : Bool) where
   module _ (depth : ℕ) (item : IsReadAgain o depth) where
     type_items : Items CloseRound (λ before. IsType o depth) type_text (λ before. FitsType o depth) (EndsType o)
     type_items = record {
-      reads = λ preceding y rest fit s. item y rest fit.0 fit.1 s;
+      reads = λ preceding y rest fits_in s. item y rest fits_in.0 fits_in.1 s;
       ahead = λ preceding. type_ahead o depth;
       lacks = λ preceding. type_lacks o CloseRound (λ e. absurd cc) depth;
       comma = λ rest. comma_ends o rest;
@@ -231,8 +231,8 @@ module _ (o : Bool) where
     -- a single output type
     lone_again : (headroom : ℕ) (t : TypeTerm) (rest : List ℕ) → is_function t ≡ false → depth ≤ 32 → type_depth t ≤ depth → is_written_type o t ≡ true → EndsType o rest → IsOutputs (IsType o depth) headroom (t ∷ []) ((type_text t ++ []) ++ rest) rest
     unfolding IsOutputs
-    lone_again headroom t rest plain small le e s =
-        let k = word_again o t depth rest plain le small e s in
+    lone_again headroom t rest simple small le e s =
+        let k = word_again o t depth rest simple le small e s in
         rw (append_assoc (type_text t) [] rest) (inr (word_lacks o (IsMemref o depth) OpenRound k.0 t (type_text t ++ rest) k.1 rest k.2 k.3, (t, rest, item t rest le e s, (refl, refl))))
 
     outputs_again : (headroom : ℕ) (ts : TypeTerms) (rest : List ℕ) → depth ≤ 32 → types_depth ts ≤ depth → are_written_types o ts ≡ true → length (type_list ts) ≤ headroom → EndsType o rest → IsOutputs (IsType o depth) headroom (type_list ts) (outputs_text (is_lone ts) (type_texts ts) ++ rest) rest
@@ -276,8 +276,8 @@ module _ (o : Bool) where
 
 other_again : (o : Bool) (depth : ℕ) (t : TypeTerm) (rest : List ℕ) → suc depth ≤ 32 → is_function t ≡ false → type_depth t ≤ suc depth → is_written_type o t ≡ true → EndsType o rest → IsType o (suc depth) t (type_text t ++ rest) rest
 unfolding IsType
-other_again o depth t rest small plain le e s =
-    let k = word_again o t (suc depth) rest plain le small e s in
+other_again o depth t rest small simple le e s =
+    let k = word_again o t (suc depth) rest simple le small e s in
     inr (word_lacks o (IsMemref o (suc depth)) OpenRound k.0 t (type_text t ++ rest) k.1 rest k.2 k.3, k)
 
 pub type_again : (o : Bool) (depth : ℕ) → depth ≤ 32 → IsReadAgain o depth
@@ -296,8 +296,8 @@ list_of [] = refl
 list_of (t ∷ ts) = ap (λ (l : List TypeTerm). t ∷ l) (list_of ts)
 
 pub parts_fit : (o : Bool) (depth : ℕ) (ts : List TypeTerm) → AllByRecursion (FitsType o depth) ts → (types_depth (types_of ts) ≤ depth) × (are_written_types o (types_of ts) ≡ true)
-parts_fit o depth [] fit = (omega arith, refl)
-parts_fit o depth (t ∷ ts) fit = let p = parts_fit o depth ts fit.1 in let q : is_written_type o t ≡ true = fit.0.1 in (omega (arith, p.0, fit.0.0), rw q p.1)
+parts_fit o depth [] fits_in = (omega arith, refl)
+parts_fit o depth (t ∷ ts) fits_in = let p = parts_fit o depth ts fits_in.1 in let q : is_written_type o t ≡ true = fits_in.0.1 in (omega (arith, p.0, fits_in.0.0), rw q p.1)
 
 pub function_type_again : (o : Bool) (inputs outputs : List TypeTerm) (rest : List ℕ) → length inputs ≤ many → length outputs ≤ 256 → AllByRecursion (FitsType o 32) inputs → AllByRecursion (FitsType o 32) outputs → EndsType o rest
     → IsFunctionType o (inputs, outputs) (type_text (Function (types_of inputs) (types_of outputs)) ++ rest) rest

@@ -49,8 +49,8 @@ pub record IsPlain (ty : TypeTerm) (z : ℤ) : Type 0 where
   pub small : unsigned_abs z < 2 ^ 128
 
 -- a number of a type that is printed
-pub plain : (o : Bool) (ty : TypeTerm) (z : ℤ) → is_written_type o ty ≡ true → is_value_number ty z ≡ true → IsPlain ty z
-plain o ty z t v =
+pub simple : (o : Bool) (ty : TypeTerm) (z : ℤ) → is_written_type o ty ≡ true → is_value_number ty z ≡ true → IsPlain ty z
+simple o ty z t v =
     let some = some_width o ty z t v in
     let fits = value_is_literal ty (int_lt z (pos 0)) (unsigned_abs z) some v in
     record {

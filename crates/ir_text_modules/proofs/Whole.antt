@@ -29,7 +29,7 @@ whole_text t = sym (append_none (text_of t)) ∙ (puts_op [] t).text blank []
 -- f assigns the ids 0, 1, .. in pre-order
 pub single_again : (o : Bool) (f : ℕ → ℕ) (t : Operation) → FitsOp o t → list_all dominated_by_operands (sites is_isolated [] t) ≡ true → Runs f 0 (ids t) → IsDistinct eqb (ids t) → depth t ≤ 128 → length (ids t) ≤ 1048576 → IsSingleOp o no_names 1048576 0 (text_of t) (with_ids f t)
 unfolding IsSingleOp
-single_again o f t fit dominated_by runs distinct deep few =
+single_again o f t fits_in dominated_by runs distinct deep few =
     let n = names_of blank in
     let s = initial_state 0 (text_of t) in
     let fresh : Fresh f 1048576 [] n 0 0 (ids t) = record {
@@ -40,5 +40,5 @@ single_again o f t fit dominated_by runs distinct deep few =
       few_results = omega (arith, few);
       few_arguments = omega (arith, few);
     } in
-    let read = op_again o f 1048576 (omega arith) 129 t [] [] n s [] tt fit (dominated_by_op [] t dominated_by) (omega (arith, deep)) fresh (joined_nothing o f n) (ap next_token (whole_text t)) in
+    let read = op_again o f 1048576 (omega arith) 129 t [] [] n s [] tt fits_in (dominated_by_op [] t dominated_by) (omega (arith, deep)) fresh (joined_nothing o f n) (ap next_token (whole_text t)) in
     (record { bytes = 10 ∷ []; scopes = read.scopes; next = 0 + length (ids t) }, [], read.reads, blank_passed 10 [] refl ∙ mark_token End [] refl)

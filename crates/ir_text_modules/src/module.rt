@@ -40,7 +40,7 @@ pub fn read_module(
     ensures sound { IfOk result (λ x. IsSoundIn x.0 x.1) }
     ensures mode { IfOk result (λ x. x.0.opaque ≡ opaque) }
     ensures refused { (r : Refusal) (o : ℕ) → result ≡ Err (ReadError.Refused r o) → IsNone (SpellsModule opaque text.now) }
-    ensures told { IfErr result (λ e. IsTextRefusal text.now e) }
+    ensures reported { IfErr result (λ e. IsTextRefusal text.now e) }
     ensures headroom { (o : ℕ) → result ≡ Err (ReadError.Full o) → ⊥ }
 {
     if !opaque {
@@ -60,7 +60,7 @@ fn read_plain(alloc: Global, key: u64, text: &[u8]) -> Result<(Context, TreeOp),
     ensures sound { IfOk result (λ x. IsSoundIn x.0 x.1) }
     ensures mode { IfOk result (λ x. x.0.opaque ≡ false) }
     ensures refused { (r : Refusal) (o : ℕ) → result ≡ Err (ReadError.Refused r o) → IsNone (SpellsModule false text.now) }
-    ensures told { IfErr result (λ e. IsTextRefusal text.now e) }
+    ensures reported { IfErr result (λ e. IsTextRefusal text.now e) }
     ensures headroom { (o : ℕ) → result ≡ Err (ReadError.Full o) → ⊥ }
 {
     read_new(alloc, key, false, text)
@@ -74,7 +74,7 @@ fn read_unchanged(alloc: Global, key: u64, text: &[u8]) -> Result<(Context, Tree
     ensures sound { IfOk result (λ x. IsSoundIn x.0 x.1) }
     ensures mode { IfOk result (λ x. x.0.opaque ≡ true) }
     ensures refused { (r : Refusal) (o : ℕ) → result ≡ Err (ReadError.Refused r o) → IsNone (SpellsModule true text.now) }
-    ensures told { IfErr result (λ e. IsTextRefusal text.now e) }
+    ensures reported { IfErr result (λ e. IsTextRefusal text.now e) }
     ensures headroom { (o : ℕ) → result ≡ Err (ReadError.Full o) → ⊥ }
 {
     read_new(alloc, key, true, text)
@@ -87,7 +87,7 @@ fn read_expanded(alloc: Global, key: u64, text: &[u8]) -> Result<(Context, TreeO
     ensures sound { IfOk result (λ x. IsSoundIn x.0 x.1) }
     ensures mode { IfOk result (λ x. x.0.opaque ≡ true) }
     ensures refused { (r : Refusal) (o : ℕ) → result ≡ Err (ReadError.Refused r o) → IsNone (SpellsModule true text.now) }
-    ensures told { IfErr result (λ e. IsTextRefusal text.now e) }
+    ensures reported { IfErr result (λ e. IsTextRefusal text.now e) }
     ensures headroom { (o : ℕ) → result ≡ Err (ReadError.Full o) → ⊥ }
 {
     let Ok(expansion) = expand(alloc, Keyed::new(key), text) else {

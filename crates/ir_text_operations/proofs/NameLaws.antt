@@ -28,7 +28,7 @@ use Rattle.ir_text_operations.specs.OpGrammar.{result_terms, IsBoundResults, IsF
 use Rattle.ir_text_names.specs.Packs.{Counted, counts}
 use Rattle.ir_text_operations.specs.Denotation.{Both, PackDenotes, BindingDenotes, HereDenotes, ScopesDenote, StateDenotes}
 use Rattle.ir_text_operations.proofs.EntryLaws.{each_length}
-use Rattle.ir_text_operations.proofs.PrecedingLaws.{known, SameText, Plain, find_stands, shift_exact, token_exact}
+use Rattle.ir_text_operations.proofs.PrecedingLaws.{known, SameText, Simple, find_stands, shift_exact, token_exact}
 
 abbrev pub held : State → ContextModel
 held s = s.things
@@ -104,7 +104,7 @@ module _ {A B : Type 0} (c : ContextModel) (R : ContextModel → A → B → Typ
           subst (λ u. Reads held StateDenotes R s (p (states.typed s) >>= read_into s) y u) (sym j.2) (typed_reads s t (p (states.typed s)) y j.0 h (k.only (states.typed s) t.bytes y j.0 g sound (λ z i w. (h z i w).0) j.1));
     }
 
-  module _ (p : Parse Text A) (P : Grammar Text B) (k : (d : ContextModel) → IsExtendedBy c d → Plain d R p P) where
+  module _ (p : Parse Text A) (P : Grammar Text B) (k : (d : ContextModel) → IsExtendedBy c d → Simple d R p P) where
     abbrev put_text : State → A × Text → Outcome (A × State)
     put_text s x = Read (x.0, to_bytes s x.1)
 

@@ -167,8 +167,8 @@ known c s = c
 abbrev pub SameText : ContextModel → Text → Text → Type 0
 SameText z s t = s ≡ t
 
-abbrev pub Plain : {A B : Type 0} → (c : ContextModel) → (ContextModel → A → B → Type 0) → Parse Text A → Grammar Text B → Type 0
-Plain c R p P = Exact (known c) SameText c R p P
+abbrev pub Simple : {A B : Type 0} → (c : ContextModel) → (ContextModel → A → B → Type 0) → Parse Text A → Grammar Text B → Type 0
+Simple c R p P = Exact (known c) SameText c R p P
 
 pub text_marks : (c : ContextModel) → Marks (known c) SameText after IsMark
 text_marks c = record {
@@ -180,21 +180,21 @@ text_marks c = record {
 
 module _ {A B : Type 0} (c : ContextModel) (R : ContextModel → A → B → Type 0) where
   -- the parse after the token
-  plain_after : (rest : Text) (p : Parse Text A) (P : Grammar Text B) → Plain c R p P → Plain c R (λ s. p rest) (λ y old new. P y rest new)
+  plain_after : (rest : Text) (p : Parse Text A) (P : Grammar Text B) → Simple c R p P → Simple c R (λ s. p rest) (λ y old new. P y rest new)
   plain_after rest p P k = shift_exact (known c) SameText c R (λ s. rest) (λ t. rest) p P (λ s t sound a. (grows_refl c, sound, λ z g w. refl)) k
 
-  plain_token : (f : Text → Lexeme → List ℕ → Outcome (A × Text)) (F : Lexeme → List ℕ → Grammar Text B) → ((l : Lexeme) (rest : Text) → Plain c R (λ s. f s l rest) (F l rest))
-      → Plain c R (λ s. of_option (next s) >>= λ l. f s l.0 l.1) (λ y old new. (l : Lexeme) × (rest : Text) × Token l old rest × F l rest y old new)
+  plain_token : (f : Text → Lexeme → List ℕ → Outcome (A × Text)) (F : Lexeme → List ℕ → Grammar Text B) → ((l : Lexeme) (rest : Text) → Simple c R (λ s. f s l rest) (F l rest))
+      → Simple c R (λ s. of_option (next s) >>= λ l. f s l.0 l.1) (λ y old new. (l : Lexeme) × (rest : Text) × Token l old rest × F l rest y old new)
   plain_token f F each = token_exact (known c) SameText (λ s. s) (λ t. t) (λ z s t k. k) c R f F each
 
 -- the same for any context at the start
-plain_from : {A B : Type 0} (c : ContextModel) (R : ContextModel → A → B → Type 0) (p : Parse Text A) (P : Grammar Text B) → Plain c R p P → (d : ContextModel) → Exact (known c) SameText d R p P
+plain_from : {A B : Type 0} (c : ContextModel) (R : ContextModel → A → B → Type 0) (p : Parse Text A) (P : Grammar Text B) → Simple c R p P → (d : ContextModel) → Exact (known c) SameText d R p P
 plain_from c R p P k d = record {
   found = λ s t x s' g sound h e. k.found s t x s' (grows_refl c) sound h e;
   only = λ s t y t' g sound h j. k.only s t y t' (grows_refl c) sound h j;
 }
 
-plain_done : {A : Type 0} (c : ContextModel) (x : A) → Plain c Equals (λ s. Read (x, s)) (Done x)
+plain_done : {A : Type 0} (c : ContextModel) (x : A) → Simple c Equals (λ s. Read (x, s)) (Done x)
 plain_done c x = done_exact (known c) SameText c Equals x x (λ z g w. refl)
 
 -- ---- names
@@ -203,7 +203,7 @@ abbrev NameFrom : Lexeme → Text → Grammar Text (List ℕ)
 NameFrom (value n) rest y old new = Done n y rest new
 NameFrom _ rest y old new = ⊥
 
-name_from_exact : (c : ContextModel) (l : Lexeme) (rest : Text) → Plain c Equals (λ s. name_from l rest) (NameFrom l rest)
+name_from_exact : (c : ContextModel) (l : Lexeme) (rest : Text) → Simple c Equals (λ s. name_from l rest) (NameFrom l rest)
 name_from_exact c (value n) rest = plain_after c Equals rest (λ s. Read (n, s)) (Done n) (plain_done c n)
 name_from_exact c _ rest = nothing_exact (known c) SameText c Equals
 
@@ -214,7 +214,7 @@ name_into y t t' k = by_token k.0 k.1 k.2 k.3
     by_token (value n) rest token k = rw (k.0, k.1) token
     by_token _ rest token k = absurd k
 
-pub name_exact : (c : ContextModel) → Plain c Equals value_name_at IsName
+pub name_exact : (c : ContextModel) → Simple c Equals value_name_at IsName
 unfolding value_name_at
 name_exact c =
     exact_rendered (known c) SameText c Equals value_name_at (λ y old new. (l : Lexeme) × (rest : Text) × Token l old rest × NameFrom l rest y old new) IsName name_into (λ y t t' k. (value y, t', k, (refl, refl)))
@@ -230,7 +230,7 @@ each_equal z (x ∷ xs) (y ∷ ys) h = λ i. h.0 i ∷ each_equal z xs ys h.1 i
 
 -- a parser whose value is the derived value itself
 module _ {A : Type 0} (p : Parse Text A) (P : Grammar Text A) (found : (s : Text) (x : A) (s' : Text) → p s ≡ Read (x, s') → P x s s') (only : (s : Text) (x : A) (s' : Text) → P x s s' → p s ≡ Read (x, s')) where
-  plain_equal : (c : ContextModel) → Plain c Equals p P
+  plain_equal : (c : ContextModel) → Simple c Equals p P
   plain_equal c = record {
     found = λ s t x s' g sound h e. (x, s', subst (λ b. P x b s') (h c (grows_refl c) sound) (found s x s' e), record { grows = grows_refl c; sound = sound; stands = λ z j w. refl; agree = λ z j w. refl });
     only = λ s t y t' g sound h k. inr (y, t', only s y t' (subst (λ b. P y b t') (sym (h c (grows_refl c) sound)) k), record { grows = grows_refl c; sound = sound; stands = λ z j w. refl; agree = λ z j w. refl });
@@ -262,51 +262,51 @@ number_only s k s' h =
     let low : nat_le 1 (integer_of h.0) ≡ true = le-leb 1 (integer_of h.0) (subst (λ n. 1 ≤ n) h.2 h.3) in
     rw (h.1, low, h.2) refl
 
-number_exact : (c : ContextModel) → Plain c Equals nonzero_at IsNumber
+number_exact : (c : ContextModel) → Simple c Equals nonzero_at IsNumber
 number_exact c = plain_equal nonzero_at IsNumber number_found number_only c
 
-within_exact : (before k : ℕ) (c : ContextModel) → Plain c Equals (λ s. if nat_le (before + k) 256 then Read (k, s) else Wrong) (When (before + k ≤ 256) (Done k))
+within_exact : (before k : ℕ) (c : ContextModel) → Simple c Equals (λ s. if nat_le (before + k) 256 then Read (k, s) else Wrong) (When (before + k ≤ 256) (Done k))
 within_exact before k c =
     exact_rendered (known c) SameText c Equals (λ s. if nat_le (before + k) 256 then Read (k, s) else Wrong) (λ y old new. (nat_le (before + k) 256 ≡ true) × Done k y old new) (When (before + k ≤ 256) (Done k))
     (λ y t t' j. (leb-true (before + k) 256 j.0, j.1)) (λ y t t' j. (le-leb (before + k) 256 j.0, j.1)) (guard_exact (known c) SameText c Equals (nat_le (before + k) 256) (λ s. Read (k, s)) (Done k) (plain_done c k))
 
-count_exact : (before : ℕ) (c : ContextModel) → Plain c Equals (count_at before) (IsCount before)
+count_exact : (before : ℕ) (c : ContextModel) → Simple c Equals (count_at before) (IsCount before)
 unfolding count_at
 count_exact before c =
     then_exact (known c) SameText c Equals Equals (λ s. some_count s (after Colon s)) (Either IsMark Colon IsNumber (Done 1)) (λ k s. if nat_le (before + k) 256 then Read (k, s) else Wrong) (λ k. When (before + k ≤ 256) (Done k))
     (either_exact (known c) SameText after IsMark (text_marks c) c Equals Colon some_count nonzero_at (λ s. Read (1, s)) IsNumber (Done 1) (λ s mid. refl) (λ s. refl) (number_exact c) (plain_done c 1)) (λ d k n g same.
     begin_exact (known c) SameText d Equals (λ u s. if nat_le (before + k) 256 then Read (k, s) else Wrong) (λ t. When (before + n ≤ 256) (Done n)) (λ s t up sound h.
-    subst (λ m. Plain c Equals (λ s. if nat_le (before + k) 256 then Read (k, s) else Wrong) (When (before + m ≤ 256) (Done m))) (same c up sound) (within_exact before k c)))
+    subst (λ m. Simple c Equals (λ s. if nat_le (before + k) 256 then Read (k, s) else Wrong) (When (before + m ≤ 256) (Done m))) (same c up sound) (within_exact before k c)))
 
-result_exact : (before : ℕ) (c : ContextModel) → Plain c Equals (result_at before) (IsResult before)
+result_exact : (before : ℕ) (c : ContextModel) → Simple c Equals (result_at before) (IsResult before)
 unfolding result_at
 result_exact before c =
     then_exact (known c) SameText c Equals Equals value_name_at IsName (λ n s. count_at before s >>= λ k. Read ((n, k.0), k.1)) (λ n. Then (IsCount before) (λ k. Done (n, k))) (name_exact c) (λ d n n' g names.
     then_exact (known c) SameText d Equals Equals (count_at before) (IsCount before) (λ k s. Read ((n, k), s)) (λ k. Done (n', k)) (plain_from c Equals (count_at before) (IsCount before) (count_exact before c) d) (λ e k k' up same.
     done_exact (known c) SameText e Equals (n, k) (n', k') (λ z j w. λ i. (names z (grows_trans d e z up j) w i, same z j w i))))
 
-names_exact : (c : ContextModel) → Plain c Equals names_at IsNames
+names_exact : (c : ContextModel) → Simple c Equals names_at IsNames
 unfolding names_at
 names_exact c =
     exact_for (known c) SameText c (Each Equals) Equals names_at IsNames each_equal
     (more_exact (known c) SameText after IsMark (text_marks c) Equals Equal (λ before. result_at (counts before)) (λ before. IsResult (counts before)) (λ d xs ys r.
     begin_exact (known c) SameText d Equals (λ s. result_at (counts xs)) (λ t. IsResult (counts ys)) (λ s t up sound h.
-    subst (λ zs. Plain c Equals (result_at (counts xs)) (IsResult (counts zs))) (each_equal c xs ys (r c up sound)) (result_exact (counts xs) c))) 256 c [] [] (λ z g k. tt))
+    subst (λ zs. Simple c Equals (result_at (counts xs)) (IsResult (counts zs))) (each_equal c xs ys (r c up sound)) (result_exact (counts xs) c))) 256 c [] [] (λ z g k. tt))
 
 -- ---- the names of results, and the name of an operation
 
-some_names_exact : (c : ContextModel) (n : List ℕ) (rest : Text) → Plain c Equals (λ s. results_from s (value n)) (IsResultsFrom (value n))
+some_names_exact : (c : ContextModel) (n : List ℕ) (rest : Text) → Simple c Equals (λ s. results_from s (value n)) (IsResultsFrom (value n))
 some_names_exact c n rest =
     exact_rendered (known c) SameText c Equals (λ s. results_from s (value n)) (Then IsNames (λ ns. Done (Some ns))) (IsResultsFrom (value n))
     (λ y t t' k. (k.0, subst (λ r. IsNames k.0 t r) (sym k.3.1) k.2, k.3.0)) (λ y t t' k. (k.0, t', k.1, (k.2, refl)))
     (then_exact (known c) SameText c Equals Equals names_at IsNames (λ ns s. Read (Some ns, s)) (λ ns. Done (Some ns)) (names_exact c) (λ d x y g r.
     done_exact (known c) SameText d Equals (Some x) (Some y) (λ z k w. ap Some (r z k w))))
 
-results_from_exact : (c : ContextModel) (l : Lexeme) (rest : Text) → Plain c Equals (λ s. results_from s l) (IsResultsFrom l)
+results_from_exact : (c : ContextModel) (l : Lexeme) (rest : Text) → Simple c Equals (λ s. results_from s l) (IsResultsFrom l)
 results_from_exact c (value n) rest = some_names_exact c n rest
 results_from_exact c _ rest = plain_done c None
 
-results_exact : (c : ContextModel) → Plain c Equals results_at IsResults
+results_exact : (c : ContextModel) → Simple c Equals results_at IsResults
 unfolding results_at
 results_exact c = plain_token c Equals (λ s l rest. results_from s l) (λ l rest. IsResultsFrom l) (results_from_exact c)
 
@@ -317,7 +317,7 @@ abbrev OpNameFrom : Lexeme → Text → Grammar Text (List ℕ)
 OpNameFrom (string raw) rest y old new = NameOf raw y rest new
 OpNameFrom _ rest y old new = ⊥
 
-op_name_from_exact : (c : ContextModel) (l : Lexeme) (rest : Text) → Plain c Equals (λ s. op_name_from l rest) (OpNameFrom l rest)
+op_name_from_exact : (c : ContextModel) (l : Lexeme) (rest : Text) → Simple c Equals (λ s. op_name_from l rest) (OpNameFrom l rest)
 op_name_from_exact c (string raw) rest =
     plain_after c Equals rest (λ s. if length (string_bytes raw) == 0 then Wrong else Read (string_bytes raw, s)) (NameOf raw)
     (choice_exact (known c) SameText c Equals (length (string_bytes raw) == 0) (λ s. Wrong) (λ s. Read (string_bytes raw, s)) (λ y old new. ⊥) (Done (string_bytes raw)) (nothing_exact (known c) SameText c Equals) (plain_done c (string_bytes raw)))
@@ -331,7 +331,7 @@ op_name_into y t t' k = by_token k.0 k.1 k.2 k.3
     by_token (string raw) rest token (inr k) = (raw, subst (λ r. Token (string raw) t r) (sym k.1.1) token, k.0, k.1.0)
     by_token _ rest token k = absurd k
 
-op_name_exact : (c : ContextModel) → Plain c Equals op_name_at IsOpName
+op_name_exact : (c : ContextModel) → Simple c Equals op_name_at IsOpName
 unfolding op_name_at
 op_name_exact c =
     exact_rendered (known c) SameText c Equals op_name_at (λ y old new. (l : Lexeme) × (rest : Text) × Token l old rest × OpNameFrom l rest y old new) IsOpName op_name_into (λ y t t' k. (string k.0, t', k.1, inr (k.2, (k.3, refl))))
@@ -403,7 +403,7 @@ place_only s k s' (inr h) = by_next (next s) refl ∙ λ i. Read (sym h.1 i, sym
     by_next None none = refl
     by_next (Some t) token = by_token t.0 t.1 token
 
-place_exact : (c : ContextModel) → Plain c Equals place_at IsPlace
+place_exact : (c : ContextModel) → Simple c Equals place_at IsPlace
 place_exact c = plain_equal place_at IsPlace place_found place_only c
 
 -- the values at an index are related
@@ -452,13 +452,13 @@ module _ (c : ContextModel) (free : Frees) (outer : FreeTerms) (here : List (Bin
   UseFrom (value n) rest y old new = UseOf n y rest new
   UseFrom _ rest y old new = ⊥
 
-  use_of_exact : (n : List ℕ) → Plain c BoundDenotes (member_of (pack_denoted_by free here n)) (UseOf n)
+  use_of_exact : (n : List ℕ) → Simple c BoundDenotes (member_of (pack_denoted_by free here n)) (UseOf n)
   use_of_exact n =
       exact_where (known c) SameText c BoundDenotes (member_of (pack_denoted_by free here n)) (λ s. found_at n s >>= λ x. member_at x.0 x.1) (UseOf n) (λ s g sound. sym (bind_assoc (of_option (pack_denoted_by free here n)) (λ pack. Read (pack, s)) (λ x. member_at x.0 x.1)))
       (then_exact (known c) SameText c PackDenotes BoundDenotes (found_at n) (Found n) member_at IsMember (both_exact (known c) SameText c PackDenotes (pack_denoted_by free here n) (pack_denoted_by outer there n) (λ z g w. seen_stands z free outer n here there (frees z g w) (stand z g w)))
       (λ d xs ys g r. member_exact c d xs ys r))
 
-  use_from_exact : (l : Lexeme) (rest : Text) → Plain c BoundDenotes (λ s. use_from free here l rest) (UseFrom l rest)
+  use_from_exact : (l : Lexeme) (rest : Text) → Simple c BoundDenotes (λ s. use_from free here l rest) (UseFrom l rest)
   use_from_exact (value n) rest = plain_after c BoundDenotes rest (member_of (pack_denoted_by free here n)) (UseOf n) (use_of_exact n)
   use_from_exact _ rest = nothing_exact (known c) SameText c BoundDenotes
 
@@ -474,18 +474,18 @@ module _ (c : ContextModel) (free : Frees) (outer : FreeTerms) (here : List (Bin
   use_back : (y : BoundTerm) (t t' : Text) → IsUse outer there y t t' → (l : Lexeme) × (rest : Text) × Token l t rest × UseFrom l rest y t t'
   use_back y t t' k = (value k.0, k.1, k.4, (k.2, k.1, (k.5, refl), (k.3, t', k.6, (k.7, refl))))
 
-  use_exact : Plain c BoundDenotes (use_at free here) (IsUse outer there)
+  use_exact : Simple c BoundDenotes (use_at free here) (IsUse outer there)
   unfolding use_at
   use_exact =
       exact_rendered (known c) SameText c BoundDenotes (use_at free here) (λ y old new. (l : Lexeme) × (rest : Text) × Token l old rest × UseFrom l rest y old new) (IsUse outer there) use_into use_back
       (plain_token c BoundDenotes (λ s. use_from free here) UseFrom use_from_exact)
 
-  uses_exact : Plain c (Each BoundDenotes) (uses_at free here) (IsList IsMark CloseRound (λ before. IsUse outer there) 256)
+  uses_exact : Simple c (Each BoundDenotes) (uses_at free here) (IsList IsMark CloseRound (λ before. IsUse outer there) 256)
   unfolding uses_at
   uses_exact = list_exact (known c) SameText after IsMark (text_marks c) BoundDenotes CloseRound (λ before. use_at free here) (λ before. IsUse outer there) (λ d xs ys r. plain_from c BoundDenotes (use_at free here) (IsUse outer there) use_exact d) 256 c
 
   -- the header of an operation
-  pub start_exact : Plain c StartDenotes (start_at free here) (IsStart outer there)
+  pub start_exact : Simple c StartDenotes (start_at free here) (IsStart outer there)
   unfolding start_at
   start_exact =
       then_exact (known c) SameText c Equals StartDenotes _ _ _ _ (results_exact c) (λ d1 results results' g1 r1.

@@ -155,7 +155,7 @@ fn first_member<'a>(pack: &ValueGroup, bytes: &'a [u8]) -> Result<(TypedValue, &
 
 /// Returns the value of a pack at the index after a hash sign, or the first value if there is no hash sign. If there
 /// is no hash sign, no token is lexed.
-#[tactic(auto, using(crate::proofs::Plain::first_member))]
+#[tactic(auto, using(crate::proofs::Simple::first_member))]
 fn member<'a>(pack: &ValueGroup, bytes: &'a [u8]) -> Result<(TypedValue, &'a [u8]), ReadError>
     ensures { Returns (λ x. (x.0, x.1.now)) result (member_at pack.now bytes.now) }
 {

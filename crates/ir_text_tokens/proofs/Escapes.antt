@@ -52,8 +52,8 @@ data EscapeForm (c : ℕ) : Type 0 where
   itself : Stands c → byte_text c ≡ c ∷ [] → EscapeForm c
   escaped : byte_text c ≡ 92 ∷ hex_digit (c / 16) ∷ hex_digit (c % 16) ∷ [] → EscapeForm c
 
-way : (c : ℕ) → EscapeForm c
-way c = elim (cases_Bool (c == 92)) [
+escape_form : (c : ℕ) → EscapeForm c
+escape_form c = elim (cases_Bool (c == 92)) [
   | inl e ↦ doubled (eqb-true c 92 e) (rw e refl)
   | inr e ↦ elim (cases_Bool ((leb 32 c && leb c 126) && not (c == 34))) [
     | inl f ↦ itself (stands c e f) (rw (e, f) refl)
@@ -105,13 +105,13 @@ nothing = refl
 escaped_len : (v rest : List ℕ) → AreBytes v → closing (raw_text v ++ 34 ∷ rest) ≡ Some (length (raw_text v))
 escaped_len [] rest h = quote_ends rest
 escaped_len (c ∷ cs) rest h =
-    let e = byte_passed c (raw_text cs ++ 34 ∷ rest) h.0 (way c) in
+    let e = byte_passed c (raw_text cs ++ 34 ∷ rest) h.0 (escape_form c) in
     let ih = escaped_len cs rest h.1 in
     rw (flat_map-cons, append_assoc, e, ih) (ap Some (sym (length-append (byte_text c) (raw_text cs))))
 
 pub value_again : (v : List ℕ) → AreBytes v → string_bytes (raw_text v) ≡ v
 value_again [] h = nothing
-value_again (c ∷ cs) h = rw (flat_map-cons, byte_back c (raw_text cs) h.0 (way c)) (ap (λ (l : List ℕ). c ∷ l) (value_again cs h.1))
+value_again (c ∷ cs) h = rw (flat_map-cons, byte_back c (raw_text cs) h.0 (escape_form c)) (ap (λ (l : List ℕ). c ∷ l) (value_again cs h.1))
 
 -- the text after the opening quote is read back
 pub parts_again : (v rest : List ℕ) → AreBytes v → string_parts ((raw_text v ++ 34 ∷ []) ++ rest) ≡ Some (raw_text v, rest)

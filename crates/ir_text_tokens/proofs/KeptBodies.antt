@@ -172,8 +172,8 @@ part_within c cs = from (c == 34) (is_sign c) (is_arrow c cs) refl
 
 -- the refusal by its tests
 abbrev fault_by : Bool → Bool → Bool → Bool → Bool → Bool → Option TextRefusal
-fault_by closes is_string closed alias plain left_out =
-    cond closes (Some Unexpected) (cond is_string (cond closed None (Some BadToken)) (cond alias (Some LeftOut) (cond plain None (cond left_out (Some LeftOut) (Some BadToken)))))
+fault_by closes is_string closed alias simple left_out =
+    cond closes (Some Unexpected) (cond is_string (cond closed None (Some BadToken)) (cond alias (Some LeftOut) (cond simple None (cond left_out (Some LeftOut) (Some BadToken)))))
 
 strings : (w r rest : List ℕ) (n a b a' b' x : Bool) (o : Option ℕ) → closing (w ++ r) ≡ o → fault_by n true (is_closed o) a b x ≡ None → string_len o < length w
     → (fault_by n true (is_closed (closing (w ++ rest))) a' b' x ≡ None) × (string_len (closing (w ++ rest)) ≡ string_len o)
@@ -185,14 +185,14 @@ pub part_again : (c : ℕ) (w r rest : List ℕ) → fault_of c (w ++ r) ≡ Non
 part_again c [] r rest e lt = absurd (omega (arith, lt))
 part_again c (d ∷ ws) r rest e lt = same c (d ∷ ws) r rest (is_printable c || is_blank c) (is_plain c (d ∷ ws)) (is_arrow c (d ∷ ws)) (c == 34) (is_sign c) refl e lt
   where
-    same : (c : ℕ) (w r rest : List ℕ) (other plain arrow t s : Bool) → is_sign c ≡ s → fault_by (closes_nearest c) t (is_closed (closing (w ++ r))) (is_alias c (w ++ r)) plain other ≡ None
+    same : (c : ℕ) (w r rest : List ℕ) (other simple arrow t s : Bool) → is_sign c ≡ s → fault_by (closes_nearest c) t (is_closed (closing (w ++ r))) (is_alias c (w ++ r)) simple other ≡ None
         → cond t (string_len (closing (w ++ r))) (cond s (suffix_len (w ++ r)) (cond arrow 1 0)) < length w
-        → (fault_by (closes_nearest c) t (is_closed (closing (w ++ rest))) (is_alias c (w ++ rest)) plain other ≡ None)
+        → (fault_by (closes_nearest c) t (is_closed (closing (w ++ rest))) (is_alias c (w ++ rest)) simple other ≡ None)
         × (cond t (string_len (closing (w ++ rest))) (cond s (suffix_len (w ++ rest)) (cond arrow 1 0)) ≡ cond t (string_len (closing (w ++ r))) (cond s (suffix_len (w ++ r)) (cond arrow 1 0)))
-    same c w r rest other plain arrow true s h e lt = strings w r rest (closes_nearest c) (is_alias c (w ++ r)) plain (is_alias c (w ++ rest)) plain other (closing (w ++ r)) refl e lt
-    same c w r rest other plain arrow false true h e lt =
+    same c w r rest other simple arrow true s h e lt = strings w r rest (closes_nearest c) (is_alias c (w ++ r)) simple (is_alias c (w ++ rest)) simple other (closing (w ++ r)) refl e lt
+    same c w r rest other simple arrow false true h e lt =
         let alias : is_alias c (w ++ rest) ≡ is_alias c (w ++ r) = ap (λ b. is_sign c && b) (undivided_again w r rest lt) in
-        (ap (λ b. fault_by (closes_nearest c) false false b plain other) alias ∙ e, name_again w r rest lt)
-    same c w r rest other plain arrow false false h e lt =
+        (ap (λ b. fault_by (closes_nearest c) false false b simple other) alias ∙ e, name_again w r rest lt)
+    same c w r rest other simple arrow false false h e lt =
         let alias : is_alias c (w ++ rest) ≡ is_alias c (w ++ r) = rw h refl in
-        (ap (λ b. fault_by (closes_nearest c) false false b plain other) alias ∙ e, refl)
+        (ap (λ b. fault_by (closes_nearest c) false false b simple other) alias ∙ e, refl)

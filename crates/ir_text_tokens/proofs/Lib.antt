@@ -9,7 +9,7 @@ pub mod Wholes
 pub mod Marks
 pub mod Blanks
 pub mod Reasons
-pub mod Plain
+pub mod Simple
 pub mod Steps
 pub mod KeptBodies
 pub mod Again

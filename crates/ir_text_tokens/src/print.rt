@@ -31,7 +31,7 @@ fn write_byte(out: &mut Vec<u8>, byte: u8) -> Result<(), AllocError>
 }
 
 /// Returns whether all bytes are word bytes, which are printed in a string without escapes.
-#[tactic(auto, using(crate::proofs::Plain::plain_text))]
+#[tactic(auto, using(crate::proofs::Simple::plain_text))]
 fn are_plain(text: &[u8]) -> bool
     ensures { IsTrue result → raw_text text.now ≡ text.now }
 {

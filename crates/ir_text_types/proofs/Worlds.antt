@@ -161,15 +161,15 @@ module _ {S T : Type 0} (things : S → ContextModel) (Same : ContextModel → S
       (ap (λ (q : A × S). q.0) p, ap (λ (q : A × S). q.1) p)
 
   -- an empty step: nothing is read
-  pub stay : {A B : Type 0} (R : ContextModel → A → B → Type 0) (c : ContextModel) (s : S) (t : T) (x : A) (y : B) → IsExtendedBy c (things s) → IsSound (things s) → Agree s t → From (λ z. R z x y) c → Step R s x y s t
-  stay R c s t x y g sound h r = record { grows = grows_refl (things s); sound = sound; stands = later (λ z. R z x y) c (things s) g r; agree = h }
+  pub remains : {A B : Type 0} (R : ContextModel → A → B → Type 0) (c : ContextModel) (s : S) (t : T) (x : A) (y : B) → IsExtendedBy c (things s) → IsSound (things s) → Agree s t → From (λ z. R z x y) c → Step R s x y s t
+  remains R c s t x y g sound h r = record { grows = grows_refl (things s); sound = sound; stands = later (λ z. R z x y) c (things s) g r; agree = h }
 
   pub done_exact : {A B : Type 0} (c : ContextModel) (R : ContextModel → A → B → Type 0) (x : A) (y : B) → From (λ z. R z x y) c → Exact c R (λ s. Read (x, s)) (Done y)
   done_exact c R x y r = record {
     found = λ s t x' s' g sound h e.
         let q = parts x x' s s' e in
-        rw (← q.0, ← q.1) (y, t, (refl, refl), stay R c s t x y g sound h r);
-    only = λ s t y' t' g sound h k. rw (k.0, k.1) (inr (x, s, refl, stay R c s t x y g sound h r));
+        rw (← q.0, ← q.1) (y, t, (refl, refl), remains R c s t x y g sound h r);
+    only = λ s t y' t' g sound h k. rw (k.0, k.1) (inr (x, s, refl, remains R c s t x y g sound h r));
   }
 
   -- ---- punctuation marks

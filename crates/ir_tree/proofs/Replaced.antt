@@ -53,11 +53,11 @@ module _ (old new : Value) where
   module _ (v : Value) (not_old : same_value v old ≡ false) (not_new : same_value v new ≡ false) where
     same_here : (x k : ℕ) (ws : List Value) → operand_uses v x k (map (put_value old new) ws) ≡ operand_uses v x k ws
     same_here x k [] = refl
-    same_here x k (w ∷ ws) = (λ i. cond (told (same_value old w) refl i) ((x, k) ∷ same_here x (k + 1) ws i) (same_here x (k + 1) ws i))
+    same_here x k (w ∷ ws) = (λ i. cond (reported (same_value old w) refl i) ((x, k) ∷ same_here x (k + 1) ws i) (same_here x (k + 1) ws i))
       where
-        told : (b : Bool) → same_value old w ≡ b → same_value v (cond (same_value old w) new w) ≡ same_value v w
-        told true e = ap (λ b. same_value v (cond b new w)) e ∙ not_new ∙ sym not_old ∙ ap (same_value v) (same_value_true old w e)
-        told false e = ap (λ b. same_value v (cond b new w)) e
+        reported : (b : Bool) → same_value old w ≡ b → same_value v (cond (same_value old w) new w) ≡ same_value v w
+        reported true e = ap (λ b. same_value v (cond b new w)) e ∙ not_new ∙ sym not_old ∙ ap (same_value v) (same_value_true old w e)
+        reported false e = ap (λ b. same_value v (cond b new w)) e
 
     module _ {N T A : Type 0} where
       mutual

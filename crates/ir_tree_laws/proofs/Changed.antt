@@ -31,7 +31,7 @@ use Rattle.ir_tree_laws.proofs.Shift.{still_among, inner_of, inner_place}
 use Rattle.ir_tree_laws.proofs.Reasoned.{no_put_reason, no_take_reason, no_shift_reason, none_ids}
 use Rattle.ir_tree_laws.proofs.WellKept.{put_keeps, may_put_leaf}
 use Rattle.ir_tree_laws.proofs.HeadForm.{used_here, in_gather}
-use Rattle.ir_tree_laws.proofs.Values.{shape, seen_by, seen_from, not_own, joined_more}
+use Rattle.ir_tree_laws.proofs.Values.{shaped_as, seen_by, seen_from, not_own, joined_more}
 
 pub gather_none : {X Y : Type 0} (f : X → List Y) (xs : List X) → ((x : X) → In x xs → f x ≡ []) → gather f xs ≡ []
 gather_none f [] h = refl
@@ -259,14 +259,14 @@ module _ {N T A : Type 0} where
     up = left_member x t (stand a.parent q) (around_there t o a q h).1 (around_stays x t d o a q h id)
 
     at : region_at a.region (regions (each_list (dropping x) a.parent)) ≡ Some (block a.args (drop_op x (ops_each_list (dropping x) (joined_ops a.preceding (next o a.rest)))))
-    at = each_block x a.region a.parent a.args (joined_ops a.preceding (next o a.rest)) (shape t o a q h)
+    at = each_block x a.region a.parent a.args (joined_ops a.preceding (next o a.rest)) (shaped_as t o a q h)
 
     -- the operation after x is another one
     trailing : (p : OpOf N T A) (os : OpsOf N T A) → a.rest ≡ next p os → eqb (head p).id x ≡ false
     trailing p os e = elim (bool_cases (eqb (head p).id x)) [
       | inr k ↦ k
       | inl k ↦ (let c = step a.parent a.region a.args (a.preceding ++ o ∷ []) os in
-          let list : region_at a.region (regions a.parent) ≡ Some (block a.args (joined_ops (a.preceding ++ o ∷ []) (next p os))) = shape t o a q h ∙ ap (λ (z : OpsOf N T A). Some (block a.args (joined_ops a.preceding (next o z)))) e ∙ ap (λ z. Some (block a.args z)) (sym (joined_more a.preceding o (next p os))) in
+          let list : region_at a.region (regions a.parent) ≡ Some (block a.args (joined_ops (a.preceding ++ o ∷ []) (next p os))) = shaped_as t o a q h ∙ ap (λ (z : OpsOf N T A). Some (block a.args (joined_ops a.preceding (next o z)))) e ∙ ap (λ z. Some (block a.args z)) (sym (joined_more a.preceding o (next p os))) in
           let m : In (stand p (c ∷ q)) (stands [] t) = within a.parent q (stand p (c ∷ q)) (child a.parent q a.region a.args (joined_ops (a.preceding ++ o ∷ []) (next p os)) (stand p (c ∷ q)) list (ops_child a.parent q a.region a.args [] (a.preceding ++ o ∷ []) p os)) [] t (around_there t o a q h).1 in
           let same = same_stand t d (stand p (c ∷ q)) (stand o (a ∷ q)) m h (eqb-true (head p).id x k ∙ sym id) in
           let paths : c ∷ q ≡ a ∷ q = ap (λ (z : OpWithPathOf N T A). z.path) same in

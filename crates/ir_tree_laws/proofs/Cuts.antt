@@ -20,7 +20,7 @@ use Rattle.ir_tree_laws.proofs.Without.{same_head}
 use Rattle.ir_tree_laws.proofs.Stretches.{Parted, part, parted_ids, left_ids}
 use Rattle.ir_tree_laws.proofs.Put.{Landed, region_each}
 use Rattle.ir_tree_laws.proofs.PutForm.{landed, put_distinct, put_back, put_cases, parent_absent}
-use Rattle.ir_tree_laws.proofs.Values.{shape}
+use Rattle.ir_tree_laws.proofs.Values.{shaped_as}
 use Rattle.ir_tree_laws.proofs.Changed.{kept_preceding}
 use Rattle.std.proofs.lemmas.Bool.{cases_Bool}
 
@@ -107,7 +107,7 @@ module _ {N T A : Type 0} where
       let rest = ops_ids a.rest in
       let z = later_ids a.region (regions a.parent) in
       preorder t a.parent q (around_there t o a q h).1
-      ∙ ap (λ l. before q ++ (l ++ trailing q)) (around_ids o a (shape t o a q h))
+      ∙ ap (λ l. before q ++ (l ++ trailing q)) (around_ids o a (shaped_as t o a q h))
       ∙ ap (λ l. before q ++ l) (append_assoc (next_to a) (ids o ++ (rest ++ z)) (trailing q) ∙ ap (λ l. next_to a ++ l) (append_assoc (ids o) (rest ++ z) (trailing q) ∙ ap (λ l. ids o ++ l) (append_assoc rest z (trailing q))))
       ∙ sym (append_assoc (before q) (next_to a) (ids o ++ (rest ++ (z ++ trailing q))))
 
@@ -206,7 +206,7 @@ module _ {N T A : Type 0} (place : Place) (o t : OpOf N T A) (may : MayPut place
       let list : region_at a.region (regions parent) ≡ Some (block a.args (joined_ops kept no_ops)) =
       ap (region_at a.region) (each_regions f a.parent)
       ∙ region_each f (head a.parent).id 0 a.region rs
-      ∙ ap (option_map (region_each_list f (head a.parent).id (0 + a.region))) (shape after o a here.path here.there)
+      ∙ ap (option_map (region_each_list f (head a.parent).id (0 + a.region))) (shaped_as after o a here.path here.there)
       ∙ ap (λ os. Some (block a.args os)) (kept_preceding x a.preceding (next o a.rest) ∙ ap (λ os. joined_ops kept os) (ap (λ os. drop_op x (ops_each_list f (next o os))) e ∙ last_dropped x o refl)) in
       let more : place.region + 1 ≡ suc a.region = let r = here.region in omega (arith, r) in
       (λ i. here.parent i ∷ (first_ids a.region rs ++ all_ids a.preceding))

@@ -20,7 +20,7 @@ use Rattle.ir_tree_laws.proofs.Members.{stand, within, joined_ops, ops_child, fo
 use Rattle.ir_tree_laws.proofs.Around.{around_there, member_of_place, place_of_member}
 use Rattle.ir_tree_laws.proofs.DominatedBy.{visible_by_cases}
 use Rattle.ir_tree_laws.proofs.Put.{child}
-use Rattle.ir_tree_laws.proofs.Values.{preceding_stands, got, shape, split_preceding}
+use Rattle.ir_tree_laws.proofs.Values.{preceding_stands, got, shaped_as, split_preceding}
 use Rattle.ir_tree_laws.proofs.Changed.{joined_among}
 use Rattle.ir_tree_laws.proofs.Reverted.{among_split}
 use Rattle.std.proofs.lemmas.Option.{slice_get_within}
@@ -109,7 +109,7 @@ module _ {N T A : Type 0} where
     parent_found = stand_found t d (stand a.parent q) up
 
     ops_there : ops_at (head a.parent).id a.region t ≡ Some (joined_ops a.preceding (next o a.rest))
-    ops_there = ap (option_and_then (λ o. option_and_then ops_in (region_at a.region (regions o)))) parent_found ∙ ap (option_and_then ops_in) (shape t o a q h)
+    ops_there = ap (option_and_then (λ o. option_and_then ops_in (region_at a.region (regions o)))) parent_found ∙ ap (option_and_then ops_in) (shaped_as t o a q h)
 
     pub parent_there : parent_of (head o).id t ≡ Some (head a.parent).id
     parent_there = ap (option_map (λ p. p.parent)) placed
@@ -127,7 +127,7 @@ module _ {N T A : Type 0} where
     others_before : (f : OpOf N T A) → In f a.preceding → eqb (head f).id (head o).id ≡ false
     others_before f k = elim (bool_cases (eqb (head f).id x)) [
       | inr e ↦ e
-      | inl e ↦ (let u = preceding_stands t a.parent q a.region a.args a.preceding (next o a.rest) f up (shape t o a q h) k in
+      | inl e ↦ (let u = preceding_stands t a.parent q a.region a.args a.preceding (next o a.rest) f up (shaped_as t o a q h) k in
           let same = same_stand t d (stand f (u.0 ∷ q)) (stand o (a ∷ q)) u.1 h (eqb-true (head f).id x e) in
           let paths : u.0 ∷ q ≡ a ∷ q = ap (λ (z : OpWithPathOf N T A). z.path) same in
           let one : u.0 ≡ a = cc in
@@ -160,7 +160,7 @@ module _ {N T A : Type 0} where
             let s = split_preceding f a.preceding (next o a.rest) k in
             let b = step a.parent a.region a.args s.0 s.1 in (
               b,
-              within a.parent q (stand f (b ∷ q)) (child a.parent q a.region a.args (joined_ops a.preceding (next o a.rest)) (stand f (b ∷ q)) (shape t o a q h)
+              within a.parent q (stand f (b ∷ q)) (child a.parent q a.region a.args (joined_ops a.preceding (next o a.rest)) (stand f (b ∷ q)) (shaped_as t o a q h)
                   (subst (λ l. In (stand f (b ∷ q)) (ops_stands a.parent q a.region a.args [] l)) (sym s.2) (ops_child a.parent q a.region a.args [] s.0 f s.1))) [] t up,
               refl,
               refl,
@@ -223,7 +223,7 @@ module _ {N T A : Type 0} where
 
         found : (f : OpOf N T A) → In f a.preceding → eqb (head f).id y ≡ true → find y t ≡ Some f
         found f m e =
-            let u = preceding_stands t a.parent q a.region a.args a.preceding (next o a.rest) f up (shape t o a q h) m in
+            let u = preceding_stands t a.parent q a.region a.args a.preceding (next o a.rest) f up (shaped_as t o a q h) m in
             ap (λ z. find z t) (sym (eqb-true (head f).id y e)) ∙ stand_found t d (stand f (u.0 ∷ q)) u.1
 
         one : list_any (λ f. eqb (head f).id y) a.preceding ≡ true → list_any (λ f. shows (Result y k) (results_of f)) a.preceding ≡ has_value (Result y k) t
@@ -263,7 +263,7 @@ module _ {N T A : Type 0} where
             ap (λ z. is_some (option_and_then (λ o. option_and_then (λ l. slice_get l k) (arguments_at r o)) (find z t))) (eqb-true y (head a.parent).id e)
             ∙ ap (λ z. is_some (option_and_then (λ o. option_and_then (λ l. slice_get l k) (arguments_at r o)) z)) parent_found
             ∙ ap (λ z. is_some (option_and_then (λ l. slice_get l k) (arguments_at z a.parent))) (eqb-true r a.region g)
-            ∙ ap (λ z. is_some (option_and_then (λ l. slice_get l k) (option_and_then arguments_of z))) (shape t o a q h)
+            ∙ ap (λ z. is_some (option_and_then (λ l. slice_get l k) (option_and_then arguments_of z))) (shaped_as t o a q h)
             ∙ some_got a.args k in
             (λ i. e i && (g i && nat_lt k (length a.args))) ∙ sym is ∙ sym ((λ i. has_value (Arg y r k) t && (e i && g i)) ∙ alone (has_value (Arg y r k) t))
 

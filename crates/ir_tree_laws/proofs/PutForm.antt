@@ -109,29 +109,29 @@ module _ {N T A : Type 0} (place : Place) (o t : OpOf N T A) (may : MayPut place
 
   module _ (isolated : N → Bool) where
     pub put_each : WellformedEach isolated t → Fitting isolated → WellformedEach isolated after
-    put_each f fit = record {
+    put_each f fits_in = record {
       dominated_by_own = λ s h. elim (put_cases s h) [
         | inl k ↦ each_all (dominated_by isolated s.path) (head s.here).operands (λ v m. left_dominated_by x isolated s.path v
             (all_each (dominated_by isolated (map (left_step x) s.path)) (head s.here).operands (sym (ap (λ (h : HeadOf N T A). list_all (dominated_by isolated (map (left_step x) s.path)) h.operands) (same_head x (dropping x) s.here)) ∙ f.dominated_by_own (left_stand x s) k.0) v m))
         | inr k ↦ sym (all_same _ _ (head s.here).operands (λ v m. visible_there isolated after put_distinct s h v))
             ∙ all_each (λ (u : OpWithPathOf N T A). list_all (visible isolated after (head u.here).id) (head u.here).operands) (stands (landed.step_in ∷ landed.path) o)
-            (stands_every (λ q. list_all (visible isolated after (head q).id) (head q).operands) (landed.step_in ∷ landed.path) o ∙ fit.dominated_by_own) s k
+            (stands_every (λ q. list_all (visible isolated after (head q).id) (head q).operands) (landed.step_in ∷ landed.path) o ∙ fits_in.dominated_by_own) s k
       ];
       shallow = λ s h. elim (put_cases s h) [
         | inl k ↦ (let a = f.shallow (left_stand x s) k.0 in let b = length-map s.path (left_step x) in omega (arith, a, b))
         | inr k ↦ (let a = within_depth isolated (landed.step_in ∷ landed.path) o s k in
-            let b = leb-true (length landed.path + 1 + depth o) most_around (sym (ap (fits_around (depth o)) put_around) ∙ fit.levels) in
+            let b = leb-true (length landed.path + 1 + depth o) most_around (sym (ap (fits_around (depth o)) put_around) ∙ fits_in.levels) in
             omega (arith, a, b))
       ];
-      count = (let a = put_count in let b = fit.count in omega (arith, a, b));
+      count = (let a = put_count in let b = fits_in.count in omega (arith, a, b));
       fits = λ s h. elim (put_cases s h) [
         | inl k ↦ sym (list_fits (dropping x) s.here) ∙ f.fits (left_stand x s) k.0
-        | inr k ↦ all_each (λ (u : OpWithPathOf N T A). op_fits u.here) (stands (landed.step_in ∷ landed.path) o) (stands_every op_fits (landed.step_in ∷ landed.path) o ∙ fit.fits) s k
+        | inr k ↦ all_each (λ (u : OpWithPathOf N T A). op_fits u.here) (stands (landed.step_in ∷ landed.path) o) (stands_every op_fits (landed.step_in ∷ landed.path) o ∙ fits_in.fits) s k
       ];
     }
 
     pub put_wellformed : IsValidTree isolated t → Fitting isolated → IsValidTree isolated (put place o t)
-    put_wellformed f fit = to_wellformed isolated after (put_each (from_wellformed isolated t f) fit)
+    put_wellformed f fits_in = to_wellformed isolated after (put_each (from_wellformed isolated t f) fits_in)
 
   -- ids below a number
   pub put_below : (n : ℕ) → ((s : OpWithPathOf N T A) → In s (stands [] t) → op_with_path_id s < n) → ((y : ℕ) → has_id y o ≡ true → y < n) → (s : OpWithPathOf N T A) → In s (stands [] after) → op_with_path_id s < n

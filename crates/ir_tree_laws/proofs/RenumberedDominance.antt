@@ -26,17 +26,17 @@ abbrev Same : (ℕ → ℕ) → List Frame → List Frame → Type 0
 Same f new old = (v : Value) → in_scope new (value_with_id f v) ≡ in_scope old v
 
 module _ (f : ℕ → ℕ) where
-  told_first : (x : ℕ) (xs : List ℕ) → MapsApart f (x ∷ xs) → Tells f x
-  told_first x xs t y = t y x (or_left (eqb x x) (list_any (λ z. eqb z x) xs) (eq-eqb x x refl))
+  reported_first : (x : ℕ) (xs : List ℕ) → MapsApart f (x ∷ xs) → Tells f x
+  reported_first x xs t y = t y x (or_left (eqb x x) (list_any (λ z. eqb z x) xs) (eq-eqb x x refl))
 
-  told_rest : (x : ℕ) (xs : List ℕ) → MapsApart f (x ∷ xs) → MapsApart f xs
-  told_rest x xs t y z h = t y z (or_right (eqb x z) (list_any (λ w. eqb w z) xs) h)
+  reported_rest : (x : ℕ) (xs : List ℕ) → MapsApart f (x ∷ xs) → MapsApart f xs
+  reported_rest x xs t y z h = t y z (or_right (eqb x z) (list_any (λ w. eqb w z) xs) h)
 
-  told_left : (xs ys : List ℕ) → MapsApart f (xs ++ ys) → MapsApart f xs
-  told_left xs ys t x y h = t x y (list_any-append (λ z. eqb z y) xs ys ∙ or_left (list_any (λ z. eqb z y) xs) (list_any (λ z. eqb z y) ys) h)
+  reported_left : (xs ys : List ℕ) → MapsApart f (xs ++ ys) → MapsApart f xs
+  reported_left xs ys t x y h = t x y (list_any-append (λ z. eqb z y) xs ys ∙ or_left (list_any (λ z. eqb z y) xs) (list_any (λ z. eqb z y) ys) h)
 
-  told_right : (xs ys : List ℕ) → MapsApart f (xs ++ ys) → MapsApart f ys
-  told_right xs ys t x y h = t x y (list_any-append (λ z. eqb z y) xs ys ∙ or_right (list_any (λ z. eqb z y) xs) (list_any (λ z. eqb z y) ys) h)
+  reported_right : (xs ys : List ℕ) → MapsApart f (xs ++ ys) → MapsApart f ys
+  reported_right xs ys t x y h = t x y (list_any-append (λ z. eqb z y) xs ys ∙ or_right (list_any (λ z. eqb z y) xs) (list_any (λ z. eqb z y) ys) h)
 
   -- a frame whose ids are mapped injectively has the same values
   shows_results : (x n : ℕ) → Tells f x → (v : Value) → shows (value_with_id f v) (results (f x) n) ≡ shows v (results x n)
@@ -56,11 +56,11 @@ module _ (f : ℕ → ℕ) where
   all_in_scope new old (v ∷ vs) s = λ i. s v i && all_in_scope new old vs s i
 
 module _ {N T A : Type 0} (f : ℕ → ℕ) where
-  op_told : (o : OpOf N T A) → MapsApart f (ids o) → Tells f (head o).id
-  op_told (op h rs) t = told_first f h.id (regions_ids rs) t
+  op_reported : (o : OpOf N T A) → MapsApart f (ids o) → Tells f (head o).id
+  op_reported (op h rs) t = reported_first f h.id (regions_ids rs) t
 
   shows_op : (o : OpOf N T A) → MapsApart f (ids o) → (v : Value) → shows (value_with_id f v) (results_of (with_ids f o)) ≡ shows v (results_of o)
-  shows_op (op h rs) t v = shows_results f h.id (length h.results) (op_told (op h rs) t) v
+  shows_op (op h rs) t v = shows_results f h.id (length h.results) (op_reported (op h rs) t) v
 
   module _ (isolated : N → Bool) where
     -- one value, at the path of one operation
@@ -68,15 +68,15 @@ module _ {N T A : Type 0} (f : ℕ → ℕ) where
       mutual
         seen_with : (b : Bool) (t : OpOf N T A) → MapsApart f (ids t) → visible_at isolated (f x) (value_with_id f v) b (with_ids f t) ≡ visible_at isolated x v b t
         seen_with b (op h rs) k =
-            let here : eqb (f h.id) (f x) ≡ eqb h.id x = flips_eq (f h.id) (f x) ∙ op_told (op h rs) k x ∙ flips_eq x h.id in
-            let inner = regions_visible_with (not (isolated h.name) && b) h.id 0 rs (op_told (op h rs) k) (told_rest f h.id (regions_ids rs) k) in
+            let here : eqb (f h.id) (f x) ≡ eqb h.id x = flips_eq (f h.id) (f x) ∙ op_reported (op h rs) k x ∙ flips_eq x h.id in
+            let inner = regions_visible_with (not (isolated h.name) && b) h.id 0 rs (op_reported (op h rs) k) (reported_rest f h.id (regions_ids rs) k) in
             λ i. here i && b || inner i
 
         regions_visible_with : (b : Bool) (o r : ℕ) (rs : RegionsOf N T A) → Tells f o → MapsApart f (regions_ids rs)
             → regions_visible isolated (f x) (value_with_id f v) b (f o) r (regions_with_ids f rs) ≡ regions_visible isolated x v b o r rs
         regions_visible_with b o r no_regions t k = refl
         regions_visible_with b o r (region g rs) t k = λ i.
-            region_visible_with b o r g t (told_left f (region_ids g) (regions_ids rs) k) i || regions_visible_with b o (r + 1) rs t (told_right f (region_ids g) (regions_ids rs) k) i
+            region_visible_with b o r g t (reported_left f (region_ids g) (regions_ids rs) k) i || regions_visible_with b o (r + 1) rs t (reported_right f (region_ids g) (regions_ids rs) k) i
 
         region_visible_with : (b : Bool) (o r : ℕ) (g : RegionOf N T A) → Tells f o → MapsApart f (region_ids g)
             → region_visible isolated (f x) (value_with_id f v) b (f o) r (region_with_ids f g) ≡ region_visible isolated x v b o r g
@@ -88,9 +88,9 @@ module _ {N T A : Type 0} (f : ℕ → ℕ) where
         ops_visible_with : (b : Bool) (os : OpsOf N T A) → MapsApart f (ops_ids os) → ops_visible isolated (f x) (value_with_id f v) b (ops_with_ids f os) ≡ ops_visible isolated x v b os
         ops_visible_with b no_ops k = refl
         ops_visible_with b (next o os) k =
-            let preceding = told_left f (ids o) (ops_ids os) k in
+            let preceding = reported_left f (ids o) (ops_ids os) k in
             (λ i. seen_with b o preceding i || ops_visible isolated (f x) (value_with_id f v) (b || shows_op o preceding v i) (ops_with_ids f os))
-            ∙ ap (λ c. visible_at isolated x v b o || c) (ops_visible_with (b || shows v (results_of o)) os (told_right f (ids o) (ops_ids os) k))
+            ∙ ap (λ c. visible_at isolated x v b o || c) (ops_visible_with (b || shows v (results_of o)) os (reported_right f (ids o) (ops_ids os) k))
 
     pub visible_with : (t : OpOf N T A) → MapsApart f (ids t) → (x : ℕ) (v : Value) → visible isolated (with_ids f t) (f x) (value_with_id f v) ≡ visible isolated t x v
     visible_with t k x v = sym (seen_visible isolated (with_ids f t) (f x) (value_with_id f v)) ∙ seen_with x v false t k ∙ seen_visible isolated t x v
@@ -101,14 +101,14 @@ module _ {N T A : Type 0} (f : ℕ → ℕ) where
     mutual
       operands_with : (new old : List Frame) (t : OpOf N T A) → Same f new old → MapsApart f (ids t) → operands_dominate isolated new (with_ids f t) ≡ operands_dominate isolated old t
       operands_with new old (op h rs) s k =
-          let inner = regions_operands_with (inside isolated (head_with_ids f h) new) (inside isolated h old) h.id 0 rs (same_inside h new old s) (op_told (op h rs) k) (told_rest f h.id (regions_ids rs) k) in
+          let inner = regions_operands_with (inside isolated (head_with_ids f h) new) (inside isolated h old) h.id 0 rs (same_inside h new old s) (op_reported (op h rs) k) (reported_rest f h.id (regions_ids rs) k) in
           λ i. all_in_scope f new old h.operands s i && inner i
 
       regions_operands_with : (new old : List Frame) (o r : ℕ) (rs : RegionsOf N T A) → Same f new old → Tells f o → MapsApart f (regions_ids rs)
           → regions_operands_visible isolated new (f o) r (regions_with_ids f rs) ≡ regions_operands_visible isolated old o r rs
       regions_operands_with new old o r no_regions s t k = refl
       regions_operands_with new old o r (region g rs) s t k = λ i.
-          region_operands_with new old o r g s t (told_left f (region_ids g) (regions_ids rs) k) i && regions_operands_with new old o (r + 1) rs s t (told_right f (region_ids g) (regions_ids rs) k) i
+          region_operands_with new old o r g s t (reported_left f (region_ids g) (regions_ids rs) k) i && regions_operands_with new old o (r + 1) rs s t (reported_right f (region_ids g) (regions_ids rs) k) i
 
       region_operands_with : (new old : List Frame) (o r : ℕ) (g : RegionOf N T A) → Same f new old → Tells f o → MapsApart f (region_ids g)
           → region_operands_visible isolated new (f o) r (region_with_ids f g) ≡ region_operands_visible isolated old o r g
@@ -121,10 +121,10 @@ module _ {N T A : Type 0} (f : ℕ → ℕ) where
       ops_operands_with : (new old : List Frame) (os : OpsOf N T A) → Same f new old → MapsApart f (ops_ids os) → ops_operands_visible isolated new (ops_with_ids f os) ≡ ops_operands_visible isolated old os
       ops_operands_with new old no_ops s k = refl
       ops_operands_with new old (next o os) s k =
-          let preceding = told_left f (ids o) (ops_ids os) k in
+          let preceding = reported_left f (ids o) (ops_ids os) k in
           let a = results_of (with_ids f o) in
           let b = results_of o in
-          let inner = ops_operands_with (new ++ a ∷ []) (old ++ b ∷ []) os (same_last f new old a b s (shows_op o preceding)) (told_right f (ids o) (ops_ids os) k) in
+          let inner = ops_operands_with (new ++ a ∷ []) (old ++ b ∷ []) os (same_last f new old a b s (shows_op o preceding)) (reported_right f (ids o) (ops_ids os) k) in
           λ i. operands_with new old o s preceding i && inner i
 
     pub operands_visible_with : (t : OpOf N T A) → MapsApart f (ids t) → operands_visible isolated (with_ids f t) ≡ operands_visible isolated t

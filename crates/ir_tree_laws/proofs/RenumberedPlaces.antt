@@ -83,9 +83,9 @@ unfolding IsDistinct
 distinct_with f [] t d = tt
 distinct_with f (x ∷ xs) t d = (others xs d.0, distinct_with f xs (λ y z h. t y z (or_right (eqb x z) (list_any (λ w. eqb w z) xs) h)) d.1)
   where
-    told : (y : ℕ) → eqb (f x) (f y) ≡ eqb x y
-    told y = flips_eq (f x) (f y) ∙ t y x (or_left (eqb x x) (list_any (λ w. eqb w x) xs) (eq-eqb x x refl)) ∙ flips_eq y x
+    reported : (y : ℕ) → eqb (f x) (f y) ≡ eqb x y
+    reported y = flips_eq (f x) (f y) ∙ t y x (or_left (eqb x x) (list_any (λ w. eqb w x) xs) (eq-eqb x x refl)) ∙ flips_eq y x
 
     others : (ys : List ℕ) → AllByRecursion (λ y. eqb x y ≡ false) ys → AllByRecursion (λ y. eqb (f x) y ≡ false) (map f ys)
     others [] h = tt
-    others (y ∷ ys) h = (told y ∙ h.0, others ys h.1)
+    others (y ∷ ys) h = (reported y ∙ h.0, others ys h.1)

@@ -58,8 +58,8 @@ module _ {N T A : Type 0} where
       | inr l ↦ ops_shape p b r args (preceding ++ o ∷ []) os s l (e ∙ ap (λ z. Some (block args z)) (sym (joined_more preceding o os)))
     ]
 
-  pub shape : (t o : OpOf N T A) (a : StepOf N T A) (q : List (StepOf N T A)) → In (stand o (a ∷ q)) (stands [] t) → region_at a.region (regions a.parent) ≡ Some (block a.args (joined_ops a.preceding (next o a.rest)))
-  shape t o a q h = elim (op_shape [] t (stand o (a ∷ q)) h) [
+  pub shaped_as : (t o : OpOf N T A) (a : StepOf N T A) (q : List (StepOf N T A)) → In (stand o (a ∷ q)) (stands [] t) → region_at a.region (regions a.parent) ≡ Some (block a.args (joined_ops a.preceding (next o a.rest)))
+  shaped_as t o a q h = elim (op_shape [] t (stand o (a ∷ q)) h) [
     | inl k ↦ (let bad : a ∷ q ≡ [] = ap (λ (z : OpWithPathOf N T A). z.path) k in absurd cc)
     | inr w ↦ (let same : a ∷ q ≡ w.0 ∷ w.1 = w.2 in
         let first : w.0 ≡ a = cc in
@@ -138,7 +138,7 @@ module _ {N T A : Type 0} where
       around_it : (o : OpOf N T A) (q : List (StepOf N T A)) → In (stand o q) (stands [] t) → (b : StepOf N T A) (p : List (StepOf N T A)) → q ≡ b ∷ p → In (stand b.parent p) (stands [] t) × ((os : OpsOf N T A) × (region_at b.region (regions b.parent) ≡ Some (block b.args (joined_ops b.preceding os))))
       around_it o q h b p same =
           let m : In (stand o (b ∷ p)) (stands [] t) = subst (λ l. In (stand o l) (stands [] t)) same h in
-          ((around_there t o b p m).1, (next o b.rest, shape t o b p m))
+          ((around_there t o b p m).1, (next o b.rest, shaped_as t o b p m))
 
       extra : (u : OpWithPathOf N T A) (a : StepOf N T A) (q : List (StepOf N T A)) → Nearer u q → Nearer u (a ∷ q)
       extra u a q (inl h) = inl (omega (arith, h))
@@ -151,7 +151,7 @@ module _ {N T A : Type 0} where
   pub seen_by : (isolated : N → Bool) (t : OpOf N T A) → HasDistinctIds t → (s : OpWithPathOf N T A) → In s (stands [] t) → (v : Value) → dominated_by isolated s.path v ≡ true → SeenOf isolated t s.path v
   seen_by isolated t d s h v e = seen_from isolated t d s.path v e (λ a q same.
       let m : In (stand s.here (a ∷ q)) (stands [] t) = subst (λ l. In (stand s.here l) (stands [] t)) same h in
-      ((around_there t s.here a q m).1, (next s.here a.rest, shape t s.here a q m)))
+      ((around_there t s.here a q m).1, (next s.here a.rest, shaped_as t s.here a q m)))
 
   -- none of them is its own result
   pub not_own : (isolated : N → Bool) (t : OpOf N T A) → HasDistinctIds t → (s : OpWithPathOf N T A) → In s (stands [] t) → (v : Value) → dominated_by isolated s.path v ≡ true → (owner_of v).0 ≡ op_with_path_id s → ⊥

@@ -128,33 +128,33 @@ module _ {A B : Type 0} (make : List B → A → B) (d : B) (Below : ℕ → A �
 
     -- an earlier item isn't the next one
     not_next : (xs : List A) (x : A) → IsClosed (xs ++ x ∷ []) → AreApart (xs ++ x ∷ []) → AreTold d (built make xs) → (i : ℕ) → i < length xs → get_or (built make xs) i d ≡ make (built make xs) x → ⊥
-    not_next xs x closed apart told i h e =
+    not_next xs x closed apart reported i h e =
         let done = built make xs in
         let len : length done ≡ length xs = length-built make xs in
         let node = get_or xs i x in
         let at : slice_get xs i ≡ Some node = slice_get-get_or xs i x h in
         let below : Below (length done) x = subst (λ n. Below n x) (sym len) (closed (length xs) x (last_place xs x)) in
         let is : get_or done i d ≡ make done node = built_is xs (closed_preceding xs x closed) i node at in
-        let same : node ≡ x = one done told node x (more i (length done) node (omega arith) (closed_preceding xs x closed i node at)) below (sym is ∙ e) in
+        let same : node ≡ x = one done reported node x (more i (length done) node (omega arith) (closed_preceding xs x closed i node at)) below (sym is ∙ e) in
         let place : i ≡ length xs = apart i (length xs) x (place_stays xs (x ∷ []) i x (at ∙ ap Some same)) (last_place xs x) in
         absurd (omega arith)
 
-    pub built_told : (xs : List A) → IsClosed xs → AreApart xs → AreTold d (built make xs)
-    built_told = by_end (λ xs. IsClosed xs → AreApart xs → AreTold d (built make xs))
+    pub built_reported : (xs : List A) → IsClosed xs → AreApart xs → AreTold d (built make xs)
+    built_reported = by_end (λ xs. IsClosed xs → AreApart xs → AreTold d (built make xs))
         (λ closed apart i j h k e. absurd (omega arith))
         (λ xs x ih closed apart.
         let done = built make xs in
         let t = make done x in
-        let told = ih (closed_preceding xs x closed) (apart_preceding xs x apart) in
+        let reported = ih (closed_preceding xs x closed) (apart_preceding xs x apart) in
         let len : length done ≡ length xs = length-built make xs in
-        let not = not_next xs x closed apart told in
+        let not = not_next xs x closed apart reported in
         let long : length (done ++ t ∷ []) ≡ length done + 1 = length-append done (t ∷ []) in
         let last : get_or (done ++ t ∷ []) (length done) d ≡ t = get_or-append_seam done t [] d in
         let early = get_or-append done (t ∷ []) d in
         subst (AreTold d) (sym (built-push make xs x)) (λ i j h k e.
         ⊎_elim
         (λ (p : i < length done). ⊎_elim
-        (λ (q : j < length done). told i j p q (sym (early i p) ∙ e ∙ early j q))
+        (λ (q : j < length done). reported i j p q (sym (early i p) ∙ e ∙ early j q))
         (λ (q : length done ≤ j). let r : j ≡ length done = omega arith in absurd (not i (omega arith) (sym (early i p) ∙ e ∙ ap (λ n. get_or (done ++ t ∷ []) n d) r ∙ last)))
         (cases_lt j (length done)))
         (λ (p : length done ≤ i). ⊎_elim

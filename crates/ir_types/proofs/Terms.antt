@@ -15,7 +15,7 @@ use Rattle.ir_types.specs.Things.{ContextModel, IsName, IsType, IsAttr, TypesBel
 use Rattle.ir_types.specs.Terms.{TypeTerm, Index, Function, Memref, next_type, AttrTerm, IntegerOf, String, TypeOf, Flag, Array, Dictionary, Symbol, DenseArray, OpaqueOf, next_attr, next_entry, name_term, type_at, types_at, some_type_at, type_from, type_terms, type_term, type_node_term, attr_at, attrs_at, entries_at, attr_from, attr_terms, attr_term, attr_node_term}
 use Rattle.ir_types.specs.Interning.{with_name, with_type}
 use Rattle.ir_types.specs.Sound.{Holds, IsSound}
-use Rattle.ir_types.proofs.Building.{Agree, AreTold, built-push, built_agree, built_same, built_is, built_told, length-built}
+use Rattle.ir_types.proofs.Building.{Agree, AreTold, built-push, built_agree, built_same, built_is, built_reported, length-built}
 use Rattle.ir_types.proofs.Growth.{preceding_agree, grows_name, grows_type, name_attrs, type_attrs}
 
 -- a node has the same meaning in lists that agree on its components
@@ -157,124 +157,124 @@ pub attr_term_is : (c : ContextModel) (n : ℕ) (node : AttrNode) → Holds c �
 attr_term_is c n node holds at = built_is (attr_from c.names (type_terms c)) Flag (PartsBelow (length c.names) (length c.types)) (attr_closely c) c.attrs holds.attrs_refer n node at
 
 -- the items of a list without duplicates are distinct
-told_apart : {A : Type 0} (d : A) (xs : List A) → AreApart xs → AreTold d xs
-told_apart d xs apart i j h k e = apart i j (get_or xs i d) (slice_get-get_or xs i d h) (slice_get-get_or xs j d k ∙ ap Some (sym e))
+reported_apart : {A : Type 0} (d : A) (xs : List A) → AreApart xs → AreTold d xs
+reported_apart d xs apart i j h k e = apart i j (get_or xs i d) (slice_get-get_or xs i d h) (slice_get-get_or xs j d k ∙ ap Some (sym e))
 
 -- nodes with the same meaning are equal, if ids with the same meaning are
 types_one : (done : List TypeTerm) → AreTold Index done → (xs ys : List ℕ) → AllByRecursion (λ t. t < length done) xs → AllByRecursion (λ t. t < length done) ys → types_at done xs ≡ types_at done ys → xs ≡ ys
-types_one done told [] [] h k e = refl
-types_one done told [] (y ∷ ys) h k e = cc
-types_one done told (x ∷ xs) [] h k e = cc
-types_one done told (x ∷ xs) (y ∷ ys) h k e =
+types_one done reported [] [] h k e = refl
+types_one done reported [] (y ∷ ys) h k e = cc
+types_one done reported (x ∷ xs) [] h k e = cc
+types_one done reported (x ∷ xs) (y ∷ ys) h k e =
     let head : type_at done x ≡ type_at done y = cc in
     let tail : types_at done xs ≡ types_at done ys = cc in
-    λ i. told x y h.0 k.0 head i ∷ types_one done told xs ys h.1 k.1 tail i
+    λ i. reported x y h.0 k.0 head i ∷ types_one done reported xs ys h.1 k.1 tail i
 
 type_from_one : (done : List TypeTerm) → AreTold Index done → (a b : TypeNode) → TypesBelow (length done) a → TypesBelow (length done) b → type_from done a ≡ type_from done b → a ≡ b
-type_from_one done told (type.Int s v) (type.Int t w) h k e =
+type_from_one done reported (type.Int s v) (type.Int t w) h k e =
     let p : s ≡ t = cc in
     let q : v ≡ w = cc in
     λ i. type.Int (p i) (q i)
-type_from_one done told type.Index type.Index h k e = refl
-type_from_one done told (type.Func is os) (type.Func js ps) h k e =
+type_from_one done reported type.Index type.Index h k e = refl
+type_from_one done reported (type.Func is os) (type.Func js ps) h k e =
     let p : types_at done is ≡ types_at done js = cc in
     let q : types_at done os ≡ types_at done ps = cc in
-    λ i. type.Func (types_one done told is js (recursion_from_All (λ t. t < length done) is h.0) (recursion_from_All (λ t. t < length done) js k.0) p i)
-    (types_one done told os ps (recursion_from_All (λ t. t < length done) os h.1) (recursion_from_All (λ t. t < length done) ps k.1) q i)
-type_from_one done told (type.Memref ds x) (type.Memref es y) h k e =
+    λ i. type.Func (types_one done reported is js (recursion_from_All (λ t. t < length done) is h.0) (recursion_from_All (λ t. t < length done) js k.0) p i)
+    (types_one done reported os ps (recursion_from_All (λ t. t < length done) os h.1) (recursion_from_All (λ t. t < length done) ps k.1) q i)
+type_from_one done reported (type.Memref ds x) (type.Memref es y) h k e =
     let p : ds ≡ es = cc in
     let q : type_at done x ≡ type_at done y = cc in
-    λ i. type.Memref (p i) (told x y h k q i)
-type_from_one done told (type.Opaque s) (type.Opaque t) h k e = let p : s ≡ t = cc in ap type.Opaque p
-type_from_one done told _ _ h k e = cc
+    λ i. type.Memref (p i) (reported x y h k q i)
+type_from_one done reported (type.Opaque s) (type.Opaque t) h k e = let p : s ≡ t = cc in ap type.Opaque p
+type_from_one done reported _ _ h k e = cc
 
 some_one : (done : List TypeTerm) → AreTold Index done → (t u : Option ℕ) → IsBelow (length done) t → IsBelow (length done) u → some_type_at done t ≡ some_type_at done u → t ≡ u
-some_one done told None None h k e = refl
-some_one done told (Some t) (Some u) h k e = let p : type_at done t ≡ type_at done u = cc in ap Some (told t u h k p)
-some_one done told _ _ h k e = cc
+some_one done reported None None h k e = refl
+some_one done reported (Some t) (Some u) h k e = let p : type_at done t ≡ type_at done u = cc in ap Some (reported t u h k p)
+some_one done reported _ _ h k e = cc
 
 attrs_one : (done : List AttrTerm) → AreTold Flag done → (xs ys : List ℕ) → AllByRecursion (λ a. a < length done) xs → AllByRecursion (λ a. a < length done) ys → attrs_at done xs ≡ attrs_at done ys → xs ≡ ys
-attrs_one done told [] [] h k e = refl
-attrs_one done told [] (y ∷ ys) h k e = cc
-attrs_one done told (x ∷ xs) [] h k e = cc
-attrs_one done told (x ∷ xs) (y ∷ ys) h k e =
+attrs_one done reported [] [] h k e = refl
+attrs_one done reported [] (y ∷ ys) h k e = cc
+attrs_one done reported (x ∷ xs) [] h k e = cc
+attrs_one done reported (x ∷ xs) (y ∷ ys) h k e =
     let head : attr_at done x ≡ attr_at done y = cc in
     let tail : attrs_at done xs ≡ attrs_at done ys = cc in
-    λ i. told x y h.0 k.0 head i ∷ attrs_one done told xs ys h.1 k.1 tail i
+    λ i. reported x y h.0 k.0 head i ∷ attrs_one done reported xs ys h.1 k.1 tail i
 
 parts_one : (names : List (List ℕ)) → AreTold [] names → (xs ys : List ℕ) → AllByRecursion (λ n. n < length names) xs → AllByRecursion (λ n. n < length names) ys → map (λ n. get_or names n []) xs ≡ map (λ n. get_or names n []) ys → xs ≡ ys
-parts_one names told [] [] h k e = refl
-parts_one names told [] (y ∷ ys) h k e = cc
-parts_one names told (x ∷ xs) [] h k e = cc
-parts_one names told (x ∷ xs) (y ∷ ys) h k e =
+parts_one names reported [] [] h k e = refl
+parts_one names reported [] (y ∷ ys) h k e = cc
+parts_one names reported (x ∷ xs) [] h k e = cc
+parts_one names reported (x ∷ xs) (y ∷ ys) h k e =
     let head : get_or names x [] ≡ get_or names y [] = cc in
     let tail : map (λ n. get_or names n []) xs ≡ map (λ n. get_or names n []) ys = cc in
-    λ i. told x y h.0 k.0 head i ∷ parts_one names told xs ys h.1 k.1 tail i
+    λ i. reported x y h.0 k.0 head i ∷ parts_one names reported xs ys h.1 k.1 tail i
 
 entries_one : (names : List (List ℕ)) (done : List AttrTerm) → AreTold [] names → AreTold Flag done → (es fs : List (ℕ × ℕ)) → AllByRecursion (λ (e : ℕ × ℕ). e.0 < length names) es → AllByRecursion (λ (e : ℕ × ℕ). e.0 < length names) fs → AllByRecursion (λ (e : ℕ × ℕ). e.1 < length done) es → AllByRecursion (λ (e : ℕ × ℕ). e.1 < length done) fs → entries_at names done es ≡ entries_at names done fs → es ≡ fs
-entries_one names done apart told [] [] h k l m e = refl
-entries_one names done apart told [] (y ∷ ys) h k l m e = cc
-entries_one names done apart told (x ∷ xs) [] h k l m e = cc
-entries_one names done apart told (x ∷ xs) (y ∷ ys) h k l m e =
+entries_one names done apart reported [] [] h k l m e = refl
+entries_one names done apart reported [] (y ∷ ys) h k l m e = cc
+entries_one names done apart reported (x ∷ xs) [] h k l m e = cc
+entries_one names done apart reported (x ∷ xs) (y ∷ ys) h k l m e =
     let key : get_or names x.0 [] ≡ get_or names y.0 [] = cc in
     let value : attr_at done x.1 ≡ attr_at done y.1 = cc in
     let tail : entries_at names done xs ≡ entries_at names done ys = cc in
-    λ i. (apart x.0 y.0 h.0 k.0 key i, told x.1 y.1 l.0 m.0 value i) ∷ entries_one names done apart told xs ys h.1 k.1 l.1 m.1 tail i
+    λ i. (apart x.0 y.0 h.0 k.0 key i, reported x.1 y.1 l.0 m.0 value i) ∷ entries_one names done apart reported xs ys h.1 k.1 l.1 m.1 tail i
 
 attr_from_one : (names : List (List ℕ)) (types : List TypeTerm) → AreTold [] names → AreTold Index types → (done : List AttrTerm) → AreTold Flag done → (a b : AttrNode) → PartsBelow (length names) (length types) (length done) a → PartsBelow (length names) (length types) (length done) b → attr_from names types done a ≡ attr_from names types done b → a ≡ b
-attr_from_one names types apart of_types done told (attr.Int s v) (attr.Int t w) h k e =
+attr_from_one names types apart of_types done reported (attr.Int s v) (attr.Int t w) h k e =
     let p : type_at types s ≡ type_at types t = cc in
     let q : v ≡ w = cc in
     λ i. attr.Int (of_types s t h k p i) (q i)
-attr_from_one names types apart of_types done told (attr.Str m) (attr.Str n) h k e =
+attr_from_one names types apart of_types done reported (attr.Str m) (attr.Str n) h k e =
     let p : get_or names m [] ≡ get_or names n [] = cc in
     ap attr.Str (apart m n h k p)
-attr_from_one names types apart of_types done told (attr.Ty s) (attr.Ty t) h k e =
+attr_from_one names types apart of_types done reported (attr.Ty s) (attr.Ty t) h k e =
     let p : type_at types s ≡ type_at types t = cc in
     ap attr.Ty (of_types s t h k p)
-attr_from_one names types apart of_types done told attr.Unit attr.Unit h k e = refl
-attr_from_one names types apart of_types done told (attr.Array xs) (attr.Array ys) h k e =
+attr_from_one names types apart of_types done reported attr.Unit attr.Unit h k e = refl
+attr_from_one names types apart of_types done reported (attr.Array xs) (attr.Array ys) h k e =
     let p : attrs_at done xs ≡ attrs_at done ys = cc in
-    ap attr.Array (attrs_one done told xs ys (recursion_from_All (λ a. a < length done) xs h) (recursion_from_All (λ a. a < length done) ys k) p)
-attr_from_one names types apart of_types done told (attr.Dict es) (attr.Dict fs) h k e =
+    ap attr.Array (attrs_one done reported xs ys (recursion_from_All (λ a. a < length done) xs h) (recursion_from_All (λ a. a < length done) ys k) p)
+attr_from_one names types apart of_types done reported (attr.Dict es) (attr.Dict fs) h k e =
     let p : entries_at names done es ≡ entries_at names done fs = cc in
-    ap attr.Dict (entries_one names done apart told es fs
+    ap attr.Dict (entries_one names done apart reported es fs
     (recursion_from_All (λ (e : ℕ × ℕ). e.0 < length names) es h.0) (recursion_from_All (λ (e : ℕ × ℕ). e.0 < length names) fs k.0)
     (recursion_from_All (λ (e : ℕ × ℕ). e.1 < length done) es h.1) (recursion_from_All (λ (e : ℕ × ℕ). e.1 < length done) fs k.1) p)
-attr_from_one names types apart of_types done told (attr.Sym xs) (attr.Sym ys) h k e =
+attr_from_one names types apart of_types done reported (attr.Sym xs) (attr.Sym ys) h k e =
     let p : map (λ n. get_or names n []) xs ≡ map (λ n. get_or names n []) ys = cc in
     ap attr.Sym (parts_one names apart xs ys (recursion_from_All (λ n. n < length names) xs h) (recursion_from_All (λ n. n < length names) ys k) p)
-attr_from_one names types apart of_types done told (attr.Dense s xs) (attr.Dense t ys) h k e =
+attr_from_one names types apart of_types done reported (attr.Dense s xs) (attr.Dense t ys) h k e =
     let p : type_at types s ≡ type_at types t = cc in
     let q : xs ≡ ys = cc in
     λ i. attr.Dense (of_types s t h k p i) (q i)
-attr_from_one names types apart of_types done told (attr.Overflow a b) (attr.Overflow c d) h k e =
+attr_from_one names types apart of_types done reported (attr.Overflow a b) (attr.Overflow c d) h k e =
     let p : a ≡ c = cc in
     let q : b ≡ d = cc in
     λ i. attr.Overflow (p i) (q i)
-attr_from_one names types apart of_types done told (attr.Opaque s t) (attr.Opaque r u) h k e =
+attr_from_one names types apart of_types done reported (attr.Opaque s t) (attr.Opaque r u) h k e =
     let p : s ≡ r = cc in
     let q : some_type_at types t ≡ some_type_at types u = cc in
     λ i. attr.Opaque (p i) (some_one types of_types t u h k q i)
-attr_from_one names types apart of_types done told _ _ h k e = cc
+attr_from_one names types apart of_types done reported _ _ h k e = cc
 
 -- so different ids have different meanings
-pub types_told : (c : ContextModel) → IsSound c → AreTold Index (type_terms c)
-types_told c sound = built_told type_from Index TypesBelow type_from_agree types_below_more type_from_one c.types sound.holds.types_refer sound.types_apart
+pub types_reported : (c : ContextModel) → IsSound c → AreTold Index (type_terms c)
+types_reported c sound = built_reported type_from Index TypesBelow type_from_agree types_below_more type_from_one c.types sound.holds.types_refer sound.types_apart
 
-pub attrs_told : (c : ContextModel) → IsSound c → AreTold Flag (attr_terms c)
-attrs_told c sound =
+pub attrs_reported : (c : ContextModel) → IsSound c → AreTold Flag (attr_terms c)
+attrs_reported c sound =
     let len = length-type_terms c in
-    built_told (attr_from c.names (type_terms c)) Flag (PartsBelow (length c.names) (length c.types)) (attr_closely c)
+    built_reported (attr_from c.names (type_terms c)) Flag (PartsBelow (length c.names) (length c.types)) (attr_closely c)
     (λ m n node h below. parts_below_more (length c.names) (length c.types) m (length c.names) (length c.types) n node (omega arith) (omega arith) h below)
-    (λ done told a b h k e. attr_from_one c.names (type_terms c) (told_apart [] c.names sound.names_apart) (types_told c sound) done told a b (subst (λ m. PartsBelow (length c.names) m (length done) a) (sym len) h) (subst (λ m. PartsBelow (length c.names) m (length done) b) (sym len) k) e)
+    (λ done reported a b h k e. attr_from_one c.names (type_terms c) (reported_apart [] c.names sound.names_apart) (types_reported c sound) done reported a b (subst (λ m. PartsBelow (length c.names) m (length done) a) (sym len) h) (subst (λ m. PartsBelow (length c.names) m (length done) b) (sym len) k) e)
     c.attrs sound.holds.attrs_refer sound.attrs_apart
 
 pub name_term_one : (c : ContextModel) (m n : ℕ) → IsSound c → IsName c m → IsName c n → name_term c m ≡ name_term c n → m ≡ n
-name_term_one c m n sound h k e = told_apart [] c.names sound.names_apart m n h k e
+name_term_one c m n sound h k e = reported_apart [] c.names sound.names_apart m n h k e
 
 pub type_term_one : (c : ContextModel) (m n : ℕ) → IsSound c → IsType c m → IsType c n → type_term c m ≡ type_term c n → m ≡ n
-type_term_one c m n sound h k e = let len = length-type_terms c in types_told c sound m n (omega arith) (omega arith) e
+type_term_one c m n sound h k e = let len = length-type_terms c in types_reported c sound m n (omega arith) (omega arith) e
 
 pub attr_term_one : (c : ContextModel) (m n : ℕ) → IsSound c → IsAttr c m → IsAttr c n → attr_term c m ≡ attr_term c n → m ≡ n
-attr_term_one c m n sound h k e = let len = length-attr_terms c in attrs_told c sound m n (omega arith) (omega arith) e
+attr_term_one c m n sound h k e = let len = length-attr_terms c in attrs_reported c sound m n (omega arith) (omega arith) e

@@ -77,8 +77,8 @@ fn write_chunk(out: &mut Vec<u8>, chunk: &[u8]) -> Result<(), AllocError> {
 
 /// Writes the bytes of a text, and those of each piece after a `\`.
 fn write_text(out: &mut Vec<u8>, text: &str) -> Result<(), AllocError> {
-    let (plain, rest) = text.split_once('\\').unwrap_or((text, ""));
-    out.extend_from_slice(plain.as_bytes())?;
+    let (simple, rest) = text.split_once('\\').unwrap_or((text, ""));
+    out.extend_from_slice(simple.as_bytes())?;
     for chunk in rest.split('\\') {
         write_chunk(out, chunk.as_bytes())?;
     }

@@ -107,8 +107,8 @@ kept_rise p (r ∷ rs) h = one (p r) (filter p rs) (above_kept r p rs h.0) (kept
     one true l a k = (a, k)
     one false l a k = k
 
-told_rise : (s : Surroundings) → IsStrictlySortedBy nat_cmp (reported s)
-told_rise s = kept_rise _ (numbers_from 1 (broken_rules_in (row_of s.node.head.name) s)) (numbers_rise 1 (broken_rules_in (row_of s.node.head.name) s))
+reported_rise : (s : Surroundings) → IsStrictlySortedBy nat_cmp (reported s)
+reported_rise s = kept_rise _ (numbers_from 1 (broken_rules_in (row_of s.node.head.name) s)) (numbers_rise 1 (broken_rules_in (row_of s.node.head.name) s))
 
 -- the rules of each operation ascend
 abbrev EachRises : List (ℕ × List ℕ) → Type 0
@@ -125,7 +125,7 @@ put_rises x rs (e ∷ es) r h = elim (nat_cmp x e.0) as (λ o. EachRises (by_ord
 
 facts_rise : (t : Operation) (ss : List (OpWithPathOf (List ℕ) _ _)) → EachRises (sorted_in reported t ss)
 facts_rise t [] = tt
-facts_rise t (s ∷ ss) = put_rises (op_with_path_id s) (reported (surround t s)) (sorted_in reported t ss) (told_rise (surround t s)) (facts_rise t ss)
+facts_rise t (s ∷ ss) = put_rises (op_with_path_id s) (reported (surround t s)) (sorted_in reported t ss) (reported_rise (surround t s)) (facts_rise t ss)
 
 -- the pairs of each operation ascend
 abbrev Above : ℕ × ℕ → List (ℕ × ℕ) → Type 0
@@ -158,8 +158,8 @@ pairs_rise [] o h = tt
 pairs_rise (e ∷ es) o h = more_rise e.0 e.1 (pairs_of es) h.0 (λ r. all_above e.0 r es (left _ _ o)) (pairs_rise es (right _ _ o) h.1)
 
 -- ---- the law
-pub pairs_told : (t : Operation) → (ps : List (ℕ × ℕ)) × (diagnostics_of t ≡ map pair_row ps) × ArePairs t ps
-pairs_told t =
+pub pairs_reported : (t : Operation) → (ps : List (ℕ × ℕ)) × (diagnostics_of t ≡ map pair_row ps) × ArePairs t ps
+pairs_reported t =
     let es = sorted_facts reported t in
     let sorted = is_in_order reported t (stands [] t) in
     let at = λ (x : ℕ). found reported t x (stands [] t) in (

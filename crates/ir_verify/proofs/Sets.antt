@@ -61,8 +61,8 @@ pub no_bits : (n rest : ℕ) → 25 ≤ n → numbers_from n (bits_of (25 - n) r
 no_bits n rest l = let k : 25 - n ≡ 0 = omega arith in ap (λ m. numbers_from n (bits_of m rest)) k
 
 -- the rule bit of a well-shaped operation
-pub told : (w b r : Bool) → w ≡ true → r ≡ b → r ≡ (w && b)
-told w b r e f = f ∙ ap (λ z. z && b) (sym e)
+pub and_when : (w b r : Bool) → w ≡ true → r ≡ b → r ≡ (w && b)
+and_when w b r e f = f ∙ ap (λ z. z && b) (sym e)
 
 -- the rule bit of an operation that isn't well-shaped
 pub hushed : (w b : Bool) → w ≡ false → false ≡ (w && b)

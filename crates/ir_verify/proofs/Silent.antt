@@ -11,6 +11,6 @@ use Rattle.ir_verify.specs.Sets.{has_any, packed, set_of}
 abbrev reported_by : Surroundings → Option Row → RuleSet
 reported_by s r = record { bits = packed (broken_rules_in r s) }
 
-pub silent : (s : Surroundings) (r : Option Row) → row_of s.node.head.name ≡ r → is_some r ≡ false → has_any (set_of s) ≡ false
-silent s None e f = ap (λ r. has_any (reported_by s r)) e
-silent s (Some r) e f = absurd cc
+pub reports_nothing : (s : Surroundings) (r : Option Row) → row_of s.node.head.name ≡ r → is_some r ≡ false → has_any (set_of s) ≡ false
+reports_nothing s None e f = ap (λ r. has_any (reported_by s r)) e
+reports_nothing s (Some r) e f = absurd cc

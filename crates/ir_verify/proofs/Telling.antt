@@ -54,19 +54,19 @@ unfolding rules_in
 no_rules set e = ap (λ n. numbers_from 1 (bits_of 24 n)) (no_bits set.bits e) ∙ none 24 1
 
 -- the finding about an operation gives its reported rules
-abbrev pub is_told_of : Surroundings → ℕ → Bool
-is_told_of s r = not (is_beyond s && is_on_types (is_named s.node (codes "arith.constant")) r)
+abbrev pub is_reported_of : Surroundings → ℕ → Bool
+is_reported_of s r = not (is_beyond s && is_on_types (is_named s.node (codes "arith.constant")) r)
 
 pub finding_read : (s : Surroundings) → reported_rules (finding_of s) ≡ reported s
 unfolding reported_rules
 finding_read s = elim (bool_cases (has_any (set_of s))) [
-  | inl k ↦ ap (λ b. filter (λ r. not ((b && is_beyond s) && is_on_types (is_named s.node (codes "arith.constant")) r)) (rules_in (set_of s))) k ∙ ap (filter (is_told_of s)) (rules_broken s)
-  | inr k ↦ ap (filter (is_reported (finding_of s))) (no_rules (set_of s) k) ∙ sym (ap (filter (is_told_of s)) (sym (rules_broken s) ∙ no_rules (set_of s) k))
+  | inl k ↦ ap (λ b. filter (λ r. not ((b && is_beyond s) && is_on_types (is_named s.node (codes "arith.constant")) r)) (rules_in (set_of s))) k ∙ ap (filter (is_reported_of s)) (rules_broken s)
+  | inr k ↦ ap (filter (is_reported (finding_of s))) (no_rules (set_of s) k) ∙ sym (ap (filter (is_reported_of s)) (sym (rules_broken s) ∙ no_rules (set_of s) k))
 ]
 
-none_told : (f : Finding) → breaks_any f ≡ false → reported_rules f ≡ []
+none_reported : (f : Finding) → breaks_any f ≡ false → reported_rules f ≡ []
 unfolding reported_rules
-none_told f e = ap (filter (is_reported f)) (no_rules f.broken e)
+none_reported f e = ap (filter (is_reported f)) (no_rules f.broken e)
 
 -- ---- tables of findings
 abbrev read : ℕ × Finding → ℕ × List ℕ
@@ -90,7 +90,7 @@ all_rows (e ∷ es) =
     let rest = filter (λ (e : ℕ × Finding). breaks_any e.1) es in
     elim (bool_cases (breaks_any e.1)) [
       | inl k ↦ ap (λ b. rows_of (map read (cond b (e ∷ rest) rest))) k ∙ ap (λ l. rule_rows e.0 (reported_rules e.1) ++ l) (all_rows es)
-      | inr k ↦ ap (λ b. rows_of (map read (cond b (e ∷ rest) rest))) k ∙ all_rows es ∙ sym (ap (λ l. rule_rows e.0 l ++ rows_of (map read es)) (none_told e.1 k))
+      | inr k ↦ ap (λ b. rows_of (map read (cond b (e ∷ rest) rest))) k ∙ all_rows es ∙ sym (ap (λ l. rule_rows e.0 l ++ rows_of (map read es)) (none_reported e.1 k))
     ]
 
 -- ---- rows

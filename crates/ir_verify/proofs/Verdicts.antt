@@ -15,7 +15,7 @@ use Rattle.ir_verify.specs.Beyond.{reported}
 use Rattle.ir_verify.specs.Diagnostics.{broken_at, reported_at}
 use Rattle.ir_verify.specs.Sets.{breaks_any, finding_of, has_any, packed, reported_rules, set_of}
 use Rattle.ir_verify.specs.Verdicts.{verdict_at, verdict_by, verdict_in}
-use Rattle.ir_verify.proofs.Telling.{finding_read, is_told_of, no_rules, rules_broken}
+use Rattle.ir_verify.proofs.Telling.{finding_read, is_reported_of, no_rules, rules_broken}
 
 -- a set without rules is empty
 none_held : (n : ℕ) (bs : List Bool) → numbers_from n bs ≡ [] → packed bs ≡ 0
@@ -55,9 +55,9 @@ verdict_read x t f v e is = go (surroundings x t) e
     go (Some s) e = let one : f ≡ finding_of s = cc in ap Some (sym (is s one))
 
 -- an operation that breaks no rule has no reported rule
-pub none_told : (x : ℕ) (t : Operation) → broken_at x t ≡ Some [] → reported_at x t ≡ Some []
-none_told x t e = go (surroundings x t) e
+pub none_reported : (x : ℕ) (t : Operation) → broken_at x t ≡ Some [] → reported_at x t ≡ Some []
+none_reported x t e = go (surroundings x t) e
   where
     go : (s : Option Surroundings) → option_map broken s ≡ Some [] → option_map reported s ≡ Some []
     go None e = absurd cc
-    go (Some s) e = let none : broken s ≡ [] = cc in ap (λ rs. Some (filter (is_told_of s) rs)) none
+    go (Some s) e = let none : broken s ≡ [] = cc in ap (λ rs. Some (filter (is_reported_of s) rs)) none

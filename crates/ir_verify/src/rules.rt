@@ -154,32 +154,32 @@ fn broken_if_unshaped(
     ensures { result.bits ≡ packed (counted_rules (row_from def.now) (around_in ctx.now around.now)) }
 {
     let node = &around.node;
-    let silent = false;
+    let reports_nothing = false;
     RuleSet::of(&[
         breaks_1(ctx, def, node),
-        silent,
+        reports_nothing,
         breaks_3(ctx, def, node),
-        silent,
+        reports_nothing,
         breaks_5(ctx, def, node),
-        silent,
-        silent,
-        silent,
-        silent,
+        reports_nothing,
+        reports_nothing,
+        reports_nothing,
+        reports_nothing,
         breaks_10(ctx, registry, around),
         breaks_11(ctx, registry, def, around),
         breaks_12(ctx, def, node),
         breaks_13(ctx, def, node),
-        silent,
-        silent,
-        silent,
-        silent,
-        silent,
-        silent,
-        silent,
-        silent,
-        silent,
+        reports_nothing,
+        reports_nothing,
+        reports_nothing,
+        reports_nothing,
+        reports_nothing,
+        reports_nothing,
+        reports_nothing,
+        reports_nothing,
+        reports_nothing,
         breaks_23(ctx, around),
-        silent,
+        reports_nothing,
     ])
 }
 

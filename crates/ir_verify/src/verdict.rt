@@ -26,10 +26,10 @@ pub enum Verdict {
 }
 
 /// Returns the verdict on an operation that breaks a rule, given its reported rules.
-fn verdict_of_reported(told: &[u8]) -> Verdict
-    ensures { (b : ℕ) (bs : List ℕ) → result ≡ verdict_by (b ∷ bs) told.now }
+fn verdict_of_reported(numbers: &[u8]) -> Verdict
+    ensures { (b : ℕ) (bs : List ℕ) → result ≡ verdict_by (b ∷ bs) numbers.now }
 {
-    match told {
+    match numbers {
         [] => Verdict::Unlisted,
         _ => Verdict::Invalid,
     }
@@ -42,8 +42,8 @@ fn verdict_of(alloc: Global, finding: &Finding) -> Result<Verdict, AllocError>
     if !finding.is_kept() {
         return Ok(Verdict::Valid);
     }
-    let told = finding.numbers(alloc)?;
-    Ok(verdict_of_reported(&told))
+    let numbers = finding.numbers(alloc)?;
+    Ok(verdict_of_reported(&numbers))
 }
 
 /// Returns the verdict on an operation of the module.

@@ -20,7 +20,7 @@ use Rattle.listeners_symbols.specs.Table.{reference_of, role_numbers}
 use Rattle.listeners_symbols.specs.Lines.{numbered, numbers_at}
 use Rattle.listeners_symbols.specs.Listeners.{kept_at}
 use Rattle.listeners_symbols.specs.Telling.{has_some, hides, said_at, concerns_symbols, contributions}
-use Rattle.listeners_symbols.proofs.Telling.{all_told, listed, told_of_set}
+use Rattle.listeners_symbols.proofs.Telling.{all_notified, listed, reported_of_set}
 use Rattle.listeners.specs.Unreached.{line_of, lines_with, private_name, reached_from, says_definition, targets}
 use Rattle.listeners.specs.Lines.{is_out, line_by}
 use Rattle.listeners.specs.Marking.{Considered, IsDone, IsPending, Left, Marks, Waits}
@@ -55,8 +55,8 @@ quiet roles ds r lacks = go r.references.items (none (is_some r.home && is_some 
     go [] e = refl
     go (p ∷ ps) e = absurd (true≢false e)
 
-pub told_or_quiet : (m : Roles) (ds : List (DefinitionOf ℕ)) → (y : ℕ) → IsIn (IsDefinition (numbers_at m)) (IsUnder (numbers_at m)) (Reaches (numbers_at m) ds) m.symbol_ops.keys y
-told_or_quiet m ds y = go (kept_at m y) refl
+pub reported_or_quiet : (m : Roles) (ds : List (DefinitionOf ℕ)) → (y : ℕ) → IsIn (IsDefinition (numbers_at m)) (IsUnder (numbers_at m)) (Reaches (numbers_at m) ds) m.symbol_ops.keys y
+reported_or_quiet m ds y = go (kept_at m y) refl
   where
     go : (o : Option Numbers) → kept_at m y ≡ o → IsIn (IsDefinition (numbers_at m)) (IsUnder (numbers_at m)) (Reaches (numbers_at m) ds) m.symbol_ops.keys y
     go None e = inr (λ x r. subst (λ (k : Option Numbers). In x (reached_from eqb (numbers_at m) ds (option_map role_numbers k))) e r)
@@ -137,12 +137,12 @@ unsaid left x r lacks = go (is_out left x) (private_name (role_numbers r)) lacks
     go false None e = refl
     go false (Some n) e = absurd (true≢false e)
 
-each_line : (left : Left) (es : List (ℕ × Numbers)) → all_told (line_by left) es ≡ lines_with (is_out left) (numbered es)
+each_line : (left : Left) (es : List (ℕ × Numbers)) → all_notified (line_by left) es ≡ lines_with (is_out left) (numbered es)
 each_line left [] = refl
 each_line left (e ∷ es) = ap (λ l. line_by left e.0 e.1 ++ l) (each_line left es)
 
-pub lines_told : (m : Roles) (left : Left) → idmap.IsOrdered m.all → set.IsOrdered nat_cmp m.hidden → contributions (line_by left) (kept_at m) m.hidden.keys ≡ lines_with (is_out left) (numbered m.all.entries)
-lines_told m left ordered rises = told_of_set (line_by left) hides (unsaid left) m.hidden.keys m.all m.hidden refl ordered rises m.hide ∙ each_line left m.all.entries
+pub lines_reported : (m : Roles) (left : Left) → idmap.IsOrdered m.all → set.IsOrdered nat_cmp m.hidden → contributions (line_by left) (kept_at m) m.hidden.keys ≡ lines_with (is_out left) (numbered m.all.entries)
+lines_reported m left ordered rises = reported_of_set (line_by left) hides (unsaid left) m.hidden.keys m.all m.hidden refl ordered rises m.hide ∙ each_line left m.all.entries
 
 -- without private definitions, none is unmarked
 no_definition : (m : Roles) → m.hidden.keys ≡ [] → (x : ℕ) → says_definition (numbers_at m x) ≡ true → ⊥
@@ -156,4 +156,4 @@ none_marked m ds none = record {
 }
 
 pub no_lines : (m : Roles) → idmap.IsOrdered m.all → set.IsOrdered nat_cmp m.hidden → m.hidden.keys ≡ [] → [] ≡ lines_with (is_out (λ x. None)) (numbered m.all.entries)
-no_lines m ordered rises none = sym (ap (contributions (line_by (λ x. None)) (kept_at m)) none) ∙ lines_told m (λ x. None) ordered rises
+no_lines m ordered rises none = sym (ap (contributions (line_by (λ x. None)) (kept_at m)) none) ∙ lines_reported m (λ x. None) ordered rises

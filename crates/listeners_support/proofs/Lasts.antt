@@ -12,7 +12,7 @@ use Rattle.ir_event.specs.tree_laws.Members.{In}
 use Rattle.ir_event.proofs.of_tree_laws.Readings.{step}
 use Rattle.ir_event.proofs.of_tree_laws.Members.{stand, joined_ops}
 use Rattle.ir_event.proofs.of_tree_laws.Around.{around_there, place_of_member}
-use Rattle.ir_event.proofs.of_tree_laws.Values.{shape}
+use Rattle.ir_event.proofs.of_tree_laws.Values.{shaped_as}
 use Rattle.listeners_support.proofs.Points.{stands_in}
 use Rattle.std.proofs.lemmas.Option.{same_Some}
 
@@ -62,4 +62,4 @@ module _ {N T A : Type 0} where
     pub not_last_after : (x : ℕ) (place : Place) (b : ℕ) → place_of x t ≡ Some place → place.before ≡ Some b
         → (o : OpOf N T A) (a : StepOf N T A) (q : List (StepOf N T A)) → In (stand o (a ∷ q)) (stands [] t) → last_id a.rest ≡ Some x → ⊥
     not_last_after x place b at more o a q h e =
-        not_last x place b at more a.parent q a.region a.args (joined_ops a.preceding (next o a.rest)) (around_there t o a q h).1 (shape t o a q h) (joined_last a.preceding o a.rest x e)
+        not_last x place b at more a.parent q a.region a.args (joined_ops a.preceding (next o a.rest)) (around_there t o a q h).1 (shaped_as t o a q h) (joined_last a.preceding o a.rest x e)

@@ -14,7 +14,7 @@ use Rattle.ir_event.proofs.of_tree_laws.Readings.{step}
 use Rattle.ir_event.proofs.of_tree_laws.Members.{stand, itself, within, joined_ops, ops_child, stand_found}
 use Rattle.ir_event.proofs.of_tree_laws.Around.{around_there, place_of_member}
 use Rattle.ir_event.proofs.of_tree_laws.Put.{child}
-use Rattle.ir_event.proofs.of_tree_laws.Values.{shape}
+use Rattle.ir_event.proofs.of_tree_laws.Values.{shaped_as}
 use Rattle.ir_event.proofs.of_tree_laws.Neighbours.{prev_there}
 use Rattle.ir_event.proofs.of_tree_laws.Reverted.{among_split}
 use Rattle.listeners_support.specs.Surroundings.{outer_of}
@@ -43,7 +43,7 @@ module _ {N T A : Type 0} where
         → In (stand o (step a.parent a.region a.args (a.preceding ++ s ∷ []) rest ∷ q)) (stands [] t)
     next_in s a q o rest h e =
         stands_in t a.parent q a.region a.args (a.preceding ++ s ∷ []) o rest (around_there t s a q h).1
-        (shape t s a q h ∙ ap (λ l. Some (block a.args l)) (ap (λ l. joined_ops a.preceding (next s l)) e ∙ joined_more a.preceding s (next o rest)))
+        (shaped_as t s a q h ∙ ap (λ l. Some (block a.args l)) (ap (λ l. joined_ops a.preceding (next s l)) e ∙ joined_more a.preceding s (next o rest)))
 
     -- the operation before it is that one
     pub prev_is : (s : OpOf N T A) (a : StepOf N T A) (q : List (StepOf N T A)) (o : OpOf N T A) (rest : OpsOf N T A) → In (stand s (a ∷ q)) (stands [] t) → a.rest ≡ next o rest → prev_of (head o).id t ≡ Some (head s).id
@@ -53,7 +53,7 @@ module _ {N T A : Type 0} where
     pub last_is : (s : OpOf N T A) (a : StepOf N T A) (q : List (StepOf N T A)) → In (stand s (a ∷ q)) (stands [] t) → a.rest ≡ no_ops → last_at (head a.parent).id a.region t ≡ Some (head s).id
     last_is s a q h e =
         let found = stand_found t d (stand a.parent q) (around_there t s a q h).1 in
-        ap (option_and_then last_id) (ap (option_and_then (λ o. option_and_then ops_in (region_at a.region (regions o)))) found ∙ ap (option_and_then ops_in) (shape t s a q h))
+        ap (option_and_then last_id) (ap (option_and_then (λ o. option_and_then ops_in (region_at a.region (regions o)))) found ∙ ap (option_and_then ops_in) (shaped_as t s a q h))
         ∙ ap (λ l. last_id (joined_ops a.preceding (next s l))) e
         ∙ last_joined a.preceding s
 

@@ -17,10 +17,10 @@ pub unkept : {F : Type 0} (fact : SurroundingsOf (List ℕ) TypeTerm AttrTerm �
     → has_id x s.module_of.tree ≡ true → option_map node_of (known x s) ≡ Some n
     → ((u : SurroundingsOf (List ℕ) TypeTerm AttrTerm) → u.node.head.name ≡ name_term c n.head.name → is_kept (fact u) ≡ false)
     → None ≡ kept_of fact is_kept (meaning c s.module_of.tree) x
-unkept fact is_kept c s d x n there shown silent =
+unkept fact is_kept c s d x n there shown reports_nothing =
     let t = s.module_of.tree in
     let p = present s d x n there shown in
     let m = map_surroundings (name_term c) (type_term c) (attr_term c) (surround t p.here) in
     let is : surroundings x (meaning c t) ≡ Some m = mapped_surroundings (name_term c) (type_term c) (attr_term c) x t ∙ ap (λ o. option_map (map_surroundings (name_term c) (type_term c) (attr_term c)) (option_map (surround t) o)) p.there in
-    let none = silent m (ap (λ (k : Node). name_term c k.head.name) p.node) in
+    let none = reports_nothing m (ap (λ (k : Node). name_term c k.head.name) p.node) in
     sym (ap (λ o. option_and_then (if_kept is_kept) (option_map fact o)) is ∙ ap (λ b. cond b (Some (fact m)) None) none)

@@ -56,9 +56,9 @@ apart y x l = same_test x y ∙ ne_eqb x y (λ e. (let m = less_than y x l in om
 
 module _ {X : Type 0} (f : ℕ → Numbers → List X) where
   -- the contributions of all entries
-  abbrev pub all_told : List (ℕ × Numbers) → List X
-  all_told [] = []
-  all_told (e ∷ es) = f e.0 e.1 ++ all_told es
+  abbrev pub all_notified : List (ℕ × Numbers) → List X
+  all_notified [] = []
+  all_notified (e ∷ es) = f e.0 e.1 ++ all_notified es
 
   -- an entry contributes nothing, or its operation is in the list
   abbrev pub IsContributed : List ℕ → ℕ × Numbers → Type 0
@@ -73,9 +73,9 @@ module _ {X : Type 0} (f : ℕ → Numbers → List X) where
   skipped e es [] a = refl
   skipped e es (x ∷ xs) a = λ i. contribution_at f x (cond (apart e.0 x a.0 i) (Some e.1) (look es x)) ++ skipped e es xs a.1 i
 
-  silent : (es : List (ℕ × Numbers)) → Each (IsContributed []) es → all_told es ≡ []
-  silent [] h = refl
-  silent (e ∷ es) h = elim h.0 [ inl none ↦ ap (λ l. l ++ all_told es) none ∙ silent es h.1 | inr i ↦ absurd i ]
+  reports_nothing : (es : List (ℕ × Numbers)) → Each (IsContributed []) es → all_notified es ≡ []
+  reports_nothing [] h = refl
+  reports_nothing (e ∷ es) h = elim h.0 [ inl none ↦ ap (λ l. l ++ all_notified es) none ∙ reports_nothing es h.1 | inr i ↦ absurd i ]
 
   -- an id below all entries isn't needed
   without : (x : ℕ) (xs : List ℕ) (es : List (ℕ × Numbers)) → Above x (keys_of es) → Each (IsContributed (x ∷ xs)) es → Each (IsContributed xs) es
@@ -89,9 +89,9 @@ module _ {X : Type 0} (f : ℕ → Numbers → List X) where
   )
 
   -- the entries, given the claim for those after the first, by comparing the first entry with the first id
-  by : (e : ℕ × Numbers) (es : List (ℕ × Numbers)) → ((ys : List ℕ) → IsStrictlySortedBy nat_cmp ys → Each (IsContributed ys) es → contributions f (look es) ys ≡ all_told es)
+  by : (e : ℕ × Numbers) (es : List (ℕ × Numbers)) → ((ys : List ℕ) → IsStrictlySortedBy nat_cmp ys → Each (IsContributed ys) es → contributions f (look es) ys ≡ all_notified es)
       → IsStrictlySortedBy nat_cmp (keys_of (e ∷ es)) → (x : ℕ) (xs : List ℕ) → IsStrictlySortedBy nat_cmp (x ∷ xs) → Each (IsContributed (x ∷ xs)) (e ∷ es)
-      → (IsStrictlySortedBy nat_cmp xs → Each (IsContributed xs) (e ∷ es) → contributions f (look (e ∷ es)) xs ≡ all_told (e ∷ es)) → (r : Ordering) → nat_cmp x e.0 ≡ r → contributions f (look (e ∷ es)) (x ∷ xs) ≡ all_told (e ∷ es)
+      → (IsStrictlySortedBy nat_cmp xs → Each (IsContributed xs) (e ∷ es) → contributions f (look (e ∷ es)) xs ≡ all_notified (e ∷ es)) → (r : Ordering) → nat_cmp x e.0 ≡ r → contributions f (look (e ∷ es)) (x ∷ xs) ≡ all_notified (e ∷ es)
   unfolding IsStrictlySortedBy
   by e es rest s x xs t h more Less l =
       let below : Above x (keys_of (e ∷ es)) = (l, extra x e.0 (keys_of es) l s.0) in
@@ -108,19 +108,19 @@ module _ {X : Type 0} (f : ℕ → Numbers → List X) where
       let above : Above e.0 (x ∷ xs) = (first, extra e.0 x xs first t.0) in
       skipped e es (x ∷ xs) above ∙ rest (x ∷ xs) t h.1 ∙ nothing h.0 above
     where
-      nothing : IsContributed (x ∷ xs) e → Above e.0 (x ∷ xs) → all_told es ≡ all_told (e ∷ es)
-      nothing (inl none) above = sym (ap (λ z. z ++ all_told es) none)
+      nothing : IsContributed (x ∷ xs) e → Above e.0 (x ∷ xs) → all_notified es ≡ all_notified (e ∷ es)
+      nothing (inl none) above = sym (ap (λ z. z ++ all_notified es) none)
       nothing (inr i) above = absurd (not_above e.0 (x ∷ xs) above i)
 
-  step : (e : ℕ × Numbers) (es : List (ℕ × Numbers)) → ((ys : List ℕ) → IsStrictlySortedBy nat_cmp ys → Each (IsContributed ys) es → contributions f (look es) ys ≡ all_told es)
-      → IsStrictlySortedBy nat_cmp (keys_of (e ∷ es)) → (xs : List ℕ) → IsStrictlySortedBy nat_cmp xs → Each (IsContributed xs) (e ∷ es) → contributions f (look (e ∷ es)) xs ≡ all_told (e ∷ es)
-  step e es rest s [] t h = sym (silent (e ∷ es) h)
+  step : (e : ℕ × Numbers) (es : List (ℕ × Numbers)) → ((ys : List ℕ) → IsStrictlySortedBy nat_cmp ys → Each (IsContributed ys) es → contributions f (look es) ys ≡ all_notified es)
+      → IsStrictlySortedBy nat_cmp (keys_of (e ∷ es)) → (xs : List ℕ) → IsStrictlySortedBy nat_cmp xs → Each (IsContributed xs) (e ∷ es) → contributions f (look (e ∷ es)) xs ≡ all_notified (e ∷ es)
+  step e es rest s [] t h = sym (reports_nothing (e ∷ es) h)
   step e es rest s (x ∷ xs) t h = by e es rest s x xs t h (step e es rest s xs) (nat_cmp x e.0) refl
 
-  pub told_all : (es : List (ℕ × Numbers)) (xs : List ℕ) → IsStrictlySortedBy nat_cmp (keys_of es) → IsStrictlySortedBy nat_cmp xs → Each (IsContributed xs) es → contributions f (look es) xs ≡ all_told es
+  pub reported_all : (es : List (ℕ × Numbers)) (xs : List ℕ) → IsStrictlySortedBy nat_cmp (keys_of es) → IsStrictlySortedBy nat_cmp xs → Each (IsContributed xs) es → contributions f (look es) xs ≡ all_notified es
   unfolding IsStrictlySortedBy
-  told_all [] xs s t h = none_kept xs
-  told_all (e ∷ es) xs s t h = step e es (λ ys u k. told_all es ys s.1 u k) s xs t h
+  reported_all [] xs s t h = none_kept xs
+  reported_all (e ∷ es) xs s t h = step e es (λ ys u k. reported_all es ys s.1 u k) s xs t h
 
 -- ---- a set that has each operation with a contribution
 
@@ -135,10 +135,10 @@ listed x (k ∷ ks) e = go (listed x ks) (bool_cases (is_eq (nat_cmp x k)))
 
 module _ {X : Type 0} (f : ℕ → Numbers → List X) (test : Numbers → Bool) (others : (x : ℕ) (r : Numbers) → test r ≡ false → f x r ≡ [])
     (ks : List ℕ) where
-  each_told : (es : List (ℕ × Numbers)) → IsStrictlySortedBy nat_cmp (keys_of es) → ((x : ℕ) → said_at test (look es x) ≡ true → list_any (is_at (nat_cmp x)) ks ≡ true) → Each (IsContributed f ks) es
+  each_reported : (es : List (ℕ × Numbers)) → IsStrictlySortedBy nat_cmp (keys_of es) → ((x : ℕ) → said_at test (look es x) ≡ true → list_any (is_at (nat_cmp x)) ks ≡ true) → Each (IsContributed f ks) es
   unfolding IsStrictlySortedBy
-  each_told [] s h = tt
-  each_told (e ∷ es) s h = (first (bool_cases (test e.1)), each_told es s.1 later)
+  each_reported [] s h = tt
+  each_reported (e ∷ es) s h = (first (bool_cases (test e.1)), each_reported es s.1 later)
     where
       itself : look (e ∷ es) e.0 ≡ Some e.1
       itself = ap (λ z. cond z (Some e.1) (look es e.0)) (same_test e.0 e.0 ∙ eq-eqb e.0 e.0 refl)
@@ -156,10 +156,10 @@ module _ {X : Type 0} (f : ℕ → Numbers → List X) (test : Numbers → Bool)
               let at = eqb-true x e.0 (sym (same_test x e.0) ∙ so) in
               absurd (true≢false (sym is ∙ ap (said_at test) (ap (look es) at ∙ look_above e.0 es s.0)))
 
-  pub told_of_set : (m : IdMap Numbers) (s : BTreeSet ℕ) → s.keys ≡ ks → idmap.IsOrdered m → set.IsOrdered nat_cmp s → HasThose test m s → contributions f (idmap.get m) ks ≡ all_told f m.entries
-  told_of_set m s same ordered rises has =
-      told_all f m.entries ks ordered (subst (IsStrictlySortedBy nat_cmp) same rises)
-      (each_told m.entries ordered (λ x is. subst (λ l. list_any (is_at (nat_cmp x)) l ≡ true) same (has x is)))
+  pub reported_of_set : (m : IdMap Numbers) (s : BTreeSet ℕ) → s.keys ≡ ks → idmap.IsOrdered m → set.IsOrdered nat_cmp s → HasThose test m s → contributions f (idmap.get m) ks ≡ all_notified f m.entries
+  reported_of_set m s same ordered rises has =
+      reported_all f m.entries ks ordered (subst (IsStrictlySortedBy nat_cmp) same rises)
+      (each_reported m.entries ordered (λ x is. subst (λ l. list_any (is_at (nat_cmp x)) l ≡ true) same (has x is)))
 
 -- ---- definitions, references and calls
 pub says_none : (r : Numbers) → concerns_symbols r ≡ false → ((is_some r.home && is_some r.symbol) ≡ false) × ((has_some r.references.items ≡ false) × (is_some r.call ≡ false))
@@ -203,41 +203,41 @@ module _ (roles : RoleAt ℕ ℕ ℕ) (ds : List (DefinitionOf ℕ)) where
       go None e = refl
       go (Some k) e = absurd (true≢false e)
 
-  each_referring : (possible : ℕ → Bool) (resolved : Bool) (es : List (ℕ × Numbers)) → all_told (references_by roles ds possible resolved) es ≡ all_reference_lines eqb roles ds possible resolved (numbered es)
+  each_referring : (possible : ℕ → Bool) (resolved : Bool) (es : List (ℕ × Numbers)) → all_notified (references_by roles ds possible resolved) es ≡ all_reference_lines eqb roles ds possible resolved (numbered es)
   each_referring possible resolved [] = refl
   each_referring possible resolved (e ∷ es) = ap (λ l. references_by roles ds possible resolved e.0 e.1 ++ l) (each_referring possible resolved es)
 
-  each_calling : (es : List (ℕ × Numbers)) → all_told (call_by roles ds) es ≡ mismatch_lines eqb eqb roles ds (numbered es)
+  each_calling : (es : List (ℕ × Numbers)) → all_notified (call_by roles ds) es ≡ mismatch_lines eqb eqb roles ds (numbered es)
   each_calling [] = refl
   each_calling (e ∷ es) = ap (λ l. call_by roles ds e.0 e.1 ++ l) (each_calling es)
 
-each_undefined : (es : List (ℕ × Numbers)) → all_told undefined_by es ≡ undefined_names (numbered es)
+each_undefined : (es : List (ℕ × Numbers)) → all_notified undefined_by es ≡ undefined_names (numbered es)
 each_undefined [] = refl
 each_undefined (e ∷ es) = ap (λ l. undefined_by e.0 e.1 ++ l) (each_undefined es)
 
-each_defined : (es : List (ℕ × Numbers)) → all_told defined_by es ≡ definitions (numbered es)
+each_defined : (es : List (ℕ × Numbers)) → all_notified defined_by es ≡ definitions (numbered es)
 each_defined [] = refl
 each_defined (e ∷ es) = ap (λ l. defined_by e.0 e.1 ++ l) (each_defined es)
 
 module _ (m : Roles) (ordered : idmap.IsOrdered m.all) (rises : set.IsOrdered nat_cmp m.symbol_ops) where
-  pub definitions_told : contributions defined_by (kept_at m) m.symbol_ops.keys ≡ definitions (numbered m.all.entries)
-  definitions_told = told_of_set defined_by concerns_symbols none_defined m.symbol_ops.keys m.all m.symbol_ops refl ordered rises m.tell ∙ each_defined m.all.entries
+  pub definitions_reported : contributions defined_by (kept_at m) m.symbol_ops.keys ≡ definitions (numbered m.all.entries)
+  definitions_reported = reported_of_set defined_by concerns_symbols none_defined m.symbol_ops.keys m.all m.symbol_ops refl ordered rises m.tell ∙ each_defined m.all.entries
 
-  pub references_told : (roles : RoleAt ℕ ℕ ℕ) (ds : List (DefinitionOf ℕ)) (possible : ℕ → Bool) (resolved : Bool)
+  pub references_reported : (roles : RoleAt ℕ ℕ ℕ) (ds : List (DefinitionOf ℕ)) (possible : ℕ → Bool) (resolved : Bool)
       → contributions (references_by roles ds possible resolved) (kept_at m) m.symbol_ops.keys ≡ all_reference_lines eqb roles ds possible resolved (numbered m.all.entries)
-  references_told roles ds possible resolved =
-      told_of_set (references_by roles ds possible resolved) concerns_symbols (unreferring roles ds possible resolved) m.symbol_ops.keys m.all m.symbol_ops refl ordered rises m.tell ∙ each_referring roles ds possible resolved m.all.entries
+  references_reported roles ds possible resolved =
+      reported_of_set (references_by roles ds possible resolved) concerns_symbols (unreferring roles ds possible resolved) m.symbol_ops.keys m.all m.symbol_ops refl ordered rises m.tell ∙ each_referring roles ds possible resolved m.all.entries
 
-  pub calls_told : (roles : RoleAt ℕ ℕ ℕ) (ds : List (DefinitionOf ℕ)) → contributions (call_by roles ds) (kept_at m) m.symbol_ops.keys ≡ mismatch_lines eqb eqb roles ds (numbered m.all.entries)
-  calls_told roles ds = told_of_set (call_by roles ds) concerns_symbols (uncalling roles ds) m.symbol_ops.keys m.all m.symbol_ops refl ordered rises m.tell ∙ each_calling roles ds m.all.entries
+  pub calls_reported : (roles : RoleAt ℕ ℕ ℕ) (ds : List (DefinitionOf ℕ)) → contributions (call_by roles ds) (kept_at m) m.symbol_ops.keys ≡ mismatch_lines eqb eqb roles ds (numbered m.all.entries)
+  calls_reported roles ds = reported_of_set (call_by roles ds) concerns_symbols (uncalling roles ds) m.symbol_ops.keys m.all m.symbol_ops refl ordered rises m.tell ∙ each_calling roles ds m.all.entries
 
-pub names_told : (m : Roles) → idmap.IsOrdered m.all → set.IsOrdered nat_cmp m.naming → contributions undefined_by (kept_at m) m.naming.keys ≡ undefined_names (numbered m.all.entries)
-names_told m ordered rises = told_of_set undefined_by names none_undefined m.naming.keys m.all m.naming refl ordered rises m.name ∙ each_undefined m.all.entries
+pub names_reported : (m : Roles) → idmap.IsOrdered m.all → set.IsOrdered nat_cmp m.naming → contributions undefined_by (kept_at m) m.naming.keys ≡ undefined_names (numbered m.all.entries)
+names_reported m ordered rises = reported_of_set undefined_by names none_undefined m.naming.keys m.all m.naming refl ordered rises m.name ∙ each_undefined m.all.entries
 
 -- the contribution of one more operation
 module _ {X : Type 0} (f : ℕ → Numbers → List X) (kept : ℕ → Option Numbers) where
-  pub one_told : {Y : Type 0} (cells : X → Y) (x : ℕ) (xs all : List ℕ) (before after whole : List Y) → x ∷ xs ≡ all → after ≡ before ++ map cells (contribution_at f x (kept x)) → before ++ map cells (contributions f kept all) ≡ whole → after ++ map cells (contributions f kept xs) ≡ whole
-  one_told cells x xs all before after whole next one so_far =
+  pub one_reported : {Y : Type 0} (cells : X → Y) (x : ℕ) (xs all : List ℕ) (before after whole : List Y) → x ∷ xs ≡ all → after ≡ before ++ map cells (contribution_at f x (kept x)) → before ++ map cells (contributions f kept all) ≡ whole → after ++ map cells (contributions f kept xs) ≡ whole
+  one_reported cells x xs all before after whole next one so_far =
       ap (λ l. l ++ map cells (contributions f kept xs)) one
       ∙ append_assoc before (map cells (contribution_at f x (kept x))) (map cells (contributions f kept xs))
       ∙ ap (λ l. before ++ l) (sym (map-append cells (contribution_at f x (kept x)) (contributions f kept xs)))
@@ -248,8 +248,8 @@ module _ {X : Type 0} (f : ℕ → Numbers → List X) (kept : ℕ → Option Nu
   one_listed x xs all before after whole next one so_far =
       ap (λ l. l ++ contributions f kept xs) one ∙ append_assoc before (contribution_at f x (kept x)) (contributions f kept xs) ∙ ap (λ l. before ++ contributions f kept l) next ∙ so_far
 
-  pub none_told : {Y : Type 0} (cells : X → Y) (left : List ℕ) (before whole : List Y) → left ≡ [] → before ++ map cells (contributions f kept left) ≡ whole → before ≡ whole
-  none_told cells left before whole none so_far = sym (append-nil before) ∙ ap (λ l. before ++ map cells (contributions f kept l)) (sym none) ∙ so_far
+  pub none_reported : {Y : Type 0} (cells : X → Y) (left : List ℕ) (before whole : List Y) → left ≡ [] → before ++ map cells (contributions f kept left) ≡ whole → before ≡ whole
+  none_reported cells left before whole none so_far = sym (append-nil before) ∙ ap (λ l. before ++ map cells (contributions f kept l)) (sym none) ∙ so_far
 
   pub none_listed : (left : List ℕ) (before whole : List X) → left ≡ [] → before ++ contributions f kept left ≡ whole → before ≡ whole
   none_listed left before whole none so_far = sym (append-nil before) ∙ ap (λ l. before ++ contributions f kept l) (sym none) ∙ so_far

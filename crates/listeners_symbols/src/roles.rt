@@ -71,11 +71,11 @@ impl Roles {
         add_if(&mut self.symbol_ops, op, symbol_ops)?;
         add_if(&mut self.hidden, op, hidden)?;
         add_if(&mut self.naming, op, naming)?;
-        let told = role_concerns_symbols(self.all.get(op.number()));
+        let reported = role_concerns_symbols(self.all.get(op.number()));
         let hid = hides_of(self.all.get(op.number()));
         let named = names_of(self.all.get(op.number()));
         self.all.insert(op.number(), role)?;
-        drop_unless(&mut self.symbol_ops, op, symbol_ops || !told);
+        drop_unless(&mut self.symbol_ops, op, symbol_ops || !reported);
         drop_unless(&mut self.hidden, op, hidden || !hid);
         drop_unless(&mut self.naming, op, naming || !named);
         Ok(())
@@ -161,7 +161,7 @@ fn names_of(role: Option<&Role>) -> bool {
 /// Adds an operation to a set if `holds`. No operation is removed, also if memory runs out.
 fn add_if(set: &mut BTreeSet<OpId>, op: OpId, holds: bool) -> Result<(), AllocError>
     ensures added { OnOk result (holds ≡ true → contains nat_cmp set.new op ≡ true) }
-    ensures stay { (x : ℕ) → contains nat_cmp set.old x ≡ true → contains nat_cmp set.new x ≡ true }
+    ensures remains { (x : ℕ) → contains nat_cmp set.old x ≡ true → contains nat_cmp set.new x ≡ true }
 {
     if holds {
         set.insert(op)?;

@@ -14,8 +14,8 @@ use Rattle.mlir_work_c.specs.Numbered.{Inserts, KeepsRest}
 use Rattle.mlir_work_c.specs.declared.answer.Answer.{Answer}
 use Rattle.mlir_work_c.specs.declared.session.Session.{Session}
 
-module _ (point : Point) (told : Result Op Refusal) (s : Session) (a : Answer) where
-  pub refused_so : (refusal : Refusal) → a ≡ refused refusal → (refusal ≡ Memory) ⊎ (told ≡ Err refusal) → Inserts point told s a s
+module _ (point : Point) (reported : Result Op Refusal) (s : Session) (a : Answer) where
+  pub refused_so : (refusal : Refusal) → a ≡ refused refusal → (refusal ≡ Memory) ⊎ (reported ≡ Err refusal) → Inserts point reported s a s
   refused_so refusal is (inl e) = inl (is ∙ ap refused e, refl)
   refused_so refusal is (inr e) =
       inr (
@@ -25,7 +25,7 @@ module _ (point : Point) (told : Result Op Refusal) (s : Session) (a : Answer) w
         record { registry = refl; limit = refl; counted = refl; shows = refl; mode = refl },
       )
 
-  pub inserted_so : (header : Op) (reply : Reply) (t : Session) → told ≡ Ok header → InsertsHeader any_analysis point header reply s.bench t.bench
-      → a ≡ replied_of (Replied reply) 0 → KeepsRest s t → Inserts point told s a t
+  pub inserted_so : (header : Op) (reply : Reply) (t : Session) → reported ≡ Ok header → InsertsHeader any_analysis point header reply s.bench t.bench
+      → a ≡ replied_of (Replied reply) 0 → KeepsRest s t → Inserts point reported s a t
   inserted_so header reply t e does is keeps =
       inr (reply, subst (λ (r : Result Op Refusal). InsertsNumbered any_analysis point r reply s.bench t.bench) (sym e) does, is, keeps)

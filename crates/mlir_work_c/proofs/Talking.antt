@@ -25,7 +25,7 @@ use Rattle.mlir_work_c.specs.declared.session.Session.{Session}
 use Rattle.mlir_work_c.specs.Answers.{answer_of}
 use Rattle.mlir_work_c.specs.Opened.{Opened}
 use Rattle.mlir_work_c.specs.Stepped.{Answered, IsLeft, Said, SteppedBefore, is_opaque, most_counted, sitting, state, setting}
-use Rattle.mlir_work_c.specs.Talks.{AreWritten, IsOutputOf, Talks, AnsweredLine, briefly, told_of}
+use Rattle.mlir_work_c.specs.Talks.{AreWritten, IsOutputOf, Talks, AnsweredLine, briefly, reported_of}
 
 -- ---- the lines of a text
 
@@ -59,22 +59,22 @@ module _ (opaque : Bool) (limit : ℕ) where
 
   -- a live run may answer the lines so, and writes the text of these answers
   abbrev IsLived : ℕ → ℕ → Session → List (List ℕ) → List AnsweredLine → Type 0
-  IsLived read n s lines told = (status : ℕ) × (out : List ℕ) × Lives live_setting read n (sitting s) lines status out × AreWritten n told status out
+  IsLived read n s lines reported = (status : ℕ) × (out : List ℕ) × Lives live_setting read n (sitting s) lines status out × AreWritten n reported status out
 
   -- the lines after this one, with any numbers and states
   abbrev Following : ℕ → List (List ℕ) → ℕ → Sitting → ℕ → List ℕ → Type 0
   Following read lines m u st o = Lives live_setting read m u lines st o
 
   module _ (read n : ℕ) (s : Session) (line : List ℕ) (lines : List (List ℕ)) (a : Answer) (t : Session) (rest : List AnsweredLine) (within : s.bytes + length line ≤ read) (same : s.limit ≡ limit) (mode : is_opaque s ≡ opaque) where
-    abbrev all_told : List AnsweredLine
-    all_told = told_of line a t ∷ rest
+    abbrev all_notified : List AnsweredLine
+    all_notified = reported_of line a t ∷ rest
 
     abbrev expected : Option Refusal
     expected = line_expects (line_of line)
 
     -- this line and the lines after it
     abbrev IsLivedOn : Spoken → Type 0
-    IsLivedOn spoken = (status : ℕ) × (out : List ℕ) × Line (Following read lines) (session_setting_at live_setting read) n (sitting s) expected spoken status out × AreWritten n all_told status out
+    IsLivedOn spoken = (status : ℕ) × (out : List ℕ) × Line (Following read lines) (session_setting_at live_setting read) n (sitting s) expected spoken status out × AreWritten n all_notified status out
 
     least : (setting s line).bytes ≤ read
     least = let below = min-le_left (s.bytes + length line) most_counted in omega (arith, below, within)
@@ -97,7 +97,7 @@ module _ (opaque : Bool) (limit : ℕ) where
     }
 
     written : (notice : Notice) → a ≡ answer_of notice (length t.shows.items) → (later : IsLived read (n + 1) t lines rest)
-        → AreWritten n all_told (worse (is_right expected notice) later.0) ((reply_text n expected notice ++ t.shows.items) ++ later.1)
+        → AreWritten n all_notified (worse (is_right expected notice) later.0) ((reply_text n expected notice ++ t.shows.items) ++ later.1)
     written notice is later = inr (record {
       notice = notice;
       later = later.0;
@@ -121,16 +121,16 @@ module _ (opaque : Bool) (limit : ℕ) where
         (later.0, later.1, subst (λ (u : Sitting). Lives live_setting read n u lines later.0 later.1) h.1.sitting later.2, inl (h.0, later.3))
     lived_line Bad h more =
         let later = more (n + 1) in
-        (_, _, wide Bad _ _ (replied Bad h later), written h.notice h.told later)
+        (_, _, wide Bad _ _ (replied Bad h later), written h.notice h.reported later)
     lived_line (Obey said) h more =
         let later = more (n + 1) in
-        (_, _, wide (Obey said) _ _ (replied (Obey said) h later), written h.notice h.told later)
+        (_, _, wide (Obey said) _ _ (replied (Obey said) h later), written h.notice h.reported later)
     lived_line (Ordered session_command) h more =
         let later = more (n + 1) in
-        (_, _, wide (Ordered session_command) _ _ (replied (Ordered session_command) h later), written h.notice h.told later)
+        (_, _, wide (Ordered session_command) _ _ (replied (Ordered session_command) h later), written h.notice h.reported later)
     lived_line (Registered session_command) h more =
         let later = more (n + 1) in
-        (_, _, wide (Registered session_command) _ _ (replied (Registered session_command) h later), written h.notice h.told later)
+        (_, _, wide (Registered session_command) _ _ (replied (Registered session_command) h later), written h.notice h.reported later)
 
     -- the byte count, limit and mode of the session after the line
     counted_on : (spoken : Spoken) → Said (setting s line) s spoken a t → (t.bytes ≤ read) × (t.limit ≡ limit) × (is_opaque t ≡ opaque)
@@ -140,9 +140,9 @@ module _ (opaque : Bool) (limit : ℕ) where
     counted_on (Ordered session_command) h = (let e = h.counted in omega (arith, e, least), h.limit ∙ same, h.mode ∙ mode)
     counted_on (Registered session_command) h = (let e = h.counted in omega (arith, e, least), h.limit ∙ same, h.mode ∙ mode)
 
-  pub lived : (lines : List (List ℕ)) (read n : ℕ) (s : Session) (told : List AnsweredLine) → s.bytes ≤ read → s.limit ≡ limit → is_opaque s ≡ opaque → AreAlone lines → length (joined lines) ≤ most_script_bytes → Talks s lines told → IsLived read n s lines told
-  lived [] read n s told within same mode alone few none = (0, [], (refl, refl), subst (λ (all : List AnsweredLine). AreWritten n all 0 []) (sym none) (refl, refl))
-  lived (line ∷ lines) read n s told within same mode alone few (a, t, rest, step, talks, is) =
+  pub lived : (lines : List (List ℕ)) (read n : ℕ) (s : Session) (reported : List AnsweredLine) → s.bytes ≤ read → s.limit ≡ limit → is_opaque s ≡ opaque → AreAlone lines → length (joined lines) ≤ most_script_bytes → Talks s lines reported → IsLived read n s lines reported
+  lived [] read n s reported within same mode alone few none = (0, [], (refl, refl), subst (λ (all : List AnsweredLine). AreWritten n all 0 []) (sym none) (refl, refl))
+  lived (line ∷ lines) read n s reported within same mode alone few (a, t, rest, step, talks, is) =
       let all = length-append line (joined lines) in
       let more = read + length line in
       let here : s.bytes + length line ≤ more = omega (arith, within) in
@@ -166,27 +166,27 @@ unmarked s e = ap (λ (marks : List _). record { held = s.held; marks = marks; p
 -- if all listeners are accepted, no error line is written
 silent_boxes : (bs old new : List Shown) (out : List ℕ) → Attaches bs old new true out → out ≡ []
 silent_boxes [] old new out h = h.2
-silent_boxes (b ∷ bs) old new out (mid, None, true, rest, tried, others, accepted, is) = is ∙ silent_boxes bs mid new rest others
-silent_boxes (b ∷ bs) old new out (mid, None, false, rest, tried, others, accepted, is) = absurd (true≢false accepted)
-silent_boxes (b ∷ bs) old new out (mid, Some refusal, there, rest, tried, others, accepted, is) = absurd (true≢false accepted)
+silent_boxes (b ∷ bs) old new out (mid, None, true, rest, attempted, others, accepted, is) = is ∙ silent_boxes bs mid new rest others
+silent_boxes (b ∷ bs) old new out (mid, None, false, rest, attempted, others, accepted, is) = absurd (true≢false accepted)
+silent_boxes (b ∷ bs) old new out (mid, Some refusal, there, rest, attempted, others, accepted, is) = absurd (true≢false accepted)
 
-pub talked_whole : (opaque : Bool) (limit : ℕ) (input : List ℕ) (s : Session) (told : List AnsweredLine) → length input ≤ most_input_bytes → length (script_text input) ≤ most_script_bytes → Opened opaque (module_text input) limit s → Talks s (whole_lines (script_text input)) told → IsOutputOf opaque limit input told
-talked_whole opaque limit input s told short few opened talks =
+pub talked_whole : (opaque : Bool) (limit : ℕ) (input : List ℕ) (s : Session) (reported : List AnsweredLine) → length input ≤ most_input_bytes → length (script_text input) ≤ most_script_bytes → Opened opaque (module_text input) limit s → Talks s (whole_lines (script_text input)) reported → IsOutputOf opaque limit input reported
+talked_whole opaque limit input s reported short few opened talks =
     let text = module_text input in
     let lines = whole_lines (script_text input) in
     let boxes = opened.attached.0 in
     let attached = opened.attached.3 in
     let read = length text + divider_bytes in
     let within : s.bytes ≤ read = (let e = opened.counted in omega (arith, e)) in
-    let h = lived opaque limit lines read 1 s told within opened.limit_is opened.mode (alone_lines (script_text input)) (rw (joined_same (script_text input)) few) talks in
-    let silent = silent_boxes (all_shown any_analysis boxes) [] (state s).panel opened.attached.1 attached in
+    let h = lived opaque limit lines read 1 s reported within opened.limit_is opened.mode (alone_lines (script_text input)) (rw (joined_same (script_text input)) few) talks in
+    let reports_nothing = silent_boxes (all_shown any_analysis boxes) [] (state s).panel opened.attached.1 attached in
     let live : Live (live_setting opaque limit) (all_shown any_analysis boxes) (state s).held read lines h.0 h.1 = record {
       begun = state s;
       accepted = true;
       preceding = [];
       later = h.0;
       rest = h.1;
-      begins = record { panel = (state s).panel; preceding = opened.attached.1; attached = attached; state_is = unmarked (state s) opened.unmarked; out_is = sym (append-nil opened.attached.1 ∙ silent) };
+      begins = record { panel = (state s).panel; preceding = opened.attached.1; attached = attached; state_is = unmarked (state s) opened.unmarked; out_is = sym (append-nil opened.attached.1 ∙ reports_nothing) };
       lives = subst (λ (u : Sitting). Lives (live_setting opaque limit) read 1 u lines h.0 h.1) (opened_sitting s opened.empty) h.2;
       status_is = refl;
       out_is = refl;

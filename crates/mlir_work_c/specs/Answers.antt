@@ -7,7 +7,7 @@ use Rattle.ir_text.specs.declared.error.ReadError.{ReadError}
 use Rattle.ir_text.specs.declared.error.ReadError.TheVariants as error
 use Rattle.rewriter.specs.Commands.{Response, Replied, TextRefusedAt}
 use Rattle.rewriter.specs.Machine.{Applied, Converged, Converted, Done, DoneAs, DoneWith, Limited, Outcome, Refused, RefusedOn, Swept}
-use Rattle.mlir_work_run.specs.session.Notices.{Notice, Plain, Checked}
+use Rattle.mlir_work_run.specs.session.Notices.{Notice, Simple, Checked}
 use Rattle.mlir_work_run.specs.session.CheckSummary.{CheckSummary}
 use Rattle.mlir_work_run.specs.session.CheckSummary.TheVariants as said
 use Rattle.mlir_work_c.specs.declared.answer.Answer.{Answer}
@@ -77,5 +77,5 @@ said_as (said.Sampled w) shown = of_numbers 15 0 w shown
 
 -- the answer for a response that shows so many bytes
 abbrev pub answer_of : Notice → ℕ → Answer
-answer_of (Plain response) shown = replied_of response shown
-answer_of (Checked told) shown = said_as told shown
+answer_of (Simple response) shown = replied_of response shown
+answer_of (Checked reported) shown = said_as reported shown

@@ -46,7 +46,7 @@ pub record Answered (session_options : SessionOptions) (s : Session) (spoken : S
   pub notice : Notice
   pub replies : Replies (session_setting seven_supply session_options) (sitting s) spoken notice t.shows.items (sitting t)
   pub bounded : IsWithin session_options.bytes notice
-  pub told : a ≡ answer_of notice (length t.shows.items)
+  pub reported : a ≡ answer_of notice (length t.shows.items)
   pub counted : t.bytes ≡ session_options.bytes
   pub limit : t.limit ≡ s.limit
   pub mode : is_opaque t ≡ is_opaque s

@@ -89,10 +89,10 @@ pub fn made(op: OpId) -> Answer
 }
 
 /// Returns the answer to an edit.
-pub fn edited(told: Result<(), Refusal>) -> Answer
-    ensures { result ≡ replied_of (Replied (reply_of told)) 0 }
+pub fn edited(reported: Result<(), Refusal>) -> Answer
+    ensures { result ≡ replied_of (Replied (reply_of reported)) 0 }
 {
-    match told {
+    match reported {
         Ok(()) => opened(),
         Err(refusal) => refused(refusal),
     }

@@ -27,7 +27,7 @@ pub extern "C" fn mlir_work_heads(
 ) -> usize
     requires kept { IsHeld held.old.slot.value }
     ensures same { held.new.slot.value ≡ held.old.slot.value }
-    ensures told { WritesHeadsOf operations.now held.old.slot.value into.old into.new result }
+    ensures reported { WritesHeadsOf operations.now held.old.slot.value into.old into.new result }
 {
     let Some(found) = held.take(alloc) else {
         return 0;
@@ -47,7 +47,7 @@ pub extern "C" fn mlir_work_operands(
 ) -> usize
     requires kept { IsHeld held.old.slot.value }
     ensures same { held.new.slot.value ≡ held.old.slot.value }
-    ensures told { WritesOperandsOf operations.now held.old.slot.value into.old into.new result }
+    ensures reported { WritesOperandsOf operations.now held.old.slot.value into.old into.new result }
 {
     let Some(found) = held.take(alloc) else {
         return 0;
@@ -67,7 +67,7 @@ pub extern "C" fn mlir_work_types(
 ) -> usize
     requires kept { IsHeld held.old.slot.value }
     ensures same { held.new.slot.value ≡ held.old.slot.value }
-    ensures told { WritesTypesOf values.now held.old.slot.value into.old into.new result }
+    ensures reported { WritesTypesOf values.now held.old.slot.value into.old into.new result }
 {
     let Some(found) = held.take(alloc) else {
         return 0;
@@ -87,7 +87,7 @@ pub extern "C" fn mlir_work_value_uses(
 ) -> usize
     requires kept { IsHeld held.old.slot.value }
     ensures same { held.new.slot.value ≡ held.old.slot.value }
-    ensures told { WritesValueUsesOf values.now held.old.slot.value into.old into.new result }
+    ensures reported { WritesValueUsesOf values.now held.old.slot.value into.old into.new result }
 {
     let Some(found) = held.take(alloc) else {
         return 0;
@@ -107,7 +107,7 @@ pub extern "C" fn mlir_work_records(
 ) -> usize
     requires kept { IsHeld held.old.slot.value }
     ensures same { held.new.slot.value ≡ held.old.slot.value }
-    ensures told { WritesRecordsOf operations.now held.old.slot.value into.old into.new result }
+    ensures reported { WritesRecordsOf operations.now held.old.slot.value into.old into.new result }
 {
     let Some(found) = held.take(alloc) else {
         return 0;
@@ -144,7 +144,7 @@ pub extern "C" fn mlir_work_report(
 )
     requires kept { IsHeld held.old.slot.value }
     ensures same { held.new.slot.value ≡ held.old.slot.value }
-    ensures told { ReportGoes kind held.old.slot.value into.old into.new answer.new }
+    ensures reported { ReportGoes kind held.old.slot.value into.old into.new answer.new }
 {
     let Some(found) = held.take(alloc) else {
         *answer = closed();

@@ -25,7 +25,7 @@ fn open_word() -> u64
 pub struct Handle {
     slot: HandleSlot,
     word: u64,
-    ghost told: { is_open word ≡ is_some slot.value },
+    ghost reported: { is_open word ≡ is_some slot.value },
 }
 
 impl Handle {

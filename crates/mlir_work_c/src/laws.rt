@@ -11,8 +11,8 @@ ghost use Rattle.mlir_work_c.specs.Talks.{IsOutputOf, Talks, AnsweredLine};
 /// the lines of the input's script are run in it, then the text of the answers and the status are an output of a run
 /// with `--brief` on that input, within the limits of a run.
 pub fn sessions_are_whole_runs()
-    ensures { (opaque : Bool) (limit : ℕ) (input : List ℕ) (s : Session) (told : List AnsweredLine)
+    ensures { (opaque : Bool) (limit : ℕ) (input : List ℕ) (s : Session) (reported : List AnsweredLine)
         → length input ≤ most_input_bytes → length (script_text input) ≤ most_script_bytes
-        → Opened opaque (module_text input) limit s → Talks s (whole_lines (script_text input)) told
-        → IsOutputOf opaque limit input told }
+        → Opened opaque (module_text input) limit s → Talks s (whole_lines (script_text input)) reported
+        → IsOutputOf opaque limit input reported }
 {}

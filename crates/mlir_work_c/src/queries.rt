@@ -2,7 +2,7 @@
 ghost use Rattle.std.specs.Prelude.{◌≡◌, None, Some};
 ghost use Rattle.mlir_work_c.specs.Calls.{IsHeld};
 ghost use Rattle.mlir_work_c.specs.Requested.{requested, first_in, has_in, is_requested, last_in, next_in, operand_in, parent_in, prev_in, root_in, IsOptionalValue, WritesUse, uses_in};
-ghost use Rattle.mlir_work_c_read.specs.Numbers.{number_of as told, value_of as show_value};
+ghost use Rattle.mlir_work_c_read.specs.Numbers.{number_of as reported, value_of as show_value};
 
 use crate::handle::Handle;
 use ir_event::types::ids::OpId;
@@ -17,7 +17,7 @@ use std::alloc::Global;
 pub extern "C" fn mlir_work_has(alloc: Global, held: &mut Handle, operation: u32) -> bool
     requires kept { IsHeld held.old.slot.value }
     ensures same { held.new.slot.value ≡ held.old.slot.value }
-    ensures told { result ≡ is_requested (has_in operation) held.old.slot.value }
+    ensures reported { result ≡ is_requested (has_in operation) held.old.slot.value }
 {
     let Some(found) = held.take(alloc) else {
         return false;
@@ -32,7 +32,7 @@ pub extern "C" fn mlir_work_has(alloc: Global, held: &mut Handle, operation: u32
 pub extern "C" fn mlir_work_root(alloc: Global, held: &mut Handle) -> u64
     requires kept { IsHeld held.old.slot.value }
     ensures same { held.new.slot.value ≡ held.old.slot.value }
-    ensures told { result ≡ told (requested root_in held.old.slot.value) }
+    ensures reported { result ≡ reported (requested root_in held.old.slot.value) }
 {
     let Some(found) = held.take(alloc) else {
         return no_number();
@@ -47,7 +47,7 @@ pub extern "C" fn mlir_work_root(alloc: Global, held: &mut Handle) -> u64
 pub extern "C" fn mlir_work_parent(alloc: Global, held: &mut Handle, operation: u32) -> u64
     requires kept { IsHeld held.old.slot.value }
     ensures same { held.new.slot.value ≡ held.old.slot.value }
-    ensures told { result ≡ told (requested (parent_in operation) held.old.slot.value) }
+    ensures reported { result ≡ reported (requested (parent_in operation) held.old.slot.value) }
 {
     let Some(found) = held.take(alloc) else {
         return no_number();
@@ -62,7 +62,7 @@ pub extern "C" fn mlir_work_parent(alloc: Global, held: &mut Handle, operation: 
 pub extern "C" fn mlir_work_next(alloc: Global, held: &mut Handle, operation: u32) -> u64
     requires kept { IsHeld held.old.slot.value }
     ensures same { held.new.slot.value ≡ held.old.slot.value }
-    ensures told { result ≡ told (requested (next_in operation) held.old.slot.value) }
+    ensures reported { result ≡ reported (requested (next_in operation) held.old.slot.value) }
 {
     let Some(found) = held.take(alloc) else {
         return no_number();
@@ -77,7 +77,7 @@ pub extern "C" fn mlir_work_next(alloc: Global, held: &mut Handle, operation: u3
 pub extern "C" fn mlir_work_previous(alloc: Global, held: &mut Handle, operation: u32) -> u64
     requires kept { IsHeld held.old.slot.value }
     ensures same { held.new.slot.value ≡ held.old.slot.value }
-    ensures told { result ≡ told (requested (prev_in operation) held.old.slot.value) }
+    ensures reported { result ≡ reported (requested (prev_in operation) held.old.slot.value) }
 {
     let Some(found) = held.take(alloc) else {
         return no_number();
@@ -97,7 +97,7 @@ pub extern "C" fn mlir_work_first(
 ) -> u64
     requires kept { IsHeld held.old.slot.value }
     ensures same { held.new.slot.value ≡ held.old.slot.value }
-    ensures told { result ≡ told (requested (first_in operation region) held.old.slot.value) }
+    ensures reported { result ≡ reported (requested (first_in operation region) held.old.slot.value) }
 {
     let Some(found) = held.take(alloc) else {
         return no_number();
@@ -117,7 +117,7 @@ pub extern "C" fn mlir_work_last(
 ) -> u64
     requires kept { IsHeld held.old.slot.value }
     ensures same { held.new.slot.value ≡ held.old.slot.value }
-    ensures told { result ≡ told (requested (last_in operation region) held.old.slot.value) }
+    ensures reported { result ≡ reported (requested (last_in operation region) held.old.slot.value) }
 {
     let Some(found) = held.take(alloc) else {
         return no_number();
@@ -138,7 +138,7 @@ pub extern "C" fn mlir_work_operand(
 ) -> bool
     requires kept { IsHeld held.old.slot.value }
     ensures same { held.new.slot.value ≡ held.old.slot.value }
-    ensures told { IsOptionalValue (requested (operand_in operation operand) held.old.slot.value) value.old value.new result }
+    ensures reported { IsOptionalValue (requested (operand_in operation operand) held.old.slot.value) value.old value.new result }
 {
     let Some(found) = held.take(alloc) else {
         return false;
@@ -162,14 +162,14 @@ pub extern "C" fn mlir_work_first_use(
 ) -> bool
     requires kept { IsHeld held.old.slot.value }
     ensures same { held.new.slot.value ≡ held.old.slot.value }
-    ensures told { WritesUse (uses_in (show_value value.now) held.old.slot.value) user.old user.new result }
+    ensures reported { WritesUse (uses_in (show_value value.now) held.old.slot.value) user.old user.new result }
 {
     let Some(found) = held.take(alloc) else {
         return false;
     };
-    let told = queries::first_use(found.bench.world(), value_of(value));
+    let reported = queries::first_use(found.bench.world(), value_of(value));
     held.open_with(found);
-    let Some((op, operand)) = told else {
+    let Some((op, operand)) = reported else {
         return false;
     };
     *user = UseNumbers {

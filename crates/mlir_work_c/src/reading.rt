@@ -3,7 +3,7 @@
 ghost use Rattle.std.specs.Prelude.{◌≡◌, option_map};
 ghost use Rattle.mlir_work_c.specs.Requested.{requested};
 ghost use Rattle.mlir_work_c.specs.Calls.{IsHeld};
-ghost use Rattle.mlir_work_c_read.specs.Numbers.{number_of as told, value_of as show_value};
+ghost use Rattle.mlir_work_c_read.specs.Numbers.{number_of as reported, value_of as show_value};
 ghost use Rattle.mlir_work_c.specs.Reading.{MayWrite, Writes, WritesItems, WritesOperations, WritesUsesOf, argument_count_in, attribute_in, attribute_of_key_in, attribute_text_in, counts_in, entry_numbers, integer_in, name_in, name_number_in, name_text_in, property_in, property_of_key_in, region_in, type_in, type_text_in};
 
 use crate::handle::Handle;
@@ -28,7 +28,7 @@ use std::alloc::Global;
 pub extern "C" fn mlir_work_operations(alloc: Global, held: &mut Handle, into: &mut [u32]) -> u64
     requires kept { IsHeld held.old.slot.value }
     ensures same { held.new.slot.value ≡ held.old.slot.value }
-    ensures told { WritesOperations held.old.slot.value into.old into.new result }
+    ensures reported { WritesOperations held.old.slot.value into.old into.new result }
 {
     let Some(found) = held.take(alloc) else {
         return no_number();
@@ -46,7 +46,7 @@ pub extern "C" fn mlir_work_operations(alloc: Global, held: &mut Handle, into: &
 pub extern "C" fn mlir_work_region_of(alloc: Global, held: &mut Handle, operation: u32) -> u64
     requires kept { IsHeld held.old.slot.value }
     ensures same { held.new.slot.value ≡ held.old.slot.value }
-    ensures told { result ≡ told (requested (region_in operation) held.old.slot.value) }
+    ensures reported { result ≡ reported (requested (region_in operation) held.old.slot.value) }
 {
     let Some(found) = held.take(alloc) else {
         return no_number();
@@ -61,7 +61,7 @@ pub extern "C" fn mlir_work_region_of(alloc: Global, held: &mut Handle, operatio
 pub extern "C" fn mlir_work_name_of(alloc: Global, held: &mut Handle, operation: u32) -> u64
     requires kept { IsHeld held.old.slot.value }
     ensures same { held.new.slot.value ≡ held.old.slot.value }
-    ensures told { result ≡ told (requested (name_in operation) held.old.slot.value) }
+    ensures reported { result ≡ reported (requested (name_in operation) held.old.slot.value) }
 {
     let Some(found) = held.take(alloc) else {
         return no_number();
@@ -81,17 +81,17 @@ pub extern "C" fn mlir_work_counts(
 ) -> bool
     requires kept { IsHeld held.old.slot.value }
     ensures same { held.new.slot.value ≡ held.old.slot.value }
-    ensures told { Writes (requested (counts_in operation) held.old.slot.value) counts.old counts.new result }
+    ensures reported { Writes (requested (counts_in operation) held.old.slot.value) counts.old counts.new result }
 {
     let Some(found) = held.take(alloc) else {
         return false;
     };
-    let told = counts_of(found.bench.world(), OpId::new(operation));
+    let reported = counts_of(found.bench.world(), OpId::new(operation));
     held.open_with(found);
-    let Some(told) = told else {
+    let Some(reported) = reported else {
         return false;
     };
-    *counts = told;
+    *counts = reported;
     true
 }
 
@@ -105,7 +105,7 @@ pub extern "C" fn mlir_work_argument_count(
 ) -> u64
     requires kept { IsHeld held.old.slot.value }
     ensures same { held.new.slot.value ≡ held.old.slot.value }
-    ensures told { result ≡ told (requested (argument_count_in operation region) held.old.slot.value) }
+    ensures reported { result ≡ reported (requested (argument_count_in operation region) held.old.slot.value) }
 {
     let Some(found) = held.take(alloc) else {
         return no_number();
@@ -124,7 +124,7 @@ pub extern "C" fn mlir_work_value_type(
 ) -> u64
     requires kept { IsHeld held.old.slot.value }
     ensures same { held.new.slot.value ≡ held.old.slot.value }
-    ensures told { result ≡ told (requested (type_in (show_value value.now)) held.old.slot.value) }
+    ensures reported { result ≡ reported (requested (type_in (show_value value.now)) held.old.slot.value) }
 {
     let Some(found) = held.take(alloc) else {
         return no_number();
@@ -145,14 +145,14 @@ pub extern "C" fn mlir_work_property_at(
 ) -> bool
     requires kept { IsHeld held.old.slot.value }
     ensures same { held.new.slot.value ≡ held.old.slot.value }
-    ensures told { Writes (option_map entry_numbers (requested (property_in operation index) held.old.slot.value)) entry.old entry.new result }
+    ensures reported { Writes (option_map entry_numbers (requested (property_in operation index) held.old.slot.value)) entry.old entry.new result }
 {
     let Some(found) = held.take(alloc) else {
         return false;
     };
-    let told = property_at(found.bench.world(), OpId::new(operation), index);
+    let reported = property_at(found.bench.world(), OpId::new(operation), index);
     held.open_with(found);
-    let Some((key, attr)) = told else {
+    let Some((key, attr)) = reported else {
         return false;
     };
     *entry = EntryNumbers {
@@ -173,14 +173,14 @@ pub extern "C" fn mlir_work_attribute_at(
 ) -> bool
     requires kept { IsHeld held.old.slot.value }
     ensures same { held.new.slot.value ≡ held.old.slot.value }
-    ensures told { Writes (option_map entry_numbers (requested (attribute_in operation index) held.old.slot.value)) entry.old entry.new result }
+    ensures reported { Writes (option_map entry_numbers (requested (attribute_in operation index) held.old.slot.value)) entry.old entry.new result }
 {
     let Some(found) = held.take(alloc) else {
         return false;
     };
-    let told = attribute_at(found.bench.world(), OpId::new(operation), index);
+    let reported = attribute_at(found.bench.world(), OpId::new(operation), index);
     held.open_with(found);
-    let Some((key, attr)) = told else {
+    let Some((key, attr)) = reported else {
         return false;
     };
     *entry = EntryNumbers {
@@ -200,7 +200,7 @@ pub extern "C" fn mlir_work_property_by_key(
 ) -> u64
     requires kept { IsHeld held.old.slot.value }
     ensures same { held.new.slot.value ≡ held.old.slot.value }
-    ensures told { result ≡ told (requested (property_of_key_in operation key) held.old.slot.value) }
+    ensures reported { result ≡ reported (requested (property_of_key_in operation key) held.old.slot.value) }
 {
     let Some(found) = held.take(alloc) else {
         return no_number();
@@ -220,7 +220,7 @@ pub extern "C" fn mlir_work_attribute_by_key(
 ) -> u64
     requires kept { IsHeld held.old.slot.value }
     ensures same { held.new.slot.value ≡ held.old.slot.value }
-    ensures told { result ≡ told (requested (attribute_of_key_in operation key) held.old.slot.value) }
+    ensures reported { result ≡ reported (requested (attribute_of_key_in operation key) held.old.slot.value) }
 {
     let Some(found) = held.take(alloc) else {
         return no_number();
@@ -240,17 +240,17 @@ pub extern "C" fn mlir_work_integer(
 ) -> bool
     requires kept { IsHeld held.old.slot.value }
     ensures same { held.new.slot.value ≡ held.old.slot.value }
-    ensures told { Writes (requested (integer_in attribute) held.old.slot.value) integer.old integer.new result }
+    ensures reported { Writes (requested (integer_in attribute) held.old.slot.value) integer.old integer.new result }
 {
     let Some(found) = held.take(alloc) else {
         return false;
     };
-    let told = read_integer(&found.bench.world().ctx, AttrId::new(attribute));
+    let reported = read_integer(&found.bench.world().ctx, AttrId::new(attribute));
     held.open_with(found);
-    let Some(told) = told else {
+    let Some(reported) = reported else {
         return false;
     };
-    *integer = told;
+    *integer = reported;
     true
 }
 
@@ -264,7 +264,7 @@ pub extern "C" fn mlir_work_uses(
 ) -> usize
     requires kept { IsHeld held.old.slot.value }
     ensures same { held.new.slot.value ≡ held.old.slot.value }
-    ensures told { WritesUsesOf (show_value value.now) held.old.slot.value into.old into.new result }
+    ensures reported { WritesUsesOf (show_value value.now) held.old.slot.value into.old into.new result }
 {
     let Some(found) = held.take(alloc) else {
         return 0;
@@ -279,7 +279,7 @@ pub extern "C" fn mlir_work_uses(
 pub extern "C" fn mlir_work_find_name(alloc: Global, held: &mut Handle, text: &[u8]) -> u64
     requires kept { IsHeld held.old.slot.value }
     ensures same { held.new.slot.value ≡ held.old.slot.value }
-    ensures told { result ≡ told (requested (name_number_in text.now) held.old.slot.value) }
+    ensures reported { result ≡ reported (requested (name_number_in text.now) held.old.slot.value) }
 {
     let Some(found) = held.take(alloc) else {
         return no_number();
@@ -299,7 +299,7 @@ pub extern "C" fn mlir_work_name_text(
 ) -> u64
     requires kept { IsHeld held.old.slot.value }
     ensures same { held.new.slot.value ≡ held.old.slot.value }
-    ensures told { WritesItems (requested (name_text_in name) held.old.slot.value) into.old into.new result }
+    ensures reported { WritesItems (requested (name_text_in name) held.old.slot.value) into.old into.new result }
 {
     let Some(found) = held.take(alloc) else {
         return no_number();
@@ -332,7 +332,7 @@ pub extern "C" fn mlir_work_type_text(
 ) -> u64
     requires kept { IsHeld held.old.slot.value }
     ensures same { held.new.slot.value ≡ held.old.slot.value }
-    ensures told { MayWrite (requested (type_text_in ty) held.old.slot.value) into.old into.new result }
+    ensures reported { MayWrite (requested (type_text_in ty) held.old.slot.value) into.old into.new result }
 {
     let Some(found) = held.take(alloc) else {
         return no_number();
@@ -355,7 +355,7 @@ pub extern "C" fn mlir_work_attribute_text(
 ) -> u64
     requires kept { IsHeld held.old.slot.value }
     ensures same { held.new.slot.value ≡ held.old.slot.value }
-    ensures told { MayWrite (requested (attribute_text_in attribute) held.old.slot.value) into.old into.new result }
+    ensures reported { MayWrite (requested (attribute_text_in attribute) held.old.slot.value) into.old into.new result }
 {
     let Some(found) = held.take(alloc) else {
         return no_number();

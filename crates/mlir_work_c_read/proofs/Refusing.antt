@@ -24,7 +24,7 @@ module _ (c : ContextModel) (op : Option ℕ) (ps : Entries) where
   pub record Walked (es rest : Entries) (count : ℕ) : Type 0 where
     pub rest_is : rest ≡ drop count es
     pub size : count + length rest ≡ length es
-    pub told : entries_fault c op ps (take count es) rest ≡ entries_fault c op ps [] es
+    pub reported : entries_fault c op ps (take count es) rest ≡ entries_fault c op ps [] es
 
   module _ (es rest : Entries) (count : ℕ) (x d : ℕ × ℕ) (l : 1 ≤ length rest) (z : x ≡ get_or rest 0 d) (h : Walked es rest count) where
     rest_splits : rest ≡ x ∷ take (length rest - 1) (drop 1 rest)
@@ -39,17 +39,17 @@ module _ (c : ContextModel) (op : Option ℕ) (ps : Entries) where
         record {
           rest_is = sym parts.1 ∙ ap (λ n. drop n es) (sym one);
           size = omega (arith, sum, many);
-          told =
+          reported =
               ap (λ n. entries_fault c op ps (take n es) (take (length rest - 1) (drop 1 rest))) one
               ∙ ap (λ b. entries_fault c op ps b (take (length rest - 1) (drop 1 rest))) parts.0
               ∙ ap (λ f. first_of f (entries_fault c op ps (take count es ++ x ∷ []) (take (length rest - 1) (drop 1 rest)))) none
-              ∙ ap (entries_fault c op ps (take count es)) (sym rest_splits) ∙ h.told;
+              ∙ ap (entries_fault c op ps (take count es)) (sym rest_splits) ∙ h.reported;
         }
 
     pub walk_stops : (refusal : Refusal) → Some refusal ≡ entry_fault c op ps x.0 (take count es) → Some refusal ≡ entries_fault c op ps [] es
     walk_stops refusal found =
         ap (λ f. first_of f (entries_fault c op ps (take count es ++ x ∷ []) (take (length rest - 1) (drop 1 rest)))) found
-        ∙ ap (entries_fault c op ps (take count es)) (sym rest_splits) ∙ h.told
+        ∙ ap (entries_fault c op ps (take count es)) (sym rest_splits) ∙ h.reported
 
   pub walk_ends : (es rest : Entries) (count : ℕ) → length rest < 1 → Walked es rest count → None ≡ entries_fault c op ps [] es
-  walk_ends es rest count l h = ap (entries_fault c op ps (take count es)) (sym (nothing_left rest l)) ∙ h.told
+  walk_ends es rest count l h = ap (entries_fault c op ps (take count es)) (sym (nothing_left rest l)) ∙ h.reported

@@ -86,5 +86,5 @@ header c name operands results entries = with_dictionaries name operands results
 
 -- the result is the one given, or memory ran out
 abbrev pub IsOrMemory : {A B : Type 0} → (A → B) → Result B Refusal → Result A Refusal → Type 0
-IsOrMemory view told (Err refusal) = (refusal ≡ Memory) ⊎ (told ≡ Err refusal)
-IsOrMemory view told (Ok found) = told ≡ Ok (view found)
+IsOrMemory view reported (Err refusal) = (refusal ≡ Memory) ⊎ (reported ≡ Err refusal)
+IsOrMemory view reported (Ok found) = reported ≡ Ok (view found)

@@ -37,7 +37,7 @@ pub fn header_of(
     results: &[u32],
     entries: &[NewEntry],
 ) -> Result<TreeOp, Refusal>
-    ensures told { IsOrMemory (λ t. t) (header ctx.now name operands.now results.now entries.now) result }
+    ensures reported { IsOrMemory (λ t. t) (header ctx.now name operands.now results.now entries.now) result }
     ensures bare { IfOk result (λ t. holds_none (Some t) ≡ true) }
 {
     let name = NameId::new(name);

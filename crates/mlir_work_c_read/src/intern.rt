@@ -41,7 +41,7 @@ pub fn intern_attribute<L: Analysis>(bench: &mut Bench<L>, text: &[u8]) -> Resul
     requires { AgreesOrStale L.meaning bench.old }
     ensures attr { IfOk result (λ a. IsAttr bench.new.transaction.ctx a × SpellsAttr bench.old.transaction.ctx.opaque text.now (attr_term bench.new.transaction.ctx a)) }
     ensures refused { (r : Reason) (o : ℕ) → result ≡ Err (ReadError.Refused r o) → IsNoAttr (SpellsAttr bench.old.transaction.ctx.opaque text.now) }
-    ensures told { IfErr result (λ e. IsTextRefusal text.now e) }
+    ensures reported { IfErr result (λ e. IsTextRefusal text.now e) }
     ensures grown { Grown L.meaning bench.old bench.new }
     ensures kept { AgreesOrStale L.meaning bench.new }
 {
@@ -58,7 +58,7 @@ pub fn intern_attribute<L: Analysis>(bench: &mut Bench<L>, text: &[u8]) -> Resul
 pub fn intern_type<L: Analysis>(bench: &mut Bench<L>, text: &[u8]) -> Result<TypeId, ReadError>
     requires { AgreesOrStale L.meaning bench.old }
     ensures ty { IfOk result (λ t. IsType bench.new.transaction.ctx t × SpellsAttr bench.old.transaction.ctx.opaque text.now (TypeOf (type_term bench.new.transaction.ctx t))) }
-    ensures told { IfErr result (λ e. IsTextRefusal text.now e) }
+    ensures reported { IfErr result (λ e. IsTextRefusal text.now e) }
     ensures grown { Grown L.meaning bench.old bench.new }
     ensures kept { AgreesOrStale L.meaning bench.new }
 {

@@ -1,6 +1,6 @@
 //! Numbers that C reads and writes, as C structs.
 ghost use Rattle.std.specs.Prelude.{◌≡◌};
-ghost use Rattle.mlir_work_c_read.specs.Numbers.{no_number, number_of as told, numbers_of, value_of};
+ghost use Rattle.mlir_work_c_read.specs.Numbers.{no_number, number_of as reported, numbers_of, value_of};
 
 use ir_event::trees::value::Value;
 use ir_event::types::ids::OpId;
@@ -127,7 +127,7 @@ pub fn numbers_of(value: Value) -> ValueNumbers
 
 /// Returns the id of an operation as a number, or 2^64 - 1 for `None`.
 pub fn number_of(op: Option<OpId>) -> u64
-    ensures { result ≡ told op }
+    ensures { result ≡ reported op }
 {
     match op {
         Some(op) => u64::from(op.number()),
@@ -137,7 +137,7 @@ pub fn number_of(op: Option<OpId>) -> u64
 
 /// Returns a count, or 2^64 - 1 for `None`.
 pub fn count_or_none(count: Option<usize>) -> u64
-    ensures { result ≡ told count }
+    ensures { result ≡ reported count }
 {
     match count {
         Some(count) => count as u64,
@@ -147,7 +147,7 @@ pub fn count_or_none(count: Option<usize>) -> u64
 
 /// Returns a number, or 2^64 - 1 for `None`.
 pub fn number_or_none(number: Option<u32>) -> u64
-    ensures { result ≡ told number }
+    ensures { result ≡ reported number }
 {
     match number {
         Some(number) => u64::from(number),

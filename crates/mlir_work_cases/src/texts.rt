@@ -59,8 +59,8 @@ fn write_chunks(out: &mut Vec<u8>, text: &str) -> Result<(), AllocError> {
 /// Puts the bytes of a text.
 fn write_text(out: &mut Vec<u8>, text: &str) -> Result<(), AllocError> {
     match text.split_once('\\') {
-        Some((plain, rest)) => {
-            out.extend_from_slice(plain.as_bytes())?;
+        Some((simple, rest)) => {
+            out.extend_from_slice(simple.as_bytes())?;
             write_chunks(out, rest)
         }
         None => out.extend_from_slice(text.as_bytes()),

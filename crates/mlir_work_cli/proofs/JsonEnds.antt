@@ -27,15 +27,15 @@ kept_is : (Q : ℕ → List ℕ → Type 0) (kept : List ℕ) (status : ℕ) →
 kept_is Q kept status none (inl (final, (out, h, wrote))) = (final, subst (λ (xs : List ℕ). Q status xs) (sym wrote) h)
 kept_is Q kept status none (inr (four, h)) = absurd (none four)
 
-told_so : (setting : Setting) (boxes : List Shown) (input kept : List ℕ) (a b : Stream) (handed : Bool) (status told : ℕ) → IsFinal status × IsOutput setting boxes input status kept → IsReported status kept a b handed told → HasStatus (IsJsonOutput setting boxes input) a.contents b.contents told
-told_so setting boxes input kept a b handed status told ran (inl (e, wrote, on)) =
+reported_so : (setting : Setting) (boxes : List Shown) (input kept : List ℕ) (a b : Stream) (handed : Bool) (status reported : ℕ) → IsFinal status × IsOutput setting boxes input status kept → IsReported status kept a b handed reported → HasStatus (IsJsonOutput setting boxes input) a.contents b.contents reported
+reported_so setting boxes input kept a b handed status reported ran (inl (e, wrote, on)) =
     subst (λ (n : ℕ). HasStatus (IsJsonOutput setting boxes input) a.contents b.contents n) (sym e) (inl (ran.0, (json_text kept, (kept, ran.1, refl), wrote.0)))
-told_so setting boxes input kept a b handed status told ran (inr (four, wrote)) = inr (four, inr (status, json_text kept, (kept, ran.1, refl), wrote.0))
+reported_so setting boxes input kept a b handed status reported ran (inr (four, wrote)) = inr (four, inr (status, json_text kept, (kept, ran.1, refl), wrote.0))
 
 -- the JSON of the buffered output was written, or a prefix of it
-pub if_told : (o : Option (List ℕ)) (setting : Setting) (boxes : List Shown) (kept : List ℕ) (a b : Stream) (handed : Bool) (status told : ℕ) → (status ≡ 4 → ⊥) → IfSome o (λ input. HasStatus (IsOutput setting boxes input) (Some []) (Some kept) status) → IsReported status kept a b handed told → IfSome o (λ input. HasStatus (IsJsonOutput setting boxes input) a.contents b.contents told)
-if_told None setting boxes kept a b handed status told none h t = tt
-if_told (Some input) setting boxes kept a b handed status told none h t = told_so setting boxes input kept a b handed status told (kept_is (IsOutput setting boxes input) kept status none h) t
+pub if_reported : (o : Option (List ℕ)) (setting : Setting) (boxes : List Shown) (kept : List ℕ) (a b : Stream) (handed : Bool) (status reported : ℕ) → (status ≡ 4 → ⊥) → IfSome o (λ input. HasStatus (IsOutput setting boxes input) (Some []) (Some kept) status) → IsReported status kept a b handed reported → IfSome o (λ input. HasStatus (IsJsonOutput setting boxes input) a.contents b.contents reported)
+if_reported None setting boxes kept a b handed status reported none h t = tt
+if_reported (Some input) setting boxes kept a b handed status reported none h t = reported_so setting boxes input kept a b handed status reported (kept_is (IsOutput setting boxes input) kept status none h) t
 
 -- ---- the reader and the writer
 
@@ -69,11 +69,11 @@ fault_leaves taken left a b handed status four (inl h) stays = absurd (not_final
 fault_leaves taken left a b handed status four (inr h) stays = inr (refl, inl (h.1, stays))
 
 -- the JSON was written, or a prefix of it
-pub told_leaves : (taken left : Intake) (a b : Stream) (handed : Bool) (kept : List ℕ) (status told : ℕ) → (status ≡ 4 → ⊥) → ReadsFor taken left status → IsReported status kept a b handed told → LeavesAt taken left a b handed told
-told_leaves taken left a b handed kept status told none reads (inl (e, wrote, on)) =
+pub reported_leaves : (taken left : Intake) (a b : Stream) (handed : Bool) (kept : List ℕ) (status reported : ℕ) → (status ≡ 4 → ⊥) → ReadsFor taken left status → IsReported status kept a b handed reported → LeavesAt taken left a b handed reported
+reported_leaves taken left a b handed kept status reported none reads (inl (e, wrote, on)) =
     let whole = whole_of taken left status none reads in
     subst (λ (n : ℕ). LeavesAt taken left a b handed n) (sym e) (inl (whole.0, whole.1, wrote.1, on))
-told_leaves taken left a b handed kept status told none reads (inr (four, wrote)) =
+reported_leaves taken left a b handed kept status reported none reads (inr (four, wrote)) =
     inr (four, inr (read_whole taken left status none reads, wrote.1))
 
 -- nothing is written by a run that writes nothing

@@ -50,9 +50,9 @@ wrong_here : (new : RegistryModel) (line : List ℕ) (trailing : List (List ℕ)
     → defined_by new (line ∷ trailing) ≡ Err fault
 wrong_here new line trailing fault e = rw e refl
 
-pub wrong_is_told : (registry new : RegistryModel) (lines : List (List ℕ)) (n : ℕ) (line : List ℕ) (fault : Fault)
+pub wrong_is_reported : (registry new : RegistryModel) (lines : List (List ℕ)) (n : ℕ) (line : List ℕ) (fault : Fault)
     → IsFirstWrong registry new lines n line fault → defined_by registry lines ≡ Err fault
-wrong_is_told registry new lines n line fault w =
+wrong_is_reported registry new lines n line fault w =
     ap (defined_by registry) w.up_to.are ∙ read_on registry new w.up_to.preceding (line ∷ w.up_to.trailing) w.up_to.makes
     ∙ wrong_here new line w.up_to.trailing fault w.wrong
 

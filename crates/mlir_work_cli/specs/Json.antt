@@ -19,6 +19,6 @@ ReadsFor taken left status = (IsFinal status × IsReadWhole taken left) ⊎ ((st
 -- the JSON of an output was written and flushed, with the output's status; or a prefix of it, and then a write failed,
 -- with status 4
 abbrev pub IsReported : ℕ → List ℕ → Stream → Stream → Bool → ℕ → Type 0
-IsReported status out old new handed told =
-    ((told ≡ status) × Grows old new (json_text out) × (handed ≡ true))
-    ⊎ ((told ≡ 4) × GrowsPreceding old new (json_text out))
+IsReported status out old new handed reported =
+    ((reported ≡ status) × Grows old new (json_text out) × (handed ≡ true))
+    ⊎ ((reported ≡ 4) × GrowsPreceding old new (json_text out))

@@ -59,8 +59,8 @@ fn kept_output<L: AnalysisSource, R: Source>(
 
 /// Writes an output as JSON and flushes the writer. Returns its status, or 4 if a write fails.
 fn tell<W: Sink>(alloc: Global, writer: &mut W, status: u8, output: &[u8]) -> Result<u8, AllocError>
-    ensures told { IfOk result (λ told. IsReported status output.now
-        (W.stream writer.old) (W.stream writer.new) (W.handed writer.new) told) }
+    ensures reported { IfOk result (λ reported. IsReported status output.now
+        (W.stream writer.old) (W.stream writer.new) (W.handed writer.new) reported) }
     ensures unwritten { OnErr result (Stays (W.stream writer.old) (W.stream writer.new)) }
 {
     let json = json_text(alloc, output)?;

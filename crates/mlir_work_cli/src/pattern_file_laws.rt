@@ -3,6 +3,6 @@ ghost use Rattle.mlir_work_cli.specs.Patterns.{RefusedLinesHaveOne, WrongLinesAr
 
 /// A pattern file is refused if and only if it has a first malformed line, and for the fault of that line.
 pub fn refused_lines_have_a_first_wrong_one()
-    ensures told { WrongLinesAreReported }
+    ensures reported { WrongLinesAreReported }
     ensures one { RefusedLinesHaveOne }
 {}

@@ -31,17 +31,17 @@ whole_len : (w rest : List ℕ) → is_whole w ≡ true → cell_len false (w ++
 whole_len [] rest h = refl
 whole_len (b ∷ bs) rest h =
     let parts = and_parts (not ((b == 32) || (b == 34))) (is_whole bs) h in
-    let plain = not_either (b == 32) (b == 34) parts.0 in
+    let simple = not_either (b == 32) (b == 34) parts.0 in
     let ih = whole_len bs rest parts.1 in
-    rw (plain.0, plain.1, ih) refl
+    rw (simple.0, simple.1, ih) refl
 
 whole_len_last : (w : List ℕ) → is_whole w ≡ true → cell_len false w ≡ length w
 whole_len_last [] h = refl
 whole_len_last (b ∷ bs) h =
     let parts = and_parts (not ((b == 32) || (b == 34))) (is_whole bs) h in
-    let plain = not_either (b == 32) (b == 34) parts.0 in
+    let simple = not_either (b == 32) (b == 34) parts.0 in
     let ih = whole_len_last bs parts.1 in
-    rw (plain.0, plain.1, ih) refl
+    rw (simple.0, simple.1, ih) refl
 
 drop_preceding : (xs : List ℕ) (y : ℕ) (ys : List ℕ) → drop (suc (length xs)) (xs ++ y ∷ ys) ≡ ys
 drop_preceding [] y ys = refl

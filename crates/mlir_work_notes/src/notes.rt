@@ -149,15 +149,15 @@ fn write_notes(
 }
 
 /// Returns the listed text after the word `about`, or an empty text if nothing is listed.
-fn about_if(alloc: Global, told: &[u8]) -> Result<Vec<u8>, AllocError>
-    ensures { IfOk result (λ v. v.items ≡ about_if told.now) }
+fn about_if(alloc: Global, reported: &[u8]) -> Result<Vec<u8>, AllocError>
+    ensures { IfOk result (λ v. v.items ≡ about_if reported.now) }
 {
     let mut out = Vec::new(alloc);
-    if told.is_empty() {
+    if reported.is_empty() {
         return Ok(out);
     }
     out.extend_from_slice(b" about")?;
-    out.extend_from_slice(told)?;
+    out.extend_from_slice(reported)?;
     Ok(out)
 }
 
@@ -170,7 +170,7 @@ pub fn notes_for(
 ) -> Result<Vec<u8>, AllocError>
     ensures { IfOk result (λ v. v.items ≡ about_text (notes_of refusal (said_of command.now) (module_in world.now))) }
 {
-    let mut told = Vec::new(alloc);
-    write_notes(alloc, world, &mut told, refusal, command)?;
-    about_if(alloc, &told)
+    let mut reported = Vec::new(alloc);
+    write_notes(alloc, world, &mut reported, refusal, command)?;
+    about_if(alloc, &reported)
 }

@@ -31,15 +31,15 @@ failed w e = cc
 vacuous : (w : ℕ) → said.Vacuous w ≡ said.AllWidths → ⊥
 vacuous w e = cc
 
-check_found : (k : Kept) (requested : Option ℕ) (j : CheckResult) → IsCheckResult k.shape requested j → said_for k j ≡ said.AllWidths → IsFoundToHold k
-check_found k requested (judgement.Holds w) is e = absurd (by_passing (is_passing k.shape) w e)
-check_found k requested judgement.AllWidths is e = subst (λ requested. IsCheckResult k.shape requested judgement.AllWidths) is.0 is
+check_found : (k : Kept) (requested : Option ℕ) (j : CheckResult) → IsCheckResult k.rewrite_pattern requested j → said_for k j ≡ said.AllWidths → IsFoundToHold k
+check_found k requested (judgement.Holds w) is e = absurd (by_passing (is_passing k.rewrite_pattern) w e)
+check_found k requested judgement.AllWidths is e = subst (λ requested. IsCheckResult k.rewrite_pattern requested judgement.AllWidths) is.0 is
 check_found k requested (judgement.Vacuous w) is e = absurd (vacuous w e)
 check_found k requested (judgement.Fails c) is e = absurd (failed c.width e)
 check_found k requested (judgement.Refuted w r) is e = absurd (failed w e)
 check_found k requested (judgement.Sampled w) is e = absurd is
 
-sample_never : (k : Kept) (w : ℕ) (j : CheckResult) → IsSampled k.shape w j → said_for k j ≡ said.AllWidths → ⊥
+sample_never : (k : Kept) (w : ℕ) (j : CheckResult) → IsSampled k.rewrite_pattern w j → said_for k j ≡ said.AllWidths → ⊥
 sample_never k w (judgement.Holds v) is e = is
 sample_never k w judgement.AllWidths is e = is
 sample_never k w (judgement.Vacuous v) is e = is
@@ -97,13 +97,13 @@ forgets None name b c notice bytes is = stays b c is.2
 forgets (Some k) name b c notice bytes is = changes b c (inr (inl (name, is.2)))
 
 records : (is_said : CheckSummary → List ℕ → Type 0) (name : List ℕ) (b c : RegistryModel) (notice : Notice) (bytes : List ℕ) (k : Kept) → found name b ≡ Some k
-    → ((told : CheckSummary) → is_said told bytes → told ≡ said.AllWidths → IsFoundToHold k) → IsNoted is_said name b notice bytes c → Leads b c
+    → ((reported : CheckSummary) → is_said reported bytes → reported ≡ said.AllWidths → IsFoundToHold k) → IsNoted is_said name b notice bytes c → Leads b c
 records is_said name b c notice bytes k e right is = changes b c (inr (inr (inl (name, k, is.0, e, right is.0 is.1, is.3))))
 
 checks : (o : Option Kept) (name : List ℕ) (requested : Option ℕ) (b c : RegistryModel) (notice : Notice) (bytes : List ℕ) → found name b ≡ o → Checks o name requested b notice bytes c → Leads b c
 checks None name requested b c notice bytes e is = stays b c is.2
 checks (Some k) name requested b c notice bytes e (inl is) =
-    records (IsChecked k requested) name b c notice bytes k e (λ told s f. check_found k requested s.0 s.1 (sym s.2 ∙ f)) is
+    records (IsChecked k requested) name b c notice bytes k e (λ reported s f. check_found k requested s.0 s.1 (sym s.2 ∙ f)) is
 checks (Some k) name requested b c notice bytes e (inr is) = stays b c is.1.2
 
 -- checks of all patterns
@@ -120,7 +120,7 @@ checks_all (Some k) b c notice bytes e is = checks (Some k) (codes "all") None b
 samples : (o : Option Kept) (name : List ℕ) (w : ℕ) (b c : RegistryModel) (notice : Notice) (bytes : List ℕ) → found name b ≡ o → Samples o name w b notice bytes c → Leads b c
 samples None name w b c notice bytes e is = stays b c is.2
 samples (Some k) name w b c notice bytes e (inl is) =
-    records (IsSampledAs k w) name b c notice bytes k e (λ told s f. absurd (sample_never k w s.0 s.1 (sym s.2 ∙ f))) is
+    records (IsSampledAs k w) name b c notice bytes k e (λ reported s f. absurd (sample_never k w s.0 s.1 (sym s.2 ∙ f))) is
 samples (Some k) name w b c notice bytes e (inr is) = stays b c is.1.2
 
 shelved : (command : RegistryCommand) (b c : RegistryModel) (notice : Notice) (bytes : List ℕ) → IsShelved command b notice bytes c → Leads b c

@@ -1,13 +1,13 @@
 -- The line of each pattern in the answer to `check all`.
 use Rattle.std.specs.Prelude.{ℕ, List, ◌++◌, Bool, false, codes, if◌then◌else◌}
 use Rattle.user_patterns_registry.specs.Rows.{said_text}
-use Rattle.mlir_work_registry.specs.Notices.{Notice, Plain, Checked, is_failure}
+use Rattle.mlir_work_registry.specs.Notices.{Notice, Simple, Checked, is_failure}
 
 -- the answer to a check, without its number: `holds 8`, `fails 2`; the check of a registered pattern is refused with
 -- `BadLimit` alone
 abbrev pub answer_text : Notice → List ℕ
 answer_text (Checked said) = said_text said
-answer_text (Plain response) = codes "refused 50 BadLimit"
+answer_text (Simple response) = codes "refused 50 BadLimit"
 
 -- the line of a pattern: `checked mask holds 8`
 abbrev pub checked_row : List ℕ → List ℕ → List ℕ
@@ -16,7 +16,7 @@ checked_row name answer = codes "checked " ++ (name ++ (codes " " ++ (answer ++ 
 -- whether a check found a counterexample
 abbrev pub finds_failure : Notice → Bool
 finds_failure (Checked said) = is_failure said
-finds_failure (Plain response) = false
+finds_failure (Simple response) = false
 
 -- the answer to the first check that found a counterexample
 abbrev pub first_failure : Notice → Notice → Notice

@@ -5,7 +5,7 @@ use Rattle.ir_event.specs.types.Refusals.{text_of}
 use Rattle.ir_event.specs.types.declared.refusal.Refusal.{Refusal}
 use Rattle.rewriter_machine.specs.Commands.{Response, Replied, TextRefusedAt}
 use Rattle.rewriter_machine.specs.Machine.{Done, DoneAs, DoneWith, Refused, RefusedOn}
-use Rattle.mlir_work_registry.specs.Notices.{Notice, Plain, Checked}
+use Rattle.mlir_work_registry.specs.Notices.{Notice, Simple, Checked}
 use Rattle.mlir_work_registry.specs.ReplyLines.{checked_line, reply_line, reply_text, surprise_line}
 
 -- `1 refused 22 HasUses`
@@ -26,7 +26,7 @@ explained_reply n (Replied (DoneWith outcome)) about = reply_line n (Replied (Do
 explained_reply n (Replied (RefusedOn refusal x)) about = reply_line n (Replied (RefusedOn refusal x))
 
 abbrev pub explained_line : ℕ → Notice → List ℕ → List ℕ
-explained_line n (Plain response) about = explained_reply n response about
+explained_line n (Simple response) about = explained_reply n response about
 explained_line n (Checked said) about = checked_line n said
 
 -- the lines of the response to command `n`, with the expected refusal; an empty note adds nothing

@@ -12,13 +12,13 @@ use Rattle.mlir_work_registry.specs.declared.response.Response.TheVariants as co
 
 pub data Notice : Type 0 where
   -- the reply to a command
-  Plain : Response → Notice
+  Simple : Response → Notice
   -- the summary of a check
   Checked : CheckSummary → Notice
 
 abbrev pub notice_of : Coded → Notice
-notice_of (code.RewriterReply reply) = Plain (response_of reply)
-notice_of (code.CheckResult told) = Checked told
+notice_of (code.RewriterReply reply) = Simple (response_of reply)
+notice_of (code.CheckResult reported) = Checked reported
 
 -- whether a check found a counterexample
 abbrev pub is_failure : CheckSummary → Bool
@@ -30,13 +30,13 @@ is_failure (said.Sampled w) = false
 
 -- whether the line succeeded: the command was accepted, or the check found no counterexample
 abbrev pub is_well : Notice → Bool
-is_well (Plain response) = is_accepted response
-is_well (Checked told) = not (is_failure told)
+is_well (Simple response) = is_accepted response
+is_well (Checked reported) = not (is_failure reported)
 
 -- whether a command was refused for this reason
 abbrev pub refuses_for : Refusal → Notice → Bool
-refuses_for wanted (Plain response) = is_refused_for wanted response
-refuses_for wanted (Checked told) = false
+refuses_for wanted (Simple response) = is_refused_for wanted response
+refuses_for wanted (Checked reported) = false
 
 -- whether the response is the expected one: the expected refusal, or success if none is expected
 abbrev pub is_right : Option Refusal → Notice → Bool
@@ -45,7 +45,7 @@ is_right (Some wanted) notice = refuses_for wanted notice
 
 -- whether the first line below the reply to a rewriting command names a pattern that no check proves
 abbrev pub names_unproved : Notice → List ℕ → Bool
-names_unproved (Plain (Replied (DoneWith outcome))) shows = starts_with nat_eq shows (codes "unproved ")
+names_unproved (Simple (Replied (DoneWith outcome))) shows = starts_with nat_eq shows (codes "unproved ")
 names_unproved _ shows = false
 
 -- whether the response is right; in a strict run, no line below the reply may name a pattern that no check proves
@@ -55,4 +55,4 @@ is_right_under true expected notice shows = is_right expected notice && not (nam
 
 -- the offset of a refused text is within the input or at its end
 abbrev pub IsWithin : ℕ → Notice → Type 0
-IsWithin bytes notice = (refusal : Refusal) (offset : ℕ) → notice ≡ Plain (TextRefusedAt refusal offset) → offset ≤ bytes
+IsWithin bytes notice = (refusal : Refusal) (offset : ℕ) → notice ≡ Simple (TextRefusedAt refusal offset) → offset ≤ bytes

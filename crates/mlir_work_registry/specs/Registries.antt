@@ -17,23 +17,23 @@ use Rattle.user_patterns_registry.specs.declared.check_result.CheckSummary.{Chec
 use Rattle.user_patterns_registry.specs.declared.check_result.CheckSummary.TheVariants as said
 use Rattle.user_patterns_registry.specs.Registry.{RegistryModel, Kept, defined, forgotten, found, listing_text, noted}
 use Rattle.mlir_work_registry.specs.CheckedRows.{answer_text, checked_row, first_failure}
-use Rattle.mlir_work_registry.specs.Notices.{Notice, Plain, Checked}
+use Rattle.mlir_work_registry.specs.Notices.{Notice, Simple, Checked}
 use Rattle.mlir_work_registry.specs.Redefined.{redefined}
 
 -- the command is refused and the registry doesn't change
 abbrev pub IsRefused : Refusal → RegistryModel → Notice → List ℕ → RegistryModel → Type 0
-IsRefused refusal b notice bytes c = (notice ≡ Plain (Replied (Refused refusal))) × (bytes ≡ []) × (c ≡ b)
+IsRefused refusal b notice bytes c = (notice ≡ Simple (Replied (Refused refusal))) × (bytes ≡ []) × (c ≡ b)
 
 -- the pattern of a text is defined, or the text is refused at a byte, counted from its start
 abbrev pub IsDefined : Outcome RegistryModel → List ℕ → RegistryModel → Notice → List ℕ → RegistryModel → Type 0
-IsDefined (Ok new) text b notice bytes c = (notice ≡ Plain (Replied Done)) × (bytes ≡ []) × (c ≡ new)
+IsDefined (Ok new) text b notice bytes c = (notice ≡ Simple (Replied Done)) × (bytes ≡ []) × (c ≡ new)
 IsDefined (Err fault) text b notice bytes c =
-    (notice ≡ Plain (TextRefusedAt (refusal_of fault.refusal) (length text - fault.left))) × (bytes ≡ []) × (c ≡ b)
+    (notice ≡ Simple (TextRefusedAt (refusal_of fault.refusal) (length text - fault.left))) × (bytes ≡ []) × (c ≡ b)
 
 -- a named pattern is removed, or no pattern has the name
 abbrev pub Forgets : Option Kept → List ℕ → RegistryModel → Notice → List ℕ → RegistryModel → Type 0
 Forgets None name b notice bytes c = IsRefused NoSuchKey b notice bytes c
-Forgets (Some k) name b notice bytes c = (notice ≡ Plain (Replied Done)) × (bytes ≡ []) × (c ≡ forgotten name b)
+Forgets (Some k) name b notice bytes c = (notice ≡ Simple (Replied Done)) × (bytes ≡ []) × (c ≡ forgotten name b)
 
 -- the rows of a counterexample, if there is one
 abbrev pub judgement_rows : Kept → CheckResult → List ℕ
@@ -47,7 +47,7 @@ judgement_rows k (judgement.Sampled w) = []
 -- the summary of a check result. A check up to a width tries all values but no poison: if the pattern matches a
 -- `select`, or its replacement has a division or a remainder, the summary is only that no counterexample was found
 abbrev pub said_for : Kept → CheckResult → CheckSummary
-said_for k (judgement.Holds w) = if is_passing k.shape then said.Holds w else said.Sampled w
+said_for k (judgement.Holds w) = if is_passing k.rewrite_pattern then said.Holds w else said.Sampled w
 said_for k judgement.AllWidths = said_of judgement.AllWidths
 said_for k (judgement.Vacuous w) = said_of (judgement.Vacuous w)
 said_for k (judgement.Fails counterexample) = said_of (judgement.Fails counterexample)
@@ -60,10 +60,10 @@ IsSaid is_true k said bytes = (j : CheckResult) × is_true j × (said ≡ said_f
 
 -- the summary of a check of a pattern up to a width, and the summary of a test with samples
 abbrev pub IsChecked : Kept → Option ℕ → CheckSummary → List ℕ → Type 0
-IsChecked k requested said bytes = IsSaid (IsCheckResult k.shape requested) k said bytes
+IsChecked k requested said bytes = IsSaid (IsCheckResult k.rewrite_pattern requested) k said bytes
 
 abbrev pub IsSampledAs : Kept → ℕ → CheckSummary → List ℕ → Type 0
-IsSampledAs k w said bytes = IsSaid (IsSampled k.shape w) k said bytes
+IsSampledAs k w said bytes = IsSaid (IsSampled k.rewrite_pattern w) k said bytes
 
 -- a possible summary of a named pattern is the response, with its rows, and is recorded
 abbrev pub IsNoted : (CheckSummary → List ℕ → Type 0) → List ℕ → RegistryModel → Notice → List ℕ → RegistryModel → Type 0
@@ -75,7 +75,7 @@ abbrev pub Checks : Option Kept → List ℕ → Option ℕ → RegistryModel �
 Checks None name requested b notice bytes c = IsRefused NoSuchKey b notice bytes c
 Checks (Some k) name requested b notice bytes c =
     IsNoted (IsChecked k requested) name b notice bytes c
-    ⊎ (IsUntried k.shape (requested_width k.shape requested) × IsRefused BadLimit b notice bytes c)
+    ⊎ (IsUntried k.rewrite_pattern (requested_width k.rewrite_pattern requested) × IsRefused BadLimit b notice bytes c)
 
 -- the first pattern is checked and recorded, as by its name alone, and then the others; the answer is that of the first
 -- check that found a counterexample
@@ -92,7 +92,7 @@ pub record ChecksFirst (Others : RegistryModel → Notice → List ℕ → Regis
 
 -- each of these patterns is checked in order, and the summaries are recorded one after the other
 abbrev pub ChecksEach : List Kept → RegistryModel → Notice → List ℕ → RegistryModel → Type 0
-ChecksEach [] b notice bytes c = (notice ≡ Plain (Replied Done)) × (bytes ≡ []) × (c ≡ b)
+ChecksEach [] b notice bytes c = (notice ≡ Simple (Replied Done)) × (bytes ≡ []) × (c ≡ b)
 ChecksEach (k ∷ ks) b notice bytes c = ChecksFirst (ChecksEach ks) k.name b notice bytes c
 
 -- `check all`: if a pattern has this name, it is checked alone
@@ -104,14 +104,14 @@ ChecksAll (Some k) b notice bytes c = Checks (Some k) (codes "all") None b notic
 abbrev pub Samples : Option Kept → List ℕ → ℕ → RegistryModel → Notice → List ℕ → RegistryModel → Type 0
 Samples None name w b notice bytes c = IsRefused NoSuchKey b notice bytes c
 Samples (Some k) name w b notice bytes c =
-    IsNoted (IsSampledAs k w) name b notice bytes c ⊎ (IsUnsampled k.shape w × IsRefused BadLimit b notice bytes c)
+    IsNoted (IsSampledAs k w) name b notice bytes c ⊎ (IsUnsampled k.rewrite_pattern w × IsRefused BadLimit b notice bytes c)
 
 -- the effect of a registry command if memory doesn't run out
 abbrev pub IsShelved : RegistryCommand → RegistryModel → Notice → List ℕ → RegistryModel → Type 0
 IsShelved (Define text) b notice bytes c = IsDefined (defined b text) text b notice bytes c
 IsShelved (Redefine text) b notice bytes c = IsDefined (redefined b text) text b notice bytes c
 IsShelved (Forget name) b notice bytes c = Forgets (found name b) name b notice bytes c
-IsShelved Patterns b notice bytes c = (notice ≡ Plain (Replied Done)) × (bytes ≡ listing_text b) × (c ≡ b)
+IsShelved Patterns b notice bytes c = (notice ≡ Simple (Replied Done)) × (bytes ≡ listing_text b) × (c ≡ b)
 IsShelved (Check name requested) b notice bytes c = Checks (found name b) name requested b notice bytes c
 IsShelved CheckAll b notice bytes c = ChecksAll (found (codes "all") b) b notice bytes c
 IsShelved (Sample name w) b notice bytes c = Samples (found name b) name w b notice bytes c

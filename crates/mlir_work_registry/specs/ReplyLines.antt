@@ -7,7 +7,7 @@ use Rattle.rewriter_machine.specs.Machine.{Done, DoneAs, DoneWith, Refused, Refu
 use Rattle.mlir_work_script.specs.Replies.{expected_line, ok_line, made_line, outcome_line, refused_line, refused_on_line, refused_at_line}
 use Rattle.user_patterns_registry.specs.Rows.{said_text}
 use Rattle.user_patterns_registry.specs.declared.check_result.CheckSummary.{CheckSummary}
-use Rattle.mlir_work_registry.specs.Notices.{Notice, Plain, Checked, refuses_for}
+use Rattle.mlir_work_registry.specs.Notices.{Notice, Simple, Checked, refuses_for}
 
 -- the line of the reply to command n
 abbrev pub reply_line : ℕ → Response → List ℕ
@@ -24,7 +24,7 @@ checked_line n said = decimal n ++ (codes " " ++ (said_text said ++ codes "\n"))
 
 -- the line of a response
 abbrev pub notice_line : ℕ → Notice → List ℕ
-notice_line n (Plain response) = reply_line n response
+notice_line n (Simple response) = reply_line n response
 notice_line n (Checked said) = checked_line n said
 
 -- the line below a response that isn't the expected refusal

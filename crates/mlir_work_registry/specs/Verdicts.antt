@@ -9,7 +9,7 @@ use Rattle.user_patterns_registry.specs.declared.check_result.CheckSummary.TheVa
 use Rattle.user_patterns_registry.specs.Registry.{Kept, RegistryModel, found, noted}
 use Rattle.user_patterns_registry.specs.Rows.{said_text}
 use Rattle.mlir_work_registry.specs.CheckedRows.{answer_text, checked_row}
-use Rattle.mlir_work_registry.specs.Notices.{Notice, Plain, Checked}
+use Rattle.mlir_work_registry.specs.Notices.{Notice, Simple, Checked}
 use Rattle.mlir_work_registry.specs.Registries.{IsChecked}
 use Rattle.mlir_work_registry.specs.declared.check_all.Verdict.{Verdict as Coded}
 
@@ -28,7 +28,7 @@ verdict_views vs = map verdict_view vs
 -- a possible summary and its rows; without a summary the check is refused
 abbrev pub IsSaidOf : Kept → Option CheckSummary → List ℕ → Type 0
 IsSaidOf k (Some said) rows = IsChecked k None said rows
-IsSaidOf k None rows = IsUntried k.shape (requested_width k.shape None) × (rows ≡ [])
+IsSaidOf k None rows = IsUntried k.rewrite_pattern (requested_width k.rewrite_pattern None) × (rows ≡ [])
 
 -- a possible check of the pattern of a name
 abbrev pub IsVerdict : RegistryModel → List ℕ → Verdict → Type 0
@@ -45,7 +45,7 @@ AreVerdicts registry (k ∷ ks) (v ∷ vs) = IsVerdict registry k.name v × AreV
 
 abbrev pub notice_said : Option CheckSummary → Notice
 notice_said (Some said) = Checked said
-notice_said None = Plain (Replied (Refused BadLimit))
+notice_said None = Simple (Replied (Refused BadLimit))
 
 abbrev pub result_text : Option CheckSummary → List ℕ
 result_text said = answer_text (notice_said said)
@@ -66,7 +66,7 @@ notice_or (Some said) others = Checked said
 notice_or None others = others
 
 abbrev pub verdicts_notice : List Verdict → Notice
-verdicts_notice [] = Plain (Replied Done)
+verdicts_notice [] = Simple (Replied Done)
 verdicts_notice (v ∷ vs) = notice_or (failure_of v.said) (verdicts_notice vs)
 
 -- ---- the notes

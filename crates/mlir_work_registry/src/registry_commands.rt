@@ -8,7 +8,7 @@ ghost use Rattle.mlir_work_script.specs.RegistryCommands.{Check, Define, Forget,
 ghost use Rattle.user_patterns_registry.specs.CheckResult.{IsRefused, requested_width};
 ghost use Rattle.user_patterns_registry.specs.Sampled.{IsNotSampled};
 ghost use Rattle.user_patterns_registry.specs.Registry.{registry_model, kept_view, noted};
-ghost use Rattle.mlir_work_registry.specs.Notices.{Checked, IsWithin, Plain, notice_of};
+ghost use Rattle.mlir_work_registry.specs.Notices.{Checked, IsWithin, Simple, notice_of};
 ghost use Rattle.mlir_work_registry.specs.Replies.{IsBounded, response_of};
 ghost use Rattle.mlir_work_registry.specs.Registries.{IsChecked, IsSampledAs, Registries, judgement_rows, said_for};
 
@@ -34,7 +34,7 @@ use user_patterns_widths::passing::is_passing;
 /// Returns the reply for a refused pattern text; `bytes` is the length of the whole input. The bound check always
 /// succeeds: the text is a part of the input, so the offset is in range.
 fn refused_at(bytes: usize, text: &[u8], fault: &Fault) -> Reply
-    ensures told { (response_of result ≡ Replied (Refused MemoryRefusal)) ⊎ (response_of result ≡ TextRefusedAt (refusal_of fault.now.refusal) (length text.now - fault.now.left)) }
+    ensures reported { (response_of result ≡ Replied (Refused MemoryRefusal)) ⊎ (response_of result ≡ TextRefusedAt (refusal_of fault.now.refusal) (length text.now - fault.now.left)) }
     ensures bounded { IsBounded bytes (response_of result) }
 {
     let offset = fault.offset(text);
@@ -46,7 +46,7 @@ fn refused_at(bytes: usize, text: &[u8], fault: &Fault) -> Reply
 
 /// Defines the pattern of a text. A refused definition doesn't change the registry.
 fn define(alloc: Global, bytes: usize, registry: &mut PatternRegistry, text: &[u8]) -> Reply
-    ensures registries { Registries (Define text.now) (registry_model registry.old) (Plain (response_of result)) [] (registry_model registry.new) }
+    ensures registries { Registries (Define text.now) (registry_model registry.old) (Simple (response_of result)) [] (registry_model registry.new) }
     ensures bounded { IsBounded bytes (response_of result) }
 {
     match define_in(alloc, registry, text) {
@@ -59,7 +59,7 @@ fn define(alloc: Global, bytes: usize, registry: &mut PatternRegistry, text: &[u
 /// Defines the pattern of a text, in place of the one of its name if there is one. A refused definition doesn't change
 /// the registry.
 fn redefine(alloc: Global, bytes: usize, registry: &mut PatternRegistry, text: &[u8]) -> Reply
-    ensures registries { Registries (Redefine text.now) (registry_model registry.old) (Plain (response_of result)) [] (registry_model registry.new) }
+    ensures registries { Registries (Redefine text.now) (registry_model registry.old) (Simple (response_of result)) [] (registry_model registry.new) }
     ensures bounded { IsBounded bytes (response_of result) }
 {
     match redefine_in(alloc, registry, text) {
@@ -71,7 +71,7 @@ fn redefine(alloc: Global, bytes: usize, registry: &mut PatternRegistry, text: &
 
 /// Removes a named pattern. Refused with `NoSuchKey` if there is none.
 fn forget(registry: &mut PatternRegistry, name: &[u8]) -> Reply
-    ensures registries { Registries (Forget name.now) (registry_model registry.old) (Plain (response_of result)) [] (registry_model registry.new) }
+    ensures registries { Registries (Forget name.now) (registry_model registry.old) (Simple (response_of result)) [] (registry_model registry.new) }
     ensures bounded { (bytes : ℕ) → IsBounded bytes (response_of result) }
 {
     if find(registry, name).is_none() {
@@ -148,7 +148,7 @@ pub(crate) fn checked(
     width: Option<u32>,
 ) -> Result<(CheckSummary, Vec<u8>), Refusal>
     ensures ok { IfOk result (λ x. IsChecked (kept_view held.now) width x.0 x.1.items) }
-    ensures err { IfErr result (IsRefused (kept_view held.now).shape (requested_width (kept_view held.now).shape width)) }
+    ensures err { IfErr result (IsRefused (kept_view held.now).rewrite_pattern (requested_width (kept_view held.now).rewrite_pattern width)) }
 {
     let judgement = match check_pattern(alloc, &held.pattern, wide(width)) {
         Ok(judgement) => judgement,
@@ -205,7 +205,7 @@ fn sampled(
     width: u32,
 ) -> Result<(CheckSummary, Vec<u8>), Refusal>
     ensures ok { IfOk result (λ x. IsSampledAs (kept_view held.now) width x.0 x.1.items) }
-    ensures err { IfErr result (IsNotSampled (kept_view held.now).shape width) }
+    ensures err { IfErr result (IsNotSampled (kept_view held.now).rewrite_pattern width) }
 {
     let judgement = match sample(alloc, &held.pattern, u64::from(width)) {
         Ok(judgement) => judgement,

@@ -106,12 +106,12 @@ module _ (setting : Setting) (before : ℕ) (begun : Sitting) where
   goes_so_far lines read n s accepted out h = rw (append-nil, append-nil) at (h.goes [] 0 [] (refl, refl))
 
   -- one more line is answered
-  goes_step : (lines : List (List ℕ)) (read n : ℕ) (s t : Sitting) (accepted : Bool) (out line told_out : List ℕ) (told : Option Bool) → Goes lines read n s accepted out → length line ≤ most_script_bytes → IsAnswered (session_setting_at setting (read + length line)) n s (line_expects (line_of line)) (line_says (line_of line)) t told told_out →
-      Goes (lines ++ line ∷ []) (read + length line) (number_after n told) t (accepted_after accepted told) (out ++ told_out)
-  goes_step lines read n s t accepted out line told_out told h short answered = record {
+  goes_step : (lines : List (List ℕ)) (read n : ℕ) (s t : Sitting) (accepted : Bool) (out line reported_out : List ℕ) (reported : Option Bool) → Goes lines read n s accepted out → length line ≤ most_script_bytes → IsAnswered (session_setting_at setting (read + length line)) n s (line_expects (line_of line)) (line_says (line_of line)) t reported reported_out →
+      Goes (lines ++ line ∷ []) (read + length line) (number_after n reported) t (accepted_after accepted reported) (out ++ reported_out)
+  goes_step lines read n s t accepted out line reported_out reported h short answered = record {
     goes = λ more later rest k.
-        let step = line_answered (λ m x st o. Lives setting (read + length line) m x more st o) (session_setting_at setting (read + length line)) n s (line_expects (line_of line)) (line_says (line_of line)) t told told_out answered later rest k in
-        let all = h.goes (line ∷ more) (status_before told later) (told_out ++ rest) (short, step) in
+        let step = line_answered (λ m x st o. Lives setting (read + length line) m x more st o) (session_setting_at setting (read + length line)) n s (line_expects (line_of line)) (line_says (line_of line)) t reported reported_out answered later rest k in
+        let all = h.goes (line ∷ more) (status_before reported later) (reported_out ++ rest) (short, step) in
         rw (append_assoc, append_assoc, ← worse_after) all;
   }
 
@@ -127,18 +127,18 @@ module _ (setting : Setting) (before : ℕ) (begun : Sitting) where
   lived_none None a = tt
   lived_none (Some all) a = ([], [], refl, grows_none a, goes_none, omega arith)
 
-  pub lived_step : (o mid new : Option (List ℕ)) (read more n : ℕ) (s t : Sitting) (accepted : Bool) (a b c : Stream) (line told_out : List ℕ) (told : Option Bool) → Lived o mid read n s accepted a b → TakesLine mid new line → 0 < length line → length line ≤ most_script_bytes → more ≡ read + length line →
-      IsAnswered (session_setting_at setting more) n s (line_expects (line_of line)) (line_says (line_of line)) t told told_out → Grows b c told_out → Lived o new more (number_after n told) t (accepted_after accepted told) a c
-  lived_step None mid new read more n s t accepted a b c line told_out told h takes some short is answered wrote = tt
-  lived_step (Some all) None new read more n s t accepted a b c line told_out told h takes some short is answered wrote = absurd h
-  lived_step (Some all) (Some left) None read more n s t accepted a b c line told_out told h takes some short is answered wrote = absurd takes
-  lived_step (Some all) (Some left) (Some rest) read more n s t accepted a b c line told_out told (lines, out, cut, grows, goes, bytes) takes some short is answered wrote =
+  pub lived_step : (o mid new : Option (List ℕ)) (read more n : ℕ) (s t : Sitting) (accepted : Bool) (a b c : Stream) (line reported_out : List ℕ) (reported : Option Bool) → Lived o mid read n s accepted a b → TakesLine mid new line → 0 < length line → length line ≤ most_script_bytes → more ≡ read + length line →
+      IsAnswered (session_setting_at setting more) n s (line_expects (line_of line)) (line_says (line_of line)) t reported reported_out → Grows b c reported_out → Lived o new more (number_after n reported) t (accepted_after accepted reported) a c
+  lived_step None mid new read more n s t accepted a b c line reported_out reported h takes some short is answered wrote = tt
+  lived_step (Some all) None new read more n s t accepted a b c line reported_out reported h takes some short is answered wrote = absurd h
+  lived_step (Some all) (Some left) None read more n s t accepted a b c line reported_out reported h takes some short is answered wrote = absurd takes
+  lived_step (Some all) (Some left) (Some rest) read more n s t accepted a b c line reported_out reported (lines, out, cut, grows, goes, bytes) takes some short is answered wrote =
       let next = next_line (Some left) (Some rest) line takes some in (
         lines ++ line ∷ [],
-        out ++ told_out,
+        out ++ reported_out,
         cut ∙ ap (λ (xs : List (List ℕ)). lines ++ xs) next ∙ sym (append_assoc lines (line ∷ []) (whole_lines rest)),
-        grows_join a b c out told_out grows wrote,
-        rw is (goes_step lines read n s t accepted out line told_out told goes short (rw is at answered)),
+        grows_join a b c out reported_out grows wrote,
+        rw is (goes_step lines read n s t accepted out line reported_out reported goes short (rw is at answered)),
         omega (arith, is, bytes, ap length (joined_one lines line), length-append (joined lines) line),
       )
 
@@ -184,20 +184,20 @@ module _ (setting : Setting) (before : ℕ) (begun : Sitting) where
       (on, up_to_long all left read n s accepted a b line (whole_lines rest) h (next_line (Some left) (Some rest) line takes some) (inr huge))
 
   -- a write of the line's answer failed
-  pub lived_cut : (o mid new : Option (List ℕ)) (read more n : ℕ) (s t : Sitting) (accepted handed : Bool) (a b c : Stream) (line told_out : List ℕ) (told : Option Bool) → Lived o mid read n s accepted a b → TakesLine mid new line → 0 < length line → length line ≤ most_script_bytes → more ≡ read + length line →
-      IsAnswered (session_setting_at setting more) n s (line_expects (line_of line)) (line_says (line_of line)) t told told_out → GrowsPreceding b c told_out → IfSome o (λ script. LiveEnded before (Lives setting before 1 begun) (whole_lines script) a c handed (Err WriteFailed))
-  lived_cut None mid new read more n s t accepted handed a b c line told_out told h takes some short is answered wrote = tt
-  lived_cut (Some all) None new read more n s t accepted handed a b c line told_out told h takes some short is answered wrote = absurd h
-  lived_cut (Some all) (Some left) None read more n s t accepted handed a b c line told_out told h takes some short is answered wrote = absurd takes
-  lived_cut (Some all) (Some left) (Some rest) read more n s t accepted handed a b c line told_out told (lines, out, cut, grows, goes, bytes) takes some short is answered wrote =
+  pub lived_cut : (o mid new : Option (List ℕ)) (read more n : ℕ) (s t : Sitting) (accepted handed : Bool) (a b c : Stream) (line reported_out : List ℕ) (reported : Option Bool) → Lived o mid read n s accepted a b → TakesLine mid new line → 0 < length line → length line ≤ most_script_bytes → more ≡ read + length line →
+      IsAnswered (session_setting_at setting more) n s (line_expects (line_of line)) (line_says (line_of line)) t reported reported_out → GrowsPreceding b c reported_out → IfSome o (λ script. LiveEnded before (Lives setting before 1 begun) (whole_lines script) a c handed (Err WriteFailed))
+  lived_cut None mid new read more n s t accepted handed a b c line reported_out reported h takes some short is answered wrote = tt
+  lived_cut (Some all) None new read more n s t accepted handed a b c line reported_out reported h takes some short is answered wrote = absurd h
+  lived_cut (Some all) (Some left) None read more n s t accepted handed a b c line reported_out reported h takes some short is answered wrote = absurd takes
+  lived_cut (Some all) (Some left) (Some rest) read more n s t accepted handed a b c line reported_out reported (lines, out, cut, grows, goes, bytes) takes some short is answered wrote =
       let next = next_line (Some left) (Some rest) line takes some in
-      let step = goes_step lines read n s t accepted out line told_out told goes short (rw is at answered) in (
+      let step = goes_step lines read n s t accepted out line reported_out reported goes short (rw is at answered) in (
         lines ++ line ∷ [],
-        worse (accepted_after accepted told) 0,
-        out ++ told_out,
+        worse (accepted_after accepted reported) 0,
+        out ++ reported_out,
         (whole_lines rest, cut ∙ ap (λ (xs : List (List ℕ)). lines ++ xs) next ∙ sym (append_assoc lines (line ∷ []) (whole_lines rest))),
-        goes_so_far (lines ++ line ∷ []) (read + length line) (number_after n told) t (accepted_after accepted told) (out ++ told_out) step,
-        preceding_join a b c out told_out grows wrote,
+        goes_so_far (lines ++ line ∷ []) (read + length line) (number_after n reported) t (accepted_after accepted reported) (out ++ reported_out) step,
+        preceding_join a b c out reported_out grows wrote,
       )
 
 -- ---- a module and the lines after it
@@ -308,8 +308,8 @@ module _ (setting : Setting) (boxes : List Shown) where
   live_ran None left text a b c handed r takes stays h = tt
   live_ran (Some input) None text a b c handed r takes stays h = absurd takes
   live_ran (Some input) (Some script) text a b c handed r (is, more) stays h =
-      let told = then_ended (IsLive setting boxes text) (whole_lines script) a b c stays (length text + divider_bytes) handed r h in
-      ended_so (IsLive setting boxes (module_text input)) (IsLiveOf setting boxes input) (λ lines st out k. inr k) (before_lines input) (whole_lines (script_text input)) a c handed r (rw (is, more) at told)
+      let reported = then_ended (IsLive setting boxes text) (whole_lines script) a b c stays (length text + divider_bytes) handed r h in
+      ended_so (IsLive setting boxes (module_text input)) (IsLiveOf setting boxes input) (λ lines st out k. inr k) (before_lines input) (whole_lines (script_text input)) a c handed r (rw (is, more) at reported)
 
   -- a read failed while the module was read
   pub live_unparsed : (o : Option (List ℕ)) (a b : Stream) (handed : Bool) → handed ≡ true → Stays a b → Ends o a b handed (Err ReadFailed)

@@ -109,12 +109,12 @@ pub fn live_step<L: AnalysisSource, W: Sink>(
     ensures mode { bench.new.transaction.ctx.opaque ≡ bench.old.transaction.ctx.opaque }
 {
     let (line, _) = split_line(line);
-    let told = match answer_line(alloc, session_options, bench, registry, n, line, writer) {
-        Ok(told) => told,
+    let reported = match answer_line(alloc, session_options, bench, registry, n, line, writer) {
+        Ok(reported) => reported,
         Err(fault) => return Err(fault),
     };
     match flush(writer) {
-        Ok(()) => Ok(told),
+        Ok(()) => Ok(reported),
         Err(fault) => Err(fault),
     }
 }
@@ -187,12 +187,12 @@ fn answer_lines<L: AnalysisSource, R: Source, W: Sink>(
         };
         read = more;
         let session_options = session_options_of(options, read);
-        let told = match live_step(alloc, &session_options, bench, registry, n, &line, writer) {
-            Ok(told) => told,
+        let reported = match live_step(alloc, &session_options, bench, registry, n, &line, writer) {
+            Ok(reported) => reported,
             Err(WriteFault) => return Err(Halt::Write),
         };
-        n = next_number(n, told);
-        accepted = accepted_so_far(accepted, told);
+        n = next_number(n, reported);
+        accepted = accepted_so_far(accepted, reported);
     }
 }
 

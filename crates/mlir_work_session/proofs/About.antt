@@ -59,4 +59,4 @@ module _ {B : Type 0} (meaning : B → Listener) (setting : SessionSetting) (kin
   about_unheld = fulfils_about setting kind s (state_of meaning a) (Refused Memory) Nothing there (record { answer = inr (refl, refl); panel = refl })
 
   pub about_rows : (b : B) (bytes : List ℕ) → Some b ≡ find (has_this_kind meaning kind) a.listeners → (meaning b).stale ≡ false → bytes ≡ rows_text (rows_about s ((meaning b).analysis (module_held a.transaction).tree)) → RunsSessionCommand setting (state_of meaning a) (ReportOf kind s) (Replied Done) bytes (state_of meaning a)
-  about_rows b bytes e is told = rw told (fulfils_about setting kind s (state_of meaning a) Done (Rows ((meaning b).analysis (module_held a.transaction).tree)) there (record { answer = inl (rw (found (Some b) e, is) refl); panel = refl }))
+  about_rows b bytes e is reported = rw reported (fulfils_about setting kind s (state_of meaning a) Done (Rows ((meaning b).analysis (module_held a.transaction).tree)) there (record { answer = inl (rw (found (Some b) e, is) refl); panel = refl }))

@@ -32,16 +32,16 @@ pub follows_called : (s t : State) (f : Transformation) (reply : Reply) (respons
 follows_called s t f reply response is goes = rw is goes
 
 -- the bytes below the reply: the given lines, and then the trace
-pub shows_told : (called : Result Ended Refusal) (response : Response) (before after trace bytes : List ℕ) → response ≡ Replied (canonical_reply called) → OnOk called (after ≡ before ++ trace)
+pub shows_reported : (called : Result Ended Refusal) (response : Response) (before after trace bytes : List ℕ) → response ≡ Replied (canonical_reply called) → OnOk called (after ≡ before ++ trace)
     → bytes ≡ bytes_if (is_accepted (Replied (canonical_reply called))) after → bytes ≡ bytes_if (is_accepted response) (before ++ trace)
-shows_told (Ok o) response before after trace bytes is told shows = rw is (shows ∙ told)
-shows_told (Err e) response before after trace bytes is told shows = rw is shows
+shows_reported (Ok o) response before after trace bytes is reported shows = rw is (shows ∙ reported)
+shows_reported (Err e) response before after trace bytes is reported shows = rw is shows
 
 -- the bytes below the reply: the given lines, and then the counts
 pub shows_fired : (called : Result Ended Refusal) (response : Response) (before after bytes : List ℕ) (names : List (List ℕ)) (fs : List AppliedRewrite) → response ≡ Replied (canonical_reply called) → OnOk called (after ≡ before ++ fired_below (Replied (canonical_reply called)) names fs)
     → bytes ≡ bytes_if (is_accepted (Replied (canonical_reply called))) after → bytes ≡ bytes_if (is_accepted response) (before ++ fired_below response names fs)
-shows_fired (Ok o) response before after bytes names fs is told shows = rw is (shows ∙ told)
-shows_fired (Err e) response before after bytes names fs is told shows = rw is shows
+shows_fired (Ok o) response before after bytes names fs is reported shows = rw is (shows ∙ reported)
+shows_fired (Err e) response before after bytes names fs is reported shows = rw is shows
 
 -- the bytes below the reply without a trace: the given lines alone
 pub shows_same : (response : Response) (reply : Reply) (lines bytes : List ℕ) → response ≡ Replied reply → bytes ≡ bytes_if (is_accepted (Replied reply)) lines → bytes ≡ bytes_if (is_accepted response) lines
@@ -91,9 +91,9 @@ module _ (session_options : SessionOptions) (registry : RegistryModel) (x : List
       }
 
   -- the trace of a list command is the trace of its rewrites
-  trace_told : (m : Module) (response : Response) (ls : List Listed) (candidates : List RuleOrPatternModel) (names : List (List ℕ)) (n : ℕ) → x.trace ≡ EachRewrite → all_listed registry x.names ≡ Some ls → candidates ≡ rules_and_patterns_in ls → names ≡ names_in ls → n ≡ limit_or session_options.limit x.limit
+  trace_reported : (m : Module) (response : Response) (ls : List Listed) (candidates : List RuleOrPatternModel) (names : List (List ℕ)) (n : ℕ) → x.trace ≡ EachRewrite → all_listed registry x.names ≡ Some ls → candidates ≡ rules_and_patterns_in ls → names ≡ names_in ls → n ≡ limit_or session_options.limit x.limit
       → trace_text names (trace_of (pattern_set_from candidates) n m) ≡ list_command_trace x.trace session_options registry x m response
-  trace_told m response ls candidates names n tells e is named same =
+  trace_reported m response ls candidates names n tells e is named same =
       ap (λ ns. trace_text ns (trace_of (pattern_set_from candidates) n m)) named
       ∙ ap (λ bs. trace_text (names_in ls) (trace_of (pattern_set_from bs) n m)) is
       ∙ ap (λ k. trace_text (names_in ls) (trace_of (pattern_set_from (rules_and_patterns_in ls)) k m)) same
@@ -101,15 +101,15 @@ module _ (session_options : SessionOptions) (registry : RegistryModel) (x : List
       ∙ sym (ap (λ b. list_command_trace b session_options registry x m response) tells)
 
   -- the bytes below the reply: the lines of unproved patterns, and then the trace
-  pub bytes_told : (m : Module) (response : Response) (bytes unproved : List ℕ) (ls : List Listed) (candidates : List RuleOrPatternModel) (names : List (List ℕ)) (n : ℕ) → unproved ≡ unproved_of registry x.names m.tree → x.trace ≡ EachRewrite → all_listed registry x.names ≡ Some ls → candidates ≡ rules_and_patterns_in ls → names ≡ names_in ls
+  pub bytes_reported : (m : Module) (response : Response) (bytes unproved : List ℕ) (ls : List Listed) (candidates : List RuleOrPatternModel) (names : List (List ℕ)) (n : ℕ) → unproved ≡ unproved_of registry x.names m.tree → x.trace ≡ EachRewrite → all_listed registry x.names ≡ Some ls → candidates ≡ rules_and_patterns_in ls → names ≡ names_in ls
       → n ≡ limit_or session_options.limit x.limit → bytes ≡ bytes_if (is_accepted response) (unproved ++ trace_text names (trace_of (pattern_set_from candidates) n m)) → bytes ≡ list_command_bytes session_options registry x m response
-  bytes_told m response bytes unproved ls candidates names n these tells e is named same told =
-      told ∙ (λ i. bytes_if (is_accepted response) (these i ++ trace_told m response ls candidates names n tells e is named same i))
+  bytes_reported m response bytes unproved ls candidates names n these tells e is named same reported =
+      reported ∙ (λ i. bytes_if (is_accepted response) (these i ++ trace_reported m response ls candidates names n tells e is named same i))
 
   -- the counts of a list command are those of its rewrites
-  fired_told : (m : Module) (response : Response) (ls : List Listed) (candidates : List RuleOrPatternModel) (names : List (List ℕ)) (n : ℕ) → x.trace ≡ Counts → all_listed registry x.names ≡ Some ls → candidates ≡ rules_and_patterns_in ls → names ≡ names_in ls → n ≡ limit_or session_options.limit x.limit
+  fired_reported : (m : Module) (response : Response) (ls : List Listed) (candidates : List RuleOrPatternModel) (names : List (List ℕ)) (n : ℕ) → x.trace ≡ Counts → all_listed registry x.names ≡ Some ls → candidates ≡ rules_and_patterns_in ls → names ≡ names_in ls → n ≡ limit_or session_options.limit x.limit
       → fired_below response names (trace_of (pattern_set_from candidates) n m) ≡ list_command_trace x.trace session_options registry x m response
-  fired_told m response ls candidates names n counts e is named same =
+  fired_reported m response ls candidates names n counts e is named same =
       ap (λ ns. fired_below response ns (trace_of (pattern_set_from candidates) n m)) named
       ∙ ap (λ bs. fired_below response (names_in ls) (trace_of (pattern_set_from bs) n m)) is
       ∙ ap (λ k. fired_below response (names_in ls) (trace_of (pattern_set_from (rules_and_patterns_in ls)) k m)) same
@@ -119,12 +119,12 @@ module _ (session_options : SessionOptions) (registry : RegistryModel) (x : List
   -- the bytes below the reply: the lines of unproved patterns, and then the counts
   pub bytes_fired : (m : Module) (response : Response) (bytes unproved : List ℕ) (ls : List Listed) (candidates : List RuleOrPatternModel) (names : List (List ℕ)) (n : ℕ) → unproved ≡ unproved_of registry x.names m.tree → x.trace ≡ Counts → all_listed registry x.names ≡ Some ls → candidates ≡ rules_and_patterns_in ls → names ≡ names_in ls
       → n ≡ limit_or session_options.limit x.limit → bytes ≡ bytes_if (is_accepted response) (unproved ++ fired_below response names (trace_of (pattern_set_from candidates) n m)) → bytes ≡ list_command_bytes session_options registry x m response
-  bytes_fired m response bytes unproved ls candidates names n these counts e is named same told =
-      told ∙ (λ i. bytes_if (is_accepted response) (these i ++ fired_told m response ls candidates names n counts e is named same i))
+  bytes_fired m response bytes unproved ls candidates names n these counts e is named same reported =
+      reported ∙ (λ i. bytes_if (is_accepted response) (these i ++ fired_reported m response ls candidates names n counts e is named same i))
 
   pub bytes_untold : (m : Module) (response : Response) (bytes unproved : List ℕ) → unproved ≡ unproved_of registry x.names m.tree → x.trace ≡ Off → bytes ≡ bytes_if (is_accepted response) unproved → bytes ≡ list_command_bytes session_options registry x m response
-  bytes_untold m response bytes unproved these tells told =
-      told
+  bytes_untold m response bytes unproved these tells reported =
+      reported
       ∙ ap (bytes_if (is_accepted response)) (these ∙ sym (append-nil (unproved_of registry x.names m.tree)))
       ∙ sym (ap (λ b. bytes_if (is_accepted response) (unproved_of registry x.names m.tree ++ list_command_trace b session_options registry x m response)) tells)
 

@@ -107,13 +107,13 @@ module _ (setting : SessionSetting) where
   fulfils_untold names proved limit s e =
       record { requested = Misplaced NoSuchKey; shows = Nothing; asks = subst (λ (o : Option Transformation). AppliesRule o (Misplaced NoSuchKey)) (sym e) refl; follows = (refl, refl, refl); text = refl }
 
-  asks_told : (names : Option (List RuleName)) (proved : Bool) (limit : Option ℕ) (f : Transformation) (m : Module) → tracing names (limit_or setting.session_options.limit limit) ≡ Some f → SessionCommandAsks setting (Trace names proved limit) m (Ask (call.Change f))
-  asks_told names proved limit f m e = subst (λ (o : Option Transformation). AppliesRule o (Ask (call.Change f))) (sym e) refl
+  asks_reported : (names : Option (List RuleName)) (proved : Bool) (limit : Option ℕ) (f : Transformation) (m : Module) → tracing names (limit_or setting.session_options.limit limit) ≡ Some f → SessionCommandAsks setting (Trace names proved limit) m (Ask (call.Change f))
+  asks_reported names proved limit f m e = subst (λ (o : Option Transformation). AppliesRule o (Ask (call.Change f))) (sym e) refl
 
   -- a traced rewrite
-  pub fulfils_told : (names : Option (List RuleName)) (proved : Bool) (limit : Option ℕ) (f : Transformation) (s t : State) (reply : Reply) (response : Response) (bytes : List ℕ) → tracing names (limit_or setting.session_options.limit limit) ≡ Some f → response ≡ Replied reply → Goes s (call.Change f) reply Nothing t
+  pub fulfils_reported : (names : Option (List RuleName)) (proved : Bool) (limit : Option ℕ) (f : Transformation) (s t : State) (reply : Reply) (response : Response) (bytes : List ℕ) → tracing names (limit_or setting.session_options.limit limit) ≡ Some f → response ≡ Replied reply → Goes s (call.Change f) reply Nothing t
       → bytes ≡ bytes_if (is_accepted (Replied reply)) (trace_by (traced_rules names) (limit_or setting.session_options.limit limit) s.held) → RunsSessionCommand setting s (Trace names proved limit) response bytes t
-  fulfils_told names proved limit f s t reply response bytes e is goes told = rw is (rw told (fulfils_call s t (Trace names proved limit) (call.Change f) reply Nothing (asks_told names proved limit f s.held e) goes))
+  fulfils_reported names proved limit f s t reply response bytes e is goes reported = rw is (rw reported (fulfils_call s t (Trace names proved limit) (call.Change f) reply Nothing (asks_reported names proved limit f s.held e) goes))
 
   -- a traced rewrite, refused since memory ran out
   pub fulfils_forgot : (names : List RuleName) (proved : Bool) (limit : Option ℕ) (s : State) (refusal : Refusal) → refusal ≡ Memory → is_some (rules_named names) ≡ true → RunsSessionCommand setting s (Trace (Some names) proved limit) (Replied (Refused refusal)) [] s
@@ -122,7 +122,7 @@ module _ (setting : SessionSetting) where
       go : (o : Option (List Rule)) → rules_named names ≡ o → RunsSessionCommand setting s (Trace (Some names) proved limit) (Replied (Refused refusal)) [] s
       go None e = absurd (let f : false ≡ true = sym (ap is_some e) ∙ there in cc)
       go (Some rs) e =
-          rw is (fulfils_told (Some names) proved limit (rewriting (by_rules rs) (limit_or setting.session_options.limit limit)) s s (Refused Memory) (Replied (Refused Memory)) [] (ap (option_map (λ rs. rewriting (by_rules rs) (limit_or setting.session_options.limit limit))) e) refl (record { answer = inr (refl, inl refl); panel = all_stay s.panel }) refl)
+          rw is (fulfils_reported (Some names) proved limit (rewriting (by_rules rs) (limit_or setting.session_options.limit limit)) s s (Refused Memory) (Replied (Refused Memory)) [] (ap (option_map (λ rs. rewriting (by_rules rs) (limit_or setting.session_options.limit limit))) e) refl (record { answer = inr (refl, inl refl); panel = all_stay s.panel }) refl)
 
   -- ---- counting what fired
 
@@ -137,7 +137,7 @@ module _ (setting : SessionSetting) where
   -- a rewrite that counts
   pub fulfils_fired : (names : Option (List RuleName)) (proved : Bool) (limit : Option ℕ) (f : Transformation) (s t : State) (reply : Reply) (response : Response) (bytes : List ℕ) → tracing names (limit_or setting.session_options.limit limit) ≡ Some f → response ≡ Replied reply → Goes s (call.Change f) reply Nothing t
       → bytes ≡ fired_by (traced_rules names) (limit_or setting.session_options.limit limit) s.held (Replied reply) → RunsSessionCommand setting s (Fired names proved limit) response bytes t
-  fulfils_fired names proved limit f s t reply response bytes e is goes told = rw is (rw told (fulfils_call s t (Fired names proved limit) (call.Change f) reply Nothing (asks_fired names proved limit f s.held e) goes))
+  fulfils_fired names proved limit f s t reply response bytes e is goes reported = rw is (rw reported (fulfils_call s t (Fired names proved limit) (call.Change f) reply Nothing (asks_fired names proved limit f s.held e) goes))
 
   -- a rewrite that counts, refused since memory ran out
   pub fulfils_unkept : (names : List RuleName) (proved : Bool) (limit : Option ℕ) (s : State) (refusal : Refusal) → refusal ≡ Memory → is_some (rules_named names) ≡ true → RunsSessionCommand setting s (Fired (Some names) proved limit) (Replied (Refused refusal)) [] s
@@ -153,7 +153,7 @@ module _ (setting : SessionSetting) where
   -- a traced conversion; a refused conversion has a trace too
   pub fulfils_converted : (target : Target) (s t : State) (reply : Reply) (response : Response) (bytes : List ℕ) → response ≡ Replied reply → Goes s (call.Change (conversion target)) reply Nothing t
       → bytes ≡ conversion_text (command_aim target) s.held reply → RunsSessionCommand setting s (TraceConvert target) response bytes t
-  fulfils_converted target s t reply response bytes is goes told = rw is (rw told (fulfils_call s t (TraceConvert target) (call.Change (conversion target)) reply Nothing refl goes))
+  fulfils_converted target s t reply response bytes is goes reported = rw is (rw reported (fulfils_call s t (TraceConvert target) (call.Change (conversion target)) reply Nothing refl goes))
 
   -- ---- canonicalizing one operation
 
@@ -202,7 +202,7 @@ module _ (setting : SessionSetting) where
 
   by_trace : (s : State) (names : Option (List RuleName)) (proved : Bool) (limit : Option ℕ) (f : Option Transformation) → tracing names (limit_or setting.session_options.limit limit) ≡ f → SomeFulfilled s (Trace names proved limit)
   by_trace s names proved limit None e = (Replied (Refused NoSuchKey), [], s, fulfils_untold names proved limit s e)
-  by_trace s names proved limit (Some f) e = by_call s (Trace names proved limit) (call.Change f) (asks_told names proved limit f s.held e)
+  by_trace s names proved limit (Some f) e = by_call s (Trace names proved limit) (call.Change f) (asks_reported names proved limit f s.held e)
 
   by_fired : (s : State) (names : Option (List RuleName)) (proved : Bool) (limit : Option ℕ) (f : Option Transformation) → tracing names (limit_or setting.session_options.limit limit) ≡ f → SomeFulfilled s (Fired names proved limit)
   by_fired s names proved limit None e = (Replied (Refused NoSuchKey), [], s, fulfils_unfired names proved limit s e)
@@ -229,30 +229,30 @@ module _ (setting : SessionSetting) where
   some_fulfilled s (Why x name) = by_why s x name (requested_rules name x s.held) (has_id x s.held.tree) refl refl
 
 -- the trace of a rewrite by rules, if the list of lines was empty at first
-pub told_trace : (rs : List Rule) (n limit : ℕ) (m : Module) (called : Result Ended Refusal) (before after bytes : List ℕ) (names : List (List ℕ)) → n ≡ limit → before ≡ [] → names ≡ [] → OnOk called (after ≡ before ++ trace_text names (trace_of (by_rules rs) n m))
+pub reported_trace : (rs : List Rule) (n limit : ℕ) (m : Module) (called : Result Ended Refusal) (before after bytes : List ℕ) (names : List (List ℕ)) → n ≡ limit → before ≡ [] → names ≡ [] → OnOk called (after ≡ before ++ trace_text names (trace_of (by_rules rs) n m))
     → bytes ≡ bytes_if (is_accepted (Replied (canonical_reply called))) after → bytes ≡ bytes_if (is_accepted (Replied (canonical_reply called))) (trace_by (Some rs) limit m)
-told_trace rs n limit m (Ok o) before after bytes names same none unnamed told is =
-    is ∙ told ∙ ap (λ l. l ++ trace_text names (trace_of (by_rules rs) n m)) none ∙ ap (λ ns. trace_text ns (trace_of (by_rules rs) n m)) unnamed ∙ ap (λ k. trace_text [] (trace_of (by_rules rs) k m)) same
-told_trace rs n limit m (Err e) before after bytes names same none unnamed told is = is
+reported_trace rs n limit m (Ok o) before after bytes names same none unnamed reported is =
+    is ∙ reported ∙ ap (λ l. l ++ trace_text names (trace_of (by_rules rs) n m)) none ∙ ap (λ ns. trace_text ns (trace_of (by_rules rs) n m)) unnamed ∙ ap (λ k. trace_text [] (trace_of (by_rules rs) k m)) same
+reported_trace rs n limit m (Err e) before after bytes names same none unnamed reported is = is
 
 -- the same for rules given by name
-pub told_named : (names : List RuleName) (rs : List Rule) (n limit : ℕ) (m : Module) (called : Result Ended Refusal) (before after bytes : List ℕ) (labels : List (List ℕ)) → Some rs ≡ rules_named names → n ≡ limit → before ≡ [] → labels ≡ [] → OnOk called (after ≡ before ++ trace_text labels (trace_of (by_rules rs) n m))
+pub reported_named : (names : List RuleName) (rs : List Rule) (n limit : ℕ) (m : Module) (called : Result Ended Refusal) (before after bytes : List ℕ) (labels : List (List ℕ)) → Some rs ≡ rules_named names → n ≡ limit → before ≡ [] → labels ≡ [] → OnOk called (after ≡ before ++ trace_text labels (trace_of (by_rules rs) n m))
     → bytes ≡ bytes_if (is_accepted (Replied (canonical_reply called))) after → bytes ≡ bytes_if (is_accepted (Replied (canonical_reply called))) (trace_by (traced_rules (Some names)) limit m)
-told_named names rs n limit m called before after bytes labels rules same none unnamed told is =
-    told_trace rs n limit m called before after bytes labels same none unnamed told is ∙ ap (λ o. bytes_if (is_accepted (Replied (canonical_reply called))) (trace_by o limit m)) rules
+reported_named names rs n limit m called before after bytes labels rules same none unnamed reported is =
+    reported_trace rs n limit m called before after bytes labels same none unnamed reported is ∙ ap (λ o. bytes_if (is_accepted (Replied (canonical_reply called))) (trace_by o limit m)) rules
 
 -- the counts of a rewrite by rules, if the list of lines was empty at first
-pub told_fired : (rs : List Rule) (n limit : ℕ) (m : Module) (called : Result Ended Refusal) (before after bytes : List ℕ) (names : List (List ℕ)) → n ≡ limit → before ≡ [] → names ≡ [] → OnOk called (after ≡ before ++ fired_below (Replied (canonical_reply called)) names (trace_of (by_rules rs) n m))
+pub reported_fired : (rs : List Rule) (n limit : ℕ) (m : Module) (called : Result Ended Refusal) (before after bytes : List ℕ) (names : List (List ℕ)) → n ≡ limit → before ≡ [] → names ≡ [] → OnOk called (after ≡ before ++ fired_below (Replied (canonical_reply called)) names (trace_of (by_rules rs) n m))
     → bytes ≡ bytes_if (is_accepted (Replied (canonical_reply called))) after → bytes ≡ fired_by (Some rs) limit m (Replied (canonical_reply called))
-told_fired rs n limit m (Ok o) before after bytes names same none unnamed told is =
-    is ∙ told ∙ ap (λ (l : List ℕ). l ++ fired_below (Replied (canonical_reply (Ok o))) names (trace_of (by_rules rs) n m)) none ∙ ap (λ (ns : List (List ℕ)). fired_below (Replied (canonical_reply (Ok o))) ns (trace_of (by_rules rs) n m)) unnamed ∙ ap (λ (k : ℕ). fired_below (Replied (canonical_reply (Ok o))) [] (trace_of (by_rules rs) k m)) same
-told_fired rs n limit m (Err e) before after bytes names same none unnamed told is = is
+reported_fired rs n limit m (Ok o) before after bytes names same none unnamed reported is =
+    is ∙ reported ∙ ap (λ (l : List ℕ). l ++ fired_below (Replied (canonical_reply (Ok o))) names (trace_of (by_rules rs) n m)) none ∙ ap (λ (ns : List (List ℕ)). fired_below (Replied (canonical_reply (Ok o))) ns (trace_of (by_rules rs) n m)) unnamed ∙ ap (λ (k : ℕ). fired_below (Replied (canonical_reply (Ok o))) [] (trace_of (by_rules rs) k m)) same
+reported_fired rs n limit m (Err e) before after bytes names same none unnamed reported is = is
 
 -- the same for rules given by name
 pub fired_named : (names : List RuleName) (rs : List Rule) (n limit : ℕ) (m : Module) (called : Result Ended Refusal) (before after bytes : List ℕ) (labels : List (List ℕ)) → Some rs ≡ rules_named names → n ≡ limit → before ≡ [] → labels ≡ [] → OnOk called (after ≡ before ++ fired_below (Replied (canonical_reply called)) labels (trace_of (by_rules rs) n m))
     → bytes ≡ bytes_if (is_accepted (Replied (canonical_reply called))) after → bytes ≡ fired_by (traced_rules (Some names)) limit m (Replied (canonical_reply called))
-fired_named names rs n limit m called before after bytes labels rules same none unnamed told is =
-    told_fired rs n limit m called before after bytes labels same none unnamed told is ∙ ap (λ (o : Option (List Rule)). fired_by o limit m (Replied (canonical_reply called))) rules
+fired_named names rs n limit m called before after bytes labels rules same none unnamed reported is =
+    reported_fired rs n limit m called before after bytes labels same none unnamed reported is ∙ ap (λ (o : Option (List Rule)). fired_by o limit m (Replied (canonical_reply called))) rules
 
 -- a session command is never refused at a byte of a text
 never_unparsed : (setting : SessionSetting) (o : SessionCommand) (m : Module) (refusal : Refusal) (offset : Option ℕ) → SessionCommandAsks setting o m (Unparsed refusal offset) → ⊥

@@ -23,7 +23,7 @@ module _ (session_options : SessionOptions) where
   next_to_within None s t c response within bytes so h = obeys_within session_options s t c response within bytes so h
   next_to_within (Some p) s t c response within bytes (inl same) h = subst (λ (r : Response). AppliesUserPattern p.0 p.1 s r bytes t) (sym same) h
   next_to_within (Some p) s t c response within bytes (inr (why, offset, is, then)) h =
-      absurd (subst (λ (r : Response). Follows s (Ask (call.Change (applying_user_pattern p.0.shape p.1))) r Nothing t) is h.0)
+      absurd (subst (λ (r : Response). Follows s (Ask (call.Change (applying_user_pattern p.0.rewrite_pattern p.1))) r Nothing t) is h.0)
 
   -- each command has an answer
   abbrev pub SomeNextTo : Option (Kept × ℕ) → State → Command → Type 0
@@ -43,5 +43,5 @@ module _ (session_options : SessionOptions) where
   pub next_to_none_headroom : (own : Option (Kept × ℕ)) (full : Type 0) (s : State) (c : Command) (response : Response) → own ≡ None → AsksHeadroom full session_options s c response → NextToHeadroom full session_options own s c response
   next_to_none_headroom own full s c response e h = subst (λ (o : Option (Kept × ℕ)). NextToHeadroom full session_options o s c response) (sym e) h
 
-  pub next_to_some_headroom : (own : Option (Kept × ℕ)) (full : Type 0) (s : State) (c : Command) (k : Kept) (x : ℕ) (response : Response) → own ≡ Some (k, x) → IsContextFull full s (applying_user_pattern k.shape x) response → NextToHeadroom full session_options own s c response
+  pub next_to_some_headroom : (own : Option (Kept × ℕ)) (full : Type 0) (s : State) (c : Command) (k : Kept) (x : ℕ) (response : Response) → own ≡ Some (k, x) → IsContextFull full s (applying_user_pattern k.rewrite_pattern x) response → NextToHeadroom full session_options own s c response
   next_to_some_headroom own full s c k x response e h = subst (λ (o : Option (Kept × ℕ)). NextToHeadroom full session_options o s c response) (sym e) h

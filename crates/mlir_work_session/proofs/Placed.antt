@@ -67,18 +67,18 @@ pub point_next_to : (h : TransactionModel) (s : Stored) (x : Option ℕ) (point 
 point_next_to h s x point r same e = point_means h.ctx x point h.store.module_of.tree ∙ (ap (λ (s : Stored). point_place x point s.module_of.tree) (sym same) ∙ e)
 
 -- the node's arguments say whether a region has a block
-blocks_told : (r : ℕ) (rs : Regions) → is_some (option_and_then (λ a. a) (slice_get (regions_arguments rs) r)) ≡ is_some (option_and_then ops_in (region_at r rs))
-blocks_told r no_regions = refl
-blocks_told zero (region empty rs) = refl
-blocks_told zero (region (block args os) rs) = refl
-blocks_told (suc r) (region a rs) = blocks_told r rs
+blocks_reported : (r : ℕ) (rs : Regions) → is_some (option_and_then (λ a. a) (slice_get (regions_arguments rs) r)) ≡ is_some (option_and_then ops_in (region_at r rs))
+blocks_reported r no_regions = refl
+blocks_reported zero (region empty rs) = refl
+blocks_reported zero (region (block args os) rs) = refl
+blocks_reported (suc r) (region a rs) = blocks_reported r rs
 
-pub block_told : (x r : ℕ) (s : Stored) (n : Node) → has_id x s.module_of.tree ≡ true → option_map node_of (known x s) ≡ Some n → is_some (option_and_then (λ a. a) (slice_get n.arguments r)) ≡ is_some (ops_at x r s.module_of.tree)
-block_told x r s n there e = go (find x s.module_of.tree) (ap (option_map node_of) (sym (known_there x s there)) ∙ e)
+pub block_reported : (x r : ℕ) (s : Stored) (n : Node) → has_id x s.module_of.tree ≡ true → option_map node_of (known x s) ≡ Some n → is_some (option_and_then (λ a. a) (slice_get n.arguments r)) ≡ is_some (ops_at x r s.module_of.tree)
+block_reported x r s n there e = go (find x s.module_of.tree) (ap (option_map node_of) (sym (known_there x s there)) ∙ e)
   where
     go : (o : Option Op) → option_map node_of o ≡ Some n → is_some (option_and_then (λ a. a) (slice_get n.arguments r)) ≡ is_some (option_and_then (λ (o : Op). option_and_then ops_in (region_at r (regions o))) o)
     go None f = absurd cc
-    go (Some (op h rs)) f = (let same : node_of (op h rs) ≡ n = cc in ap (λ (m : Node). is_some (option_and_then (λ a. a) (slice_get m.arguments r))) (sym same) ∙ blocks_told r rs)
+    go (Some (op h rs)) f = (let same : node_of (op h rs) ≡ n = cc in ap (λ (m : Node). is_some (option_and_then (λ a. a) (slice_get m.arguments r))) (sym same) ∙ blocks_reported r rs)
 
 pub no_block : (x r : ℕ) (t : Op) → has_id x t ≡ false → is_some (ops_at x r t) ≡ false
 no_block x r t absent = ap (λ o. is_some (option_and_then (λ (o : Op). option_and_then ops_in (region_at r (regions o))) o)) (absent_find x t absent)

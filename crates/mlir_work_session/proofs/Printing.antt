@@ -19,7 +19,7 @@ use Rattle.mlir_work_script_base.specs.Lines.{lines_of}
 use Rattle.mlir_work_script_base.specs.Writes.{Stream}
 use Rattle.mlir_work_script_base.specs.Limits.{most_script_bytes}
 use Rattle.mlir_work_session.specs.Machine.{RunsCommand, response_of}
-use Rattle.mlir_work_transforms.specs.registry.Notices.{IsWithin, Plain, is_right_under}
+use Rattle.mlir_work_transforms.specs.registry.Notices.{IsWithin, Simple, is_right_under}
 use Rattle.mlir_work_transforms.specs.registry.Replies.{is_accepted}
 use Rattle.mlir_work_transforms.specs.registry.Registry.{RegistryModel}
 use Rattle.mlir_work_transforms.specs.registry.ReplyLines.{reply_line}
@@ -158,30 +158,30 @@ answered session_options s reply shows (inl p) = subst (λ (r : Reply). RunsComm
 answered session_options s reply shows (inr p) = subst (λ (r : Reply). RunsCommand session_options s said.Print (response_of r) shows s) (sym p.0) (subst (λ (o : List ℕ). RunsCommand session_options s said.Print (Replied (Refused Memory)) o s) (sym p.1) (shown_none session_options s))
 
 -- a line that prints the module is answered with its text, or with `Memory`
-printed : (setting : SessionSetting) (s : Sitting) (spoken : Spoken) (reply : Reply) (shows : List ℕ) → prints_alone spoken ≡ true → says_nothing spoken ≡ false → IsPrinted s.state.held.tree reply shows → Replies setting s spoken (Plain (response_of reply)) shows s
+printed : (setting : SessionSetting) (s : Sitting) (spoken : Spoken) (reply : Reply) (shows : List ℕ) → prints_alone spoken ≡ true → says_nothing spoken ≡ false → IsPrinted s.state.held.tree reply shows → Replies setting s spoken (Simple (response_of reply)) shows s
 printed setting s Nothing reply shows e f p = absurd (true≢false f)
 printed setting s (Ordered session_command) reply shows e f p = absurd (true≢false (sym e))
 printed setting s (Registered session_command) reply shows e f p = absurd (true≢false (sym e))
 printed setting s Bad reply shows e f p = absurd (true≢false (sym e))
-printed setting s (Obey command) reply shows e f p = subst (λ (k : Command). Replies setting s (Obey k) (Plain (response_of reply)) shows s) (sym (the_print command e)) (response_of reply, refl, answered setting.session_options s.state reply shows p, refl)
+printed setting s (Obey command) reply shows e f p = subst (λ (k : Command). Replies setting s (Obey k) (Simple (response_of reply)) shows s) (sym (the_print command e)) (response_of reply, refl, answered setting.session_options s.state reply shows p, refl)
 
 -- the refusal has no note
-untold : (explain : Bool) (m : Module) (t : Operation) (reply : Reply) (shows : List ℕ) → IsPrinted t reply shows → IsAbout explain (Plain (response_of reply)) (Obey said.Print) m []
+untold : (explain : Bool) (m : Module) (t : Operation) (reply : Reply) (shows : List ℕ) → IsPrinted t reply shows → IsAbout explain (Simple (response_of reply)) (Obey said.Print) m []
 untold false m t reply shows p = refl
-untold true m t reply shows (inl p) = subst (λ (r : Reply). IsAbout true (Plain (response_of r)) (Obey said.Print) m []) (sym p.0) (inl refl)
-untold true m t reply shows (inr p) = subst (λ (r : Reply). IsAbout true (Plain (response_of r)) (Obey said.Print) m []) (sym p.0) (inl refl)
+untold true m t reply shows (inl p) = subst (λ (r : Reply). IsAbout true (Simple (response_of r)) (Obey said.Print) m []) (sym p.0) (inl refl)
+untold true m t reply shows (inr p) = subst (λ (r : Reply). IsAbout true (Simple (response_of r)) (Obey said.Print) m []) (sym p.0) (inl refl)
 
 -- the answer has no listing
-bare : (explain brief : Bool) (s : State) (n : ℕ) (reply : Reply) (shows : List ℕ) → IsPrinted s.held.tree reply shows → IsReplied explain (Obey said.Print) (not brief && false) s n None (Plain (response_of reply)) shows (reply_line n (response_of reply) ++ shows)
+bare : (explain brief : Bool) (s : State) (n : ℕ) (reply : Reply) (shows : List ℕ) → IsPrinted s.held.tree reply shows → IsReplied explain (Obey said.Print) (not brief && false) s n None (Simple (response_of reply)) shows (reply_line n (response_of reply) ++ shows)
 bare explain true s n reply shows p = ([], [], untold explain s.held s.held.tree reply shows p, refl, λ i. sym (append-nil (reply_line n (response_of reply))) i ++ sym (append-nil shows) i)
 bare explain false s n reply shows p = ([], [], untold explain s.held s.held.tree reply shows p, refl, λ i. sym (append-nil (reply_line n (response_of reply))) i ++ sym (append-nil shows) i)
 
-unlisted : (explain brief : Bool) (s : State) (n : ℕ) (spoken : Spoken) (reply : Reply) (shows : List ℕ) → prints_alone spoken ≡ true → says_nothing spoken ≡ false → IsPrinted s.held.tree reply shows → IsReplied explain spoken (not brief && not (asks spoken)) s n None (Plain (response_of reply)) shows (reply_line n (response_of reply) ++ shows)
+unlisted : (explain brief : Bool) (s : State) (n : ℕ) (spoken : Spoken) (reply : Reply) (shows : List ℕ) → prints_alone spoken ≡ true → says_nothing spoken ≡ false → IsPrinted s.held.tree reply shows → IsReplied explain spoken (not brief && not (asks spoken)) s n None (Simple (response_of reply)) shows (reply_line n (response_of reply) ++ shows)
 unlisted explain brief s n Nothing reply shows e f p = absurd (true≢false f)
 unlisted explain brief s n (Ordered session_command) reply shows e f p = absurd (true≢false (sym e))
 unlisted explain brief s n (Registered session_command) reply shows e f p = absurd (true≢false (sym e))
 unlisted explain brief s n Bad reply shows e f p = absurd (true≢false (sym e))
-unlisted explain brief s n (Obey command) reply shows e f p = subst (λ (k : Command). IsReplied explain (Obey k) (not brief && not (shows_alone k)) s n None (Plain (response_of reply)) shows (reply_line n (response_of reply) ++ shows)) (sym (the_print command e)) (bare explain brief s n reply shows p)
+unlisted explain brief s n (Obey command) reply shows e f p = subst (λ (k : Command). IsReplied explain (Obey k) (not brief && not (shows_alone k)) s n None (Simple (response_of reply)) shows (reply_line n (response_of reply) ++ shows)) (sym (the_print command e)) (bare explain brief s n reply shows p)
 
 -- the answer has no empty line at the end
 unended : (ends : Bool) (P : List ℕ → Type 0) (out : List ℕ) → ends ≡ false → P out → IsEnded ends P out
@@ -195,15 +195,15 @@ pub more_print : (text line more : List ℕ) → lines_of text ≡ line ∷ line
 more_print text line more e h = and_parts _ _ (sym (first_prints text line more e) ∙ h)
 
 -- the reply has no byte offset
-printed_bounded : (bytes : ℕ) (t : Operation) (reply : Reply) (shows : List ℕ) → IsPrinted t reply shows → IsWithin bytes (Plain (response_of reply))
-printed_bounded bytes t reply shows (inl h) = subst (λ (r : Reply). IsWithin bytes (Plain (response_of r))) (sym h.0) (λ why offset e. absurd (let f : Plain (Replied Done) ≡ Plain (TextRefusedAt why offset) = e in cc))
-printed_bounded bytes t reply shows (inr h) = subst (λ (r : Reply). IsWithin bytes (Plain (response_of r))) (sym h.0) (λ why offset e. absurd (let f : Plain (Replied (Refused Memory)) ≡ Plain (TextRefusedAt why offset) = e in cc))
+printed_bounded : (bytes : ℕ) (t : Operation) (reply : Reply) (shows : List ℕ) → IsPrinted t reply shows → IsWithin bytes (Simple (response_of reply))
+printed_bounded bytes t reply shows (inl h) = subst (λ (r : Reply). IsWithin bytes (Simple (response_of r))) (sym h.0) (λ why offset e. absurd (let f : Simple (Replied Done) ≡ Simple (TextRefusedAt why offset) = e in cc))
+printed_bounded bytes t reply shows (inr h) = subst (λ (r : Reply). IsWithin bytes (Simple (response_of r))) (sym h.0) (λ why offset e. absurd (let f : Simple (Replied (Refused Memory)) ≡ Simple (TextRefusedAt why offset) = e in cc))
 
 -- an accepted reply is right, in a strict run too
-printed_right : (strict : Bool) (t : Operation) (reply : Reply) (shows : List ℕ) → IsPrinted t reply shows → is_right_under strict None (Plain (response_of reply)) shows ≡ is_accepted (response_of reply)
+printed_right : (strict : Bool) (t : Operation) (reply : Reply) (shows : List ℕ) → IsPrinted t reply shows → is_right_under strict None (Simple (response_of reply)) shows ≡ is_accepted (response_of reply)
 printed_right false t reply shows p = refl
-printed_right true t reply shows (inl p) = subst (λ (r : Reply). is_right_under true None (Plain (response_of r)) shows ≡ is_accepted (response_of r)) (sym p.0) refl
-printed_right true t reply shows (inr p) = subst (λ (r : Reply). is_right_under true None (Plain (response_of r)) shows ≡ is_accepted (response_of r)) (sym p.0) refl
+printed_right true t reply shows (inl p) = subst (λ (r : Reply). is_right_under true None (Simple (response_of r)) shows ≡ is_accepted (response_of r)) (sym p.0) refl
+printed_right true t reply shows (inr p) = subst (λ (r : Reply). is_right_under true None (Simple (response_of r)) shows ≡ is_accepted (response_of r)) (sym p.0) refl
 
 none_is : (o : Option Refusal) → is_none o ≡ true → None ≡ o
 none_is None e = refl
@@ -214,7 +214,7 @@ pub print_step : (setting : SessionSetting) → setting.session_options.ends ≡
 print_step setting unend n s text line more reply shows e prints f p later rest h =
     let is = (and_parts _ _ prints).1 in
     subst (λ (b : Bool). Runs setting n s (lines_of text) (worse b later) ((reply_line n (response_of reply) ++ shows) ++ rest)) (printed_right setting.session_options.strict s.state.held.tree reply shows p)
-    (run_step setting n s text line more None (line_says line) (Plain (response_of reply)) shows s (reply_line n (response_of reply) ++ shows) e (none_is _ (and_parts _ _ prints).0) refl f (printed setting s (line_says line) reply shows is (sym f) p) (unended setting.session_options.ends (IsReplied setting.session_options.explain (line_says line) (not setting.session_options.brief && not (asks (line_says line))) s.state n None (Plain (response_of reply)) shows) (reply_line n (response_of reply) ++ shows) unend (unlisted setting.session_options.explain setting.session_options.brief s.state n (line_says line) reply shows is (sym f) p)) (printed_bounded setting.session_options.bytes s.state.held.tree reply shows p) later rest h)
+    (run_step setting n s text line more None (line_says line) (Simple (response_of reply)) shows s (reply_line n (response_of reply) ++ shows) e (none_is _ (and_parts _ _ prints).0) refl f (printed setting s (line_says line) reply shows is (sym f) p) (unended setting.session_options.ends (IsReplied setting.session_options.explain (line_says line) (not setting.session_options.brief && not (asks (line_says line))) s.state n None (Simple (response_of reply)) shows) (reply_line n (response_of reply) ++ shows) unend (unlisted setting.session_options.explain setting.session_options.brief s.state n (line_says line) reply shows is (sym f) p)) (printed_bounded setting.session_options.bytes s.state.held.tree reply shows p) later rest h)
 
 -- ---- sessions
 

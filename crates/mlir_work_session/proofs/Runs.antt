@@ -9,7 +9,7 @@ use Rattle.mlir_work_script.specs.Commands.{Spoken, Nothing, Bad, Obey, Ordered,
 use Rattle.mlir_work_script.specs.Expecting.{line_expects}
 use Rattle.mlir_work_script_base.specs.Lines.{lines_of}
 use Rattle.mlir_work_script_base.specs.Writes.{Stream}
-use Rattle.mlir_work_transforms.specs.registry.Notices.{IsWithin, Notice, Plain, is_right_under}
+use Rattle.mlir_work_transforms.specs.registry.Notices.{IsWithin, Notice, Simple, is_right_under}
 use Rattle.ir_event.specs.Modules.{Module}
 use Rattle.mlir_work_session.specs.Explained.{IsAbout, about_notice}
 use Rattle.mlir_work_session.specs.Output.{IsAnswered, IsEnded, IsLineAnswered, Line, SessionSetting, Replied, Replies, IsReplied, Runs, accepted_after, end_of, number_after, worse, says_nothing, asks, response_lines}
@@ -47,19 +47,19 @@ pub runs_replied : (setting : SessionSetting) (n : ℕ) (s : Sitting) (text : Li
 runs_replied setting n s text line more status out e f h = rw e (line_replied (λ m t st o. Runs setting m t (lines_of more) st o) setting n s (line_expects line) (line_says line) status out f h)
 
 -- a reply to the first line, followed by a run of the rest, is a run
-pub run_step : (setting : SessionSetting) (n : ℕ) (s : Sitting) (text line more : List ℕ) (expected : Option Refusal) (spoken : Spoken) (reply : Notice) (shows : List ℕ) (t : Sitting) (told : List ℕ) →
-    lines_of text ≡ line ∷ lines_of more → expected ≡ line_expects line → spoken ≡ line_says line → false ≡ says_nothing spoken → Replies setting s spoken reply shows t → IsEnded setting.session_options.ends (IsReplied setting.session_options.explain spoken (not setting.session_options.brief && not (asks spoken)) t.state n expected reply shows) told → IsWithin setting.session_options.bytes reply →
-    (later : ℕ) (rest : List ℕ) → Runs setting (n + 1) t (lines_of more) later rest → Runs setting n s (lines_of text) (worse (is_right_under setting.session_options.strict expected reply shows) later) (told ++ rest)
-run_step setting n s text line more expected spoken reply shows t told e same is f r told_is full later rest h =
+pub run_step : (setting : SessionSetting) (n : ℕ) (s : Sitting) (text line more : List ℕ) (expected : Option Refusal) (spoken : Spoken) (reply : Notice) (shows : List ℕ) (t : Sitting) (reported : List ℕ) →
+    lines_of text ≡ line ∷ lines_of more → expected ≡ line_expects line → spoken ≡ line_says line → false ≡ says_nothing spoken → Replies setting s spoken reply shows t → IsEnded setting.session_options.ends (IsReplied setting.session_options.explain spoken (not setting.session_options.brief && not (asks spoken)) t.state n expected reply shows) reported → IsWithin setting.session_options.bytes reply →
+    (later : ℕ) (rest : List ℕ) → Runs setting (n + 1) t (lines_of more) later rest → Runs setting n s (lines_of text) (worse (is_right_under setting.session_options.strict expected reply shows) later) (reported ++ rest)
+run_step setting n s text line more expected spoken reply shows t reported e same is f r reported_is full later rest h =
     rw e (line_replied (λ m t st o. Runs setting m t (lines_of more) st o) setting n s (line_expects line) (line_says line) _ _ (rw (← is) (sym f)) (record {
       notice = reply;
       shows = shows;
       after = t;
-      text = told;
+      text = reported;
       later = later;
       rest = rest;
       replies = rw (← is) r;
-      replied = rw (← same, ← is) told_is;
+      replied = rw (← same, ← is) reported_is;
       full = full;
       goes_on = h;
       status_is = rw (← same) refl;
@@ -73,50 +73,50 @@ abbrev pub status_before : Option Bool → ℕ → ℕ
 status_before None later = later
 status_before (Some accepted) later = worse accepted later
 
-pub worse_after : (accepted : Bool) (told : Option Bool) (later : ℕ) → worse accepted (status_before told later) ≡ worse (accepted_after accepted told) later
+pub worse_after : (accepted : Bool) (reported : Option Bool) (later : ℕ) → worse accepted (status_before reported later) ≡ worse (accepted_after accepted reported) later
 worse_after accepted None later = refl
 worse_after accepted (Some more) later = worse_both accepted more later
 
 -- a line uses at most one number
-pub one_number : (n : ℕ) (told : Option Bool) → number_after n told ≤ n + 1
+pub one_number : (n : ℕ) (reported : Option Bool) → number_after n reported ≤ n + 1
 one_number n None = omega arith
 one_number n (Some accepted) = omega arith
 
 -- an answer to the first line, followed by a run of the rest, is a run
-pub line_answered : (Rest : ℕ → Sitting → ℕ → List ℕ → Type 0) (setting : SessionSetting) (n : ℕ) (s : Sitting) (expected : Option Refusal) (spoken : Spoken) (t : Sitting) (told : Option Bool) (out : List ℕ) → IsAnswered setting n s expected spoken t told out →
-    (later : ℕ) (rest : List ℕ) → Rest (number_after n told) t later rest → Line Rest setting n s expected spoken (status_before told later) (out ++ rest)
+pub line_answered : (Rest : ℕ → Sitting → ℕ → List ℕ → Type 0) (setting : SessionSetting) (n : ℕ) (s : Sitting) (expected : Option Refusal) (spoken : Spoken) (t : Sitting) (reported : Option Bool) (out : List ℕ) → IsAnswered setting n s expected spoken t reported out →
+    (later : ℕ) (rest : List ℕ) → Rest (number_after n reported) t later rest → Line Rest setting n s expected spoken (status_before reported later) (out ++ rest)
 line_answered Rest setting n s expected spoken t None out (nothing, same, none) later rest h = rw none (line_skipped Rest setting n s expected spoken later rest nothing (subst (λ (x : Sitting). Rest n x later rest) same h))
-line_answered Rest setting n s expected spoken t (Some accepted) out told later rest h =
-    line_replied Rest setting n s expected spoken (worse accepted later) (out ++ rest) told.something (record {
-      notice = told.notice;
-      shows = told.shows;
+line_answered Rest setting n s expected spoken t (Some accepted) out reported later rest h =
+    line_replied Rest setting n s expected spoken (worse accepted later) (out ++ rest) reported.something (record {
+      notice = reported.notice;
+      shows = reported.shows;
       after = t;
       text = out;
       later = later;
       rest = rest;
-      replies = told.replies;
-      replied = told.replied;
-      full = told.full;
+      replies = reported.replies;
+      replied = reported.replied;
+      full = reported.full;
       goes_on = h;
-      status_is = rw told.right_is refl;
+      status_is = rw reported.right_is refl;
       out_is = refl;
     })
 
-pub run_answered : (setting : SessionSetting) (n : ℕ) (s : Sitting) (text line more : List ℕ) (t : Sitting) (told : Option Bool) (out : List ℕ) → lines_of text ≡ line ∷ lines_of more → IsAnswered setting n s (line_expects line) (line_says line) t told out →
-    (later : ℕ) (rest : List ℕ) → Runs setting (number_after n told) t (lines_of more) later rest → Runs setting n s (lines_of text) (status_before told later) (out ++ rest)
-run_answered setting n s text line more t told out e answered later rest h = rw e (line_answered (λ m x st o. Runs setting m x (lines_of more) st o) setting n s (line_expects line) (line_says line) t told out answered later rest h)
+pub run_answered : (setting : SessionSetting) (n : ℕ) (s : Sitting) (text line more : List ℕ) (t : Sitting) (reported : Option Bool) (out : List ℕ) → lines_of text ≡ line ∷ lines_of more → IsAnswered setting n s (line_expects line) (line_says line) t reported out →
+    (later : ℕ) (rest : List ℕ) → Runs setting (number_after n reported) t (lines_of more) later rest → Runs setting n s (lines_of text) (status_before reported later) (out ++ rest)
+run_answered setting n s text line more t reported out e answered later rest h = rw e (line_answered (λ m x st o. Runs setting m x (lines_of more) st o) setting n s (line_expects line) (line_says line) t reported out answered later rest h)
 
 -- an answer consists of a reply, the bytes that it shows, a listing and the empty line
-pub told_of : (setting : SessionSetting) (n : ℕ) (s : Sitting) (expected : Option Refusal) (spoken line_spoken : Spoken) (reply : Notice) (shows : List ℕ) (t : Sitting) (text : List ℕ) (accepted : Bool) →
+pub reported_of : (setting : SessionSetting) (n : ℕ) (s : Sitting) (expected : Option Refusal) (spoken line_spoken : Spoken) (reply : Notice) (shows : List ℕ) (t : Sitting) (text : List ℕ) (accepted : Bool) →
     spoken ≡ line_spoken → false ≡ says_nothing spoken → Replies setting s spoken reply shows t → IsReplied setting.session_options.explain spoken (not setting.session_options.brief && not (asks spoken)) t.state n expected reply shows text → IsWithin setting.session_options.bytes reply → accepted ≡ is_right_under setting.session_options.strict expected reply shows →
     IsLineAnswered setting n s expected line_spoken t accepted (text ++ end_of setting.session_options.ends)
-told_of setting n s expected spoken line_spoken reply shows t text accepted is f r told full well =
+reported_of setting n s expected spoken line_spoken reply shows t text accepted is f r reported full well =
     rw (← is) (record {
       notice = reply;
       shows = shows;
       something = sym f;
       replies = r;
-      replied = (text, told, refl);
+      replied = (text, reported, refl);
       full = full;
       right_is = well;
     })
@@ -132,14 +132,14 @@ some_replied Rest setting n s expected spoken reply shows t r full some =
     let about = some_about setting.session_options.explain reply spoken t.state.held in
     let more = some_listing_if (not setting.session_options.brief && not (asks spoken)) t.state in
     let rest = some (n + 1) t in
-    let told = (response_lines n expected reply about.0 ++ (shows ++ more.0)) ++ end_of setting.session_options.ends in (
+    let reported = (response_lines n expected reply about.0 ++ (shows ++ more.0)) ++ end_of setting.session_options.ends in (
       worse (is_right_under setting.session_options.strict expected reply shows) rest.0,
-      told ++ rest.1,
+      reported ++ rest.1,
       record {
         notice = reply;
         shows = shows;
         after = t;
-        text = told;
+        text = reported;
         later = rest.0;
         rest = rest.1;
         replies = r;
@@ -153,14 +153,14 @@ some_replied Rest setting n s expected spoken reply shows t r full some =
 
 some_line : (Rest : ℕ → Sitting → ℕ → List ℕ → Type 0) (setting : SessionSetting) (n : ℕ) (s : Sitting) (expected : Option Refusal) (spoken : Spoken) → ((m : ℕ) (t : Sitting) → (st : ℕ) × (o : List ℕ) × Rest m t st o) → (st : ℕ) × (o : List ℕ) × Line Rest setting n s expected spoken st o
 some_line Rest setting n s expected Nothing some = some n s
-some_line Rest setting n s expected Bad some = some_replied Rest setting n s expected Bad (Plain (Says (Refused BadCommand))) [] s (refl, refl, refl) (λ why offset e. absurd cc) some
+some_line Rest setting n s expected Bad some = some_replied Rest setting n s expected Bad (Simple (Says (Refused BadCommand))) [] s (refl, refl, refl) (λ why offset e. absurd cc) some
 some_line Rest setting n s expected (Obey command) some =
     let a = some_next_to setting.session_options (registered_pattern_of command s.registry) s.state command in
-    some_replied Rest setting n s expected (Obey command) (Plain a.0) a.1 (record { state = a.2; registry = s.registry }) (a.0, refl, a.3, refl) (within_of setting.session_options.bytes a.0 (λ why offset e. absurd (a.4 why offset e))) some
+    some_replied Rest setting n s expected (Obey command) (Simple a.0) a.1 (record { state = a.2; registry = s.registry }) (a.0, refl, a.3, refl) (within_of setting.session_options.bytes a.0 (λ why offset e. absurd (a.4 why offset e))) some
 some_line Rest setting n s expected (Ordered session_command) some =
     let a = some_ordered setting s.registry (asked_pattern session_command s.registry) s.state session_command in
-    some_replied Rest setting n s expected (Ordered session_command) (Plain a.0) a.1 (record { state = a.2; registry = s.registry }) (a.0, refl, a.3, refl) (within_of setting.session_options.bytes a.0 (named_bounded setting s.registry setting.session_options.bytes (asked_pattern session_command s.registry) s.state session_command a.0 a.1 a.2 a.3)) some
-some_line Rest setting n s expected (Registered session_command) some = some_replied Rest setting n s expected (Registered session_command) (Plain (Says (Refused Memory))) [] s (inl (refl, refl, refl), refl) (λ why offset e. absurd cc) some
+    some_replied Rest setting n s expected (Ordered session_command) (Simple a.0) a.1 (record { state = a.2; registry = s.registry }) (a.0, refl, a.3, refl) (within_of setting.session_options.bytes a.0 (named_bounded setting s.registry setting.session_options.bytes (asked_pattern session_command s.registry) s.state session_command a.0 a.1 a.2 a.3)) some
+some_line Rest setting n s expected (Registered session_command) some = some_replied Rest setting n s expected (Registered session_command) (Simple (Says (Refused Memory))) [] s (inl (refl, refl, refl), refl) (λ why offset e. absurd cc) some
 
 -- each script has an output from each state, since each command has an answer
 pub some_runs : (setting : SessionSetting) (lines : List (List ℕ)) (n : ℕ) (s : Sitting) → (st : ℕ) × (o : List ℕ) × Runs setting n s lines st o

@@ -10,7 +10,7 @@ use Rattle.mlir_work_script.specs.RegistryCommands.{RegistryCommand, Define, Red
 use Rattle.mlir_work_notes.specs.PatternReasons.{pattern_note}
 use Rattle.mlir_work_notes.specs.Unsupported.{unsupported_at, construct_word}
 use Rattle.mlir_work_notes.specs.Notes.{about_text, notes_of, no_memory_text}
-use Rattle.mlir_work_transforms.specs.registry.Notices.{Notice, Plain, Checked}
+use Rattle.mlir_work_transforms.specs.registry.Notices.{Notice, Simple, Checked}
 use Rattle.mlir_work_session.specs.declared.notes.Note.{Note}
 use Rattle.mlir_work_session.specs.declared.notes.Note.TheVariants.{Text, NoMemory}
 
@@ -57,8 +57,8 @@ about_reply (RefusedOn refusal x) spoken m = []
 -- the note on the refusal of a line; `m` is the module, which the refused line didn't change
 abbrev pub about_notice : Notice → Spoken → Module → List ℕ
 about_notice (Checked said) spoken m = []
-about_notice (Plain (Replied reply)) spoken m = about_reply reply spoken m
-about_notice (Plain (TextRefusedAt refusal offset)) spoken m = about_read refusal offset spoken
+about_notice (Simple (Replied reply)) spoken m = about_reply reply spoken m
+about_notice (Simple (TextRefusedAt refusal offset)) spoken m = about_read refusal offset spoken
 
 -- the note, or the text that memory ran out; it is empty unless `explain` is set
 abbrev pub IsAbout : Bool → Notice → Spoken → Module → List ℕ → Type 0

@@ -17,7 +17,7 @@ use Rattle.mlir_work_script_base.specs.Limits.{most_script_bytes}
 use Rattle.mlir_work_script_base.specs.Lines.{lines_of}
 use Rattle.mlir_work_script.specs.SessionCommands.{SessionCommand, PrintIds, ReportOf, Why}
 use Rattle.mlir_work_script.specs.Replies.{refused_line, attach_refused_line, kind_line, stale_line, kind_memory_line, module_memory_line}
-use Rattle.mlir_work_transforms.specs.registry.Notices.{IsWithin, Notice, Plain, is_right_under}
+use Rattle.mlir_work_transforms.specs.registry.Notices.{IsWithin, Notice, Simple, is_right_under}
 use Rattle.mlir_work_transforms.specs.registry.Registry.{RegistryModel}
 use Rattle.mlir_work_transforms.specs.registry.Registries.{Registries}
 use Rattle.mlir_work_session_base.specs.RowText.{rows_text}
@@ -95,7 +95,7 @@ asks (Registered session_command) = true
 -- the response to a line that isn't empty
 abbrev pub Replies : SessionSetting → Sitting → Spoken → Notice → List ℕ → Sitting → Type 0
 Replies setting s Nothing notice shows t = ⊥
-Replies setting s Bad notice shows t = (notice ≡ Plain (Says (Refused BadCommand))) × (shows ≡ []) × (t ≡ s)
+Replies setting s Bad notice shows t = (notice ≡ Simple (Says (Refused BadCommand))) × (shows ≡ []) × (t ≡ s)
 Replies setting s (Obey command) notice shows t =
     ByRewriter (λ response u. RunsPatternCommand setting.session_options (registered_pattern_of command s.registry) s.state command response shows u) s notice t
 Replies setting s (Ordered session_command) notice shows t =

@@ -6,7 +6,7 @@ use Rattle.mlir_work_transforms.specs.rewriter.Commands.{Apply, Ask, Command, Fo
 use Rattle.mlir_work_transforms.specs.rewriter.Machine as call
 use Rattle.mlir_work_transforms.specs.rewriter.Machine.{Nothing, State}
 use Rattle.mlir_work_transforms.specs.Applying.{applying_user_pattern}
-use Rattle.mlir_work_transforms.specs.registry.Notices.{Notice, Plain}
+use Rattle.mlir_work_transforms.specs.registry.Notices.{Notice, Simple}
 use Rattle.mlir_work_transforms.specs.registry.Replies.{is_accepted}
 use Rattle.mlir_work_transforms.specs.registry.Registry.{RegistryModel, Kept, registry_model}
 use Rattle.mlir_work_transforms.specs.registry.PatternRegistry.{PatternRegistry as RegistryCode}
@@ -36,7 +36,7 @@ registered_pattern_of _ registry = None
 -- below an accepted reply says so
 abbrev pub AppliesUserPattern : Kept → ℕ → State → Response → List ℕ → State → Type 0
 AppliesUserPattern k x s response bytes t =
-    Follows s (Ask (call.Change (applying_user_pattern k.shape x))) response Nothing t
+    Follows s (Ask (call.Change (applying_user_pattern k.rewrite_pattern x))) response Nothing t
     × (bytes ≡ bytes_if (is_accepted response) (unproved_one k s.held.tree))
 
 -- a command that names a registered pattern applies the pattern; any other command runs as without a registry
@@ -47,8 +47,8 @@ RunsPatternCommand session_options (Some p) s command response bytes t = Applies
 -- when the command may be refused with 31
 abbrev pub NextToHeadroom : Type 0 → SessionOptions → Option (Kept × ℕ) → State → Command → Response → Type 0
 NextToHeadroom full session_options None s command response = AsksHeadroom full session_options s command response
-NextToHeadroom full session_options (Some p) s command response = IsContextFull full s (applying_user_pattern p.0.shape p.1) response
+NextToHeadroom full session_options (Some p) s command response = IsContextFull full s (applying_user_pattern p.0.rewrite_pattern p.1) response
 
 -- the rewriter runs the command, and the registry doesn't change
 abbrev pub ByRewriter : (Response → State → Type 0) → Sitting → Notice → Sitting → Type 0
-ByRewriter Does s notice t = (response : Response) × (notice ≡ Plain response) × Does response t.state × (t.registry ≡ s.registry)
+ByRewriter Does s notice t = (response : Response) × (notice ≡ Simple response) × Does response t.state × (t.registry ≡ s.registry)

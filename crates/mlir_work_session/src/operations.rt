@@ -25,7 +25,7 @@ fn read<L: Analysis>(bench: &mut Bench<L>, text: &[u8]) -> Result<TreeOp, ReadEr
     ensures sound { IfOk result (λ t. IsSoundIn bench.new.transaction.ctx t) }
     ensures numbered { IfOk result (λ t. IsNumberedFrom bench.new.transaction.store.module_of.next t) }
     ensures refused { (r : Reason) (o : ℕ) → result ≡ Err (ReadError.Refused r o) → IsNone (SpellsNextTo bench.old.transaction.ctx.opaque (module_held bench.old.transaction) text.now) }
-    ensures told { IfErr result (λ e. IsOpReported text.now e) }
+    ensures reported { IfErr result (λ e. IsOpReported text.now e) }
     ensures grown { Grown L.meaning bench.old bench.new }
 {
     led_benches_are_kept::<L>();

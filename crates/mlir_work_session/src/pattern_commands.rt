@@ -70,7 +70,7 @@ fn apply_user_pattern<L: Analysis>(
 ) -> ShownReply
     requires { AgreesOrStale L.meaning bench.old }
     ensures applies { AppliesUserPattern (kept_view found.entry.0.now) found.entry.1 (state_of L.meaning bench.old) (response_of result.reply) result.shows.items (state_of L.meaning bench.new) }
-    ensures headroom { IsContextFull (IsFull bench.new.transaction.ctx) (state_of L.meaning bench.old) (applying_user_pattern (kept_view found.entry.0.now).shape found.entry.1) (response_of result.reply) }
+    ensures headroom { IsContextFull (IsFull bench.new.transaction.ctx) (state_of L.meaning bench.old) (applying_user_pattern (kept_view found.entry.0.now).rewrite_pattern found.entry.1) (response_of result.reply) }
     ensures kept { AgreesOrStale L.meaning bench.new }
     ensures mode { bench.new.transaction.ctx.opaque ≡ bench.old.transaction.ctx.opaque }
 {

@@ -259,22 +259,22 @@ pub fn answer_line<L: AnalysisSource, W: Sink>(
     }
 }
 
-/// Returns the number of the next reply; `told` is the result of `answer_line` for the last line.
-pub fn next_number(n: u64, told: Option<bool>) -> u64
+/// Returns the number of the next reply; `reported` is the result of `answer_line` for the last line.
+pub fn next_number(n: u64, reported: Option<bool>) -> u64
     requires { n + 1 < 2 ^ 64 }
-    ensures { result ≡ next_number n told }
+    ensures { result ≡ next_number n reported }
 {
-    match told {
+    match reported {
         None => n,
         Some(_) => n + 1,
     }
 }
 
-/// Returns whether all lines were right so far; `told` is the result of `answer_line` for the last line.
-pub fn accepted_so_far(accepted: bool, told: Option<bool>) -> bool
-    ensures { result ≡ still_accepted accepted told }
+/// Returns whether all lines were right so far; `reported` is the result of `answer_line` for the last line.
+pub fn accepted_so_far(accepted: bool, reported: Option<bool>) -> bool
+    ensures { result ≡ still_accepted accepted reported }
 {
-    match told {
+    match reported {
         None => accepted,
         Some(more) => both(accepted, more),
     }
@@ -303,12 +303,20 @@ pub fn run_script<L: AnalysisSource, W: Sink>(
     while !text.is_empty() {
         let (first, rest) = split_line(text);
         text = rest;
-        let told = match answer_line(alloc, session_options, bench, registry, n, first, writer) {
-            Ok(told) => told,
+        let reported = match answer_line(
+            alloc,
+            session_options,
+            bench,
+            registry,
+            n,
+            first,
+            writer,
+        ) {
+            Ok(reported) => reported,
             Err(fault) => return Err(fault),
         };
-        n = next_number(n, told);
-        accepted = accepted_so_far(accepted, told);
+        n = next_number(n, reported);
+        accepted = accepted_so_far(accepted, reported);
     }
     Ok(if accepted { 0 } else { 1 })
 }

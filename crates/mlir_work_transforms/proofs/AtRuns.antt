@@ -6,7 +6,7 @@ use Rattle.ir_event.specs.trees.Ids.{has_id}
 use Rattle.ir_event.specs.Modules.{Module}
 use Rattle.conversion.specs.patterns.Rule.{Rule}
 use Rattle.conversion.specs.patterns.Rewrites.{Rewrite, none, refused, becomes}
-use Rattle.conversion.specs.patterns.Canonicalization.{or_else, first_rule, greedy_rules, converged, limited, stopped, ended, end_of, go_on, highest_priority}
+use Rattle.conversion.specs.patterns.Canonicalization.{or_else, first_rule, greedy_rules, converged, limited, aborted, ended, end_of, go_on, highest_priority}
 use Rattle.conversion_base.proofs.Collapsing.{none_there}
 use Rattle.greedy.specs.Outcomes.{Applied, Refuses, is_limit}
 use Rattle.greedy.proofs.Comings.{IsCount, count_no_limit, limited_by, not_stopped, rules_count, stopped_is}
@@ -24,7 +24,7 @@ module _ (x : ℕ) where
   ends zero done m e = ap (λ a. ended m done (end_of a)) e
   ends (suc left) done m e = ap (λ a. go_on a m done (rewritten_at x left (done + 1))) e
 
-  stops_for : (left done : ℕ) (m : Module) (e : Refusal) → highest_priority m x ≡ refused e → rewritten_at x (suc left) done m ≡ stopped e
+  stops_for : (left done : ℕ) (m : Module) (e : Refusal) → highest_priority m x ≡ refused e → rewritten_at x (suc left) done m ≡ aborted e
   unfolding rewritten_at
   stops_for left done m e h = ap (λ a. go_on a m done (rewritten_at x left (done + 1))) h
 
@@ -71,12 +71,12 @@ module _ (x : ℕ) where
     limited_there l n = sym so_far ∙ ap (λ k. rewritten_at x k count m) (none_left l) ∙ at_limit count m n
 
   -- ---- refusals of a run
-  stop_count : (left done : ℕ) (m : Module) (e : Refusal) → rewritten_at x left done m ≡ stopped e → IsCount e
+  stop_count : (left done : ℕ) (m : Module) (e : Refusal) → rewritten_at x left done m ≡ aborted e → IsCount e
   unfolding rewritten_at
   stop_count zero done m e h = absurd (not_stopped m done (end_of (highest_priority m x)) e h)
   stop_count (suc left) done m e h = by (highest_priority m x) refl h (λ n. stop_count left (done + 1) n e)
     where
-      by : (a : Rewrite) → highest_priority m x ≡ a → go_on a m done (rewritten_at x left (done + 1)) ≡ stopped e → ((n : Module) → rewritten_at x left (done + 1) n ≡ stopped e → IsCount e) → IsCount e
+      by : (a : Rewrite) → highest_priority m x ≡ a → go_on a m done (rewritten_at x left (done + 1)) ≡ aborted e → ((n : Module) → rewritten_at x left (done + 1) n ≡ aborted e → IsCount e) → IsCount e
       by none q h more = absurd (not_stopped m done converged e h)
       by (refused f) q h more = rules_count greedy_rules m x e (q ∙ ap refused (stopped_is f e h))
       by (becomes n) q h more = more n h
@@ -84,10 +84,10 @@ module _ (x : ℕ) where
   module _ (limit : ℕ) (m : Module) (fits : is_limit limit ≡ true) where
     from_limit : canonicalization_at limit x m ≡ canonical_at limit x m
     unfolding canonicalization_at
-    from_limit = ap (λ b. cond b (canonical_at limit x m) (stopped BadLimit)) fits
+    from_limit = ap (λ b. cond b (canonical_at limit x m) (aborted BadLimit)) fits
 
     from_there : has_id x m.tree ≡ true → canonicalization_at limit x m ≡ rewritten_at x limit 0 m
-    from_there there = from_limit ∙ ap (λ b. cond b (rewritten_at x limit 0 m) (stopped NoSuchOp)) there
+    from_there there = from_limit ∙ ap (λ b. cond b (rewritten_at x limit 0 m) (aborted NoSuchOp)) there
 
     pub comes_from : (n : Module) → has_id x m.tree ≡ true → n ≡ m → canonicalization_at limit x m ≡ rewritten_at x limit 0 n
     comes_from n there same = from_there there ∙ ap (rewritten_at x limit 0) (sym same)
@@ -96,7 +96,7 @@ module _ (x : ℕ) where
     pub absent_reason : (full : Type 0) → has_id x m.tree ≡ false → IsReasonAt limit x m full NoSuchOp
     absent_reason full gone = record {
       limited = (λ h. (let k : NoSuchOp ≡ BadLimit = h in absurd cc), λ f. absurd (true≢false (sym fits ∙ f)));
-      others = λ k. inr (inl (from_limit ∙ ap (λ b. cond b (rewritten_at x limit 0 m) (stopped NoSuchOp)) gone));
+      others = λ k. inr (inl (from_limit ∙ ap (λ b. cond b (rewritten_at x limit 0 m) (aborted NoSuchOp)) gone));
     }
 
     pub stop_reason : (n : Module) (full later : Type 0) (e : Refusal) → has_id x m.tree ≡ true → n ≡ m → (full → later) → StopAt x limit n full e → IsReasonAt limit x m later e
@@ -105,7 +105,7 @@ module _ (x : ℕ) where
       others = λ k. begun s;
     }
       where
-        begun : StopAt x limit n full e → (e ≡ Memory) ⊎ ((canonicalization_at limit x m ≡ stopped e) ⊎ ((e ≡ Full) × later))
+        begun : StopAt x limit n full e → (e ≡ Memory) ⊎ ((canonicalization_at limit x m ≡ aborted e) ⊎ ((e ≡ Full) × later))
         begun (inl h) = inl h
         begun (inr (inl h)) = inr (inl (comes_from n there same ∙ h))
         begun (inr (inr h)) = inr (inr (h.0, on h.1))
@@ -124,9 +124,9 @@ module _ (x : ℕ) where
     others = λ k. inl refl;
   }
 
-  pub no_limit : (limit : ℕ) (m : Module) → is_limit limit ≡ false → canonicalization_at limit x m ≡ stopped BadLimit
+  pub no_limit : (limit : ℕ) (m : Module) → is_limit limit ≡ false → canonicalization_at limit x m ≡ aborted BadLimit
   unfolding canonicalization_at
-  no_limit limit m e = ap (λ b. cond b (canonical_at limit x m) (stopped BadLimit)) e
+  no_limit limit m e = ap (λ b. cond b (canonical_at limit x m) (aborted BadLimit)) e
 
 -- no rule matches at a missing operation
 pub none_at : (rs : List Rule) (m : Module) (x : ℕ) → has_id x m.tree ≡ false → first_rule rs m x ≡ none

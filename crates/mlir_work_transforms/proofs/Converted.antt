@@ -89,8 +89,8 @@ module _ {B : Type 0} (meaning : B → Listener) (o : Option Aim) (a m : Benched
         (subst (λ (h : Option Aim). Goes (state_of meaning m) (Change (ending (conversion_to h))) (conversion_reply r) Nothing (state_of meaning b)) same d)
 
     -- the trace of the conversion
-    pub then_told : (P : List AppliedRule → Type 0) → OnOk r (P (applied_rules (conversion_of aim (module_held m.transaction)))) → OnOk r (P (applied_rules (conversion_to o (module_held a.transaction))))
-    then_told P h =
+    pub then_reported : (P : List AppliedRule → Type 0) → OnOk r (P (applied_rules (conversion_of aim (module_held m.transaction)))) → OnOk r (P (applied_rules (conversion_to o (module_held a.transaction))))
+    then_reported P h =
         subst (λ (n : Module). OnOk r (P (applied_rules (conversion_to o n)))) held_same (subst (λ (q : Option Aim). OnOk r (P (applied_rules (conversion_to q (module_held m.transaction))))) same h)
 
     pub then_stays : (P : Option MatchFailure → Type 0) → IfErr r (λ f. P (reported_failure f.id (unlegalised_op aim (module_held m.transaction)))) → IfErr r (λ f. P (reported_failure f.id (match_failure_to o (module_held a.transaction))))

@@ -95,9 +95,9 @@ fresh_current limit t fresh = record {
 }
 
 -- the text after a run from a tracer without counts
-pub fired_told : (limit : ℕ) (called : Result Outcome Refusal) (fs : List AppliedRewrite) (a b : FiredLines) (text : List ℕ) → IsFresh limit a → ((k : ℕ) → called ≡ Ok (Limit k) → length fs ≡ limit) → OnOk called (FiredTaken fs a b) → text ≡ ended_text called b.shown b.text.items
+pub fired_reported : (limit : ℕ) (called : Result Outcome Refusal) (fs : List AppliedRewrite) (a b : FiredLines) (text : List ℕ) → IsFresh limit a → ((k : ℕ) → called ≡ Ok (Limit k) → length fs ≡ limit) → OnOk called (FiredTaken fs a b) → text ≡ ended_text called b.shown b.text.items
     → OnOk called (text ≡ a.text.items ++ fired_below (Replied (canonical_reply called)) (names_of a) fs)
-fired_told limit (Ok (Limit k)) fs a b text fresh whole taken is =
+fired_reported limit (Ok (Limit k)) fs a b text fresh whole taken is =
     let now = taken.current a.text.items (fresh_current limit a fresh) in
     let recorded : b.applied.items ≡ applied_by fs = taken.applied ∙ ap (λ (bs : List AppliedPattern). bs ++ applied_by fs) fresh.applied in
     let last : length b.applied.items ≡ b.limit = ap length recorded ∙ applied_length fs ∙ whole k refl ∙ sym (taken.limit ∙ fresh.limit) in
@@ -108,6 +108,6 @@ fired_told limit (Ok (Limit k)) fs a b text fresh whole taken is =
     applied_length : (fs : List AppliedRewrite) → length (applied_by fs) ≡ length fs
     applied_length [] = refl
     applied_length (f ∷ fs) = ap suc (applied_length fs)
-fired_told limit (Ok (Converged k)) fs a b text fresh whole taken is =
+fired_reported limit (Ok (Converged k)) fs a b text fresh whole taken is =
     is ∙ (taken.current a.text.items (fresh_current limit a fresh)).begins ∙ sym (append-nil a.text.items)
-fired_told limit (Err e) fs a b text fresh whole taken is = taken
+fired_reported limit (Err e) fs a b text fresh whole taken is = taken

@@ -6,7 +6,7 @@ use Rattle.ir_event.specs.types.declared.refusal.Refusal.TheVariants.{BadLimit, 
 use Rattle.ir_event.specs.Modules.{Module}
 use Rattle.conversion.specs.rewriter.Machine as machine
 use Rattle.conversion.specs.rewriter.Machine.{Answer, Change, DoneWith, Goes, Nothing, Refused, Reply, State, Transformation, due_change}
-use Rattle.conversion.specs.patterns.Canonicalization.{Canonical, End, canonicalization_of, converged, ended, go_on, greedy_rules, limited, most_rewrites, stopped}
+use Rattle.conversion.specs.patterns.Canonicalization.{Canonical, End, canonicalization_of, converged, ended, go_on, greedy_rules, limited, most_rewrites, aborted}
 use Rattle.conversion.specs.patterns.Rewrites.{Rewrite, none, refused, becomes}
 use Rattle.greedy.specs.Changes.{canonical_reply, canonicalizing, made_of, rewriting}
 use Rattle.greedy.specs.Rewriting.{IsOfItsRules, next_by, rewriting_of, rewritten_from}
@@ -22,7 +22,7 @@ count_is m n j k d e h = cc
 end_is : (m n : Module) (j k : ℕ) (d e : End) → ended m j d ≡ ended n k e → d ≡ e
 end_is m n j k d e h = cc
 
-not_ended : (f : Refusal) (n : Module) (k : ℕ) (e : End) → stopped f ≡ ended n k e → ⊥
+not_ended : (f : Refusal) (n : Module) (k : ℕ) (e : End) → aborted f ≡ ended n k e → ⊥
 not_ended f n k e h = absurd cc
 
 not_converged : converged ≡ limited → ⊥
@@ -44,7 +44,7 @@ limited_length : (a : PatternSetModel) → IsApplied a → TraceIsCounted → (l
 unfolding rewriting_of
 limited_length a applied counted limit m n k h = go (nat_le 1 limit && nat_le limit most_rewrites) h
   where
-    go : (b : Bool) → (if b then rewritten_from a limit 0 m else stopped BadLimit) ≡ ended n k limited → length (trace_of a limit m) ≡ limit
+    go : (b : Bool) → (if b then rewritten_from a limit 0 m else aborted BadLimit) ≡ ended n k limited → length (trace_of a limit m) ≡ limit
     go true z =
         let c : length (trace_of a limit m) ≡ k = counted a applied limit m n k limited z in
         let d : k ≡ 0 + limit = limited_count a limit 0 m n k z in
@@ -55,7 +55,7 @@ limited_length a applied counted limit m n k h = go (nat_le 1 limit && nat_le li
 
 -- a run that the machine answers with the limit stopped by it
 due_limited : (s : State) (c : Canonical) (k : ℕ) → DoneWith (machine.Limited k) ≡ (due_change (made_of c) s).reply → (n : Module) × (c ≡ ended n k limited)
-due_limited s (stopped f) k e = absurd cc
+due_limited s (aborted f) k e = absurd cc
 due_limited s (ended m j converged) k e = absurd cc
 due_limited s (ended m j limited) k e = (m, ap (λ (i : ℕ). ended m i limited) (sym (same e)))
   where

@@ -180,9 +180,9 @@ module _ {B : Type 0} (means : B → Listener) where
   -- the journal after a sweep: it ends with the events of the sweep if a mark is open, and it is unchanged otherwise
   pub swept_journaled : Composes means → (xs : List ℕ) (a b c d : Benched B) → Holds a.transaction.ctx → (a.transaction.marks ≡ [] → a.transaction.journal ≡ []) → b.transaction ≡ marked_transaction a.transaction → Notified means [] a b
       → Erases {A = Unit {0}} xs (Ok tt) b.transaction c.transaction → Journaled means b c → IsFinished true c.transaction d.transaction → Notified means [] c d → Journaled means a d
-  swept_journaled more xs a b c d holds none begun untold e noted f silent =
+  swept_journaled more xs a b c d holds none begun untold e noted f reports_nothing =
       let on : Onward means b c = record { ctx = e.ctx; marks = noted.2.marks; opens = e.marks; noted = noted } in
-      whole_journaled means more a b c d holds none begun untold on f silent
+      whole_journaled means more a b c d holds none begun untold on f reports_nothing
 
 -- the sweep was undone
 pub swept_back : (a b c d : TransactionModel) → (a.marks ≡ [] → a.journal ≡ []) → b ≡ marked_transaction a → Noted b c → IsFinished false c d → Recorded [] a d

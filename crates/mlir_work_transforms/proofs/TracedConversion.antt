@@ -33,7 +33,7 @@ use Rattle.ir_event.proofs.of_types.Truths.{rest_at}
 pub record Notified (o : Option Aim) (held : Module) (r : Result ℕ Fault) (begun text : List ℕ) (before failure : Option MatchFailure) : Type 0 where
   pub nothing : begun ≡ []
   pub unset : before ≡ None
-  pub told : OnOk r (text ≡ begun ++ located_text (applied_rules (conversion_to o held)))
+  pub reported : OnOk r (text ≡ begun ++ located_text (applied_rules (conversion_to o held)))
   pub stays : IfErr r (λ f. failure ≡ latest_match_failure (reported_failure f.id (match_failure_to o held)) before)
 
 -- the lines that show the conversion
@@ -111,7 +111,7 @@ below e ks (Some x) (Some s) h = ap (λ n. match_failure_line n s.1) (sym (h x s
 pub traced_lines : (o : Option Aim) (a b : State) (r q : Result ℕ Fault) (begun text lines : List ℕ) (before failure : Option MatchFailure) → Converts (conversion_to o a.held) r a b → Notified o a.held r begun text before failure → Shown r q text lines failure
     → lines ≡ conversion_text o a.held (conversion_reply q)
 traced_lines o a b (Ok n) q begun text lines before failure c h s =
-    s.ok.1 ∙ h.told ∙ ap (λ (t : List ℕ). t ++ located_text (applied_rules (conversion_to o a.held))) h.nothing ∙ sym (ap (λ x. conversion_text o a.held (conversion_reply x)) s.ok.0)
+    s.ok.1 ∙ h.reported ∙ ap (λ (t : List ℕ). t ++ located_text (applied_rules (conversion_to o a.held))) h.nothing ∙ sym (ap (λ x. conversion_text o a.held (conversion_reply x)) s.ok.0)
 traced_lines o a b (Err f) q begun text lines before failure c h s = go s.fault
   where
     go : FaultWithLine f failure q lines → lines ≡ conversion_text o a.held (conversion_reply q)

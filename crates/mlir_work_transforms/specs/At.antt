@@ -4,7 +4,7 @@ use Rattle.std.specs.Prelude.{ℕ, zero, suc, ◌+◌, ◌&&◌, nat_le, true, i
 use Rattle.ir_event.specs.types.declared.refusal.Refusal.TheVariants.{BadLimit, NoSuchOp}
 use Rattle.ir_event.specs.trees.Ids.{has_id}
 use Rattle.ir_event.specs.Modules.{Module}
-use Rattle.conversion.specs.patterns.Canonicalization.{Canonical, end_of, ended, go_on, highest_priority, most_rewrites, stopped}
+use Rattle.conversion.specs.patterns.Canonicalization.{Canonical, end_of, ended, go_on, highest_priority, most_rewrites, aborted}
 use Rattle.conversion.specs.rewriter.Machine.{Transformation}
 use Rattle.greedy.specs.Changes.{made_of}
 
@@ -15,12 +15,12 @@ rewritten_at x (suc left) done m = go_on (highest_priority m x) m done (rewritte
 
 -- at most so many rewrites of a module that has `x`
 abbrev pub canonical_at : ℕ → ℕ → Module → Canonical
-canonical_at limit x m = if has_id x m.tree then rewritten_at x limit 0 m else stopped NoSuchOp
+canonical_at limit x m = if has_id x m.tree then rewritten_at x limit 0 m else aborted NoSuchOp
 
 -- the same with a limit in the allowed range
 unfoldable pub canonicalization_at : ℕ → ℕ → Module → Canonical
 canonicalization_at limit x m =
-    if nat_le 1 limit && nat_le limit most_rewrites then canonical_at limit x m else stopped BadLimit
+    if nat_le 1 limit && nat_le limit most_rewrites then canonical_at limit x m else aborted BadLimit
 
 -- the transformation
 abbrev pub canonicalizing_at : ℕ → ℕ → Transformation

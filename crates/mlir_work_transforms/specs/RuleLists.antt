@@ -25,7 +25,7 @@ pub record Listed : Type 0 where
 -- a name resolves to a registered pattern, or else to a canonicalization rule
 abbrev pub or_rule : Option Kept → RuleName → Option Listed
 or_rule None name = option_map (λ r. record { rule_or_pattern = OfRule r; name = [] }) (canonical_named name)
-or_rule (Some k) name = Some (record { rule_or_pattern = OfUserPattern k.shape; name = k.name })
+or_rule (Some k) name = Some (record { rule_or_pattern = OfUserPattern k.rewrite_pattern; name = k.name })
 
 abbrev pub listed_named : RegistryModel → RuleName → Option Listed
 listed_named registry name = or_rule (pattern_named name registry) name

@@ -40,7 +40,7 @@ pub record Noted : Type 0 where
   pub said : Option CheckSummary
 
 abbrev pub noted_of : Kept → Noted
-noted_of k = record { name = k.name; is_typed = k.shape.types == 0; said = k.said }
+noted_of k = record { name = k.name; is_typed = k.rewrite_pattern.types == 0; said = k.said }
 
 -- whether a check result proves a pattern for a module: the pattern holds at all widths, or up to a width that no
 -- value of the module exceeds; a pattern with concrete types only is proved by any `Holds`, since it matches only

@@ -21,7 +21,7 @@ use Rattle.user_patterns_data.specs.declared.pattern.ConstantExpression.{Constan
 use Rattle.user_patterns_data.specs.declared.pattern.ConstantExpression.TheVariants as number
 use Rattle.user_patterns_data.specs.declared.pattern.PatternOp.{PatternOp}
 use Rattle.user_patterns_data.specs.declared.pattern.PatternType.{PatternType}
-use Rattle.user_patterns_data.specs.declared.pattern.PatternType.TheVariants as kinds
+use Rattle.user_patterns_data.specs.declared.pattern.PatternType.TheVariants as pattern_types
 use Rattle.greedy.specs.own.Mismatches.{user_pattern_mismatch}
 use Rattle.greedy.specs.own.Numbers.{found_number, kind_at, numbers_in, predicate_at}
 use Rattle.greedy.specs.own.declared.mismatch.Mismatch.{Mismatch}
@@ -285,8 +285,8 @@ module _ (p : PatternModel) (m : Module) (x : ℕ) where
 
   abbrev pub bound_type_text : ℕ → Option PatternType → List ℕ
   bound_type_text n None = []
-  bound_type_text n (Some (kinds.Concrete k)) = kind_text k
-  bound_type_text n (Some (kinds.Variable v)) = type_text m.tree (matched_value (first_with p n))
+  bound_type_text n (Some (pattern_types.Concrete k)) = kind_text k
+  bound_type_text n (Some (pattern_types.Variable v)) = type_text m.tree (matched_value (first_with p n))
 
   -- the type that is bound to a type number
   abbrev pub expected_type_text : Option ℕ → List ℕ
@@ -315,7 +315,7 @@ module _ (p : PatternModel) (m : Module) (x : ℕ) where
   mismatch_text (Some fails.NotNumeric) = codes "expected integer or index"
   mismatch_text (Some fails.Types) = codes "other-type"
   mismatch_text (Some (fails.Number k)) = path p k ++ numbers_text (numbers_in m p x (length p.extra)) k
-  mismatch_text (Some (fails.Condition i)) = condition_text p (numbers_in m p x i) (computed_at p (extra_place p + i))
+  mismatch_text (Some (fails.Constraint i)) = condition_text p (numbers_in m p x i) (computed_at p (extra_place p + i))
   mismatch_text (Some fails.Unbuildable) = codes "unbuildable"
   mismatch_text (Some fails.Results) = codes "results"
   mismatch_text (Some fails.IsRoot) = codes "root"
@@ -328,4 +328,4 @@ subject_text x name = codes "why " ++ (op_text x ++ (codes " " ++ name))
 
 -- `why #5 mine operand 1 expected arith.constant found arith.addi #3`
 unfoldable pub why_pattern : Kept → Module → ℕ → List ℕ
-why_pattern k m x = subject_text x k.name ++ (codes " " ++ (mismatch_text k.shape m x (user_pattern_mismatch k.shape m x) ++ codes "\n"))
+why_pattern k m x = subject_text x k.name ++ (codes " " ++ (mismatch_text k.rewrite_pattern m x (user_pattern_mismatch k.rewrite_pattern m x) ++ codes "\n"))

@@ -46,7 +46,7 @@ fn convert_and_trace<L: Analysis, T: Tracer>(
     ensures converts { Converts
         (conversion_to (command_aim (said_target full (clauses_of clauses.now))) (module_held bench.old.transaction)) result
         (seen bench.old) (seen bench.new) }
-    ensures told { OnOk result (T.told
+    ensures reported { OnOk result (T.reported
         (applied_rules (conversion_to (command_aim (said_target full (clauses_of clauses.now)))
         (module_held bench.old.transaction))) tracer.old tracer.new) }
     ensures stays { IfErr result (λ f. T.stayed

@@ -104,7 +104,7 @@ impl Tracer for ConvertLines {
     ghost use Rattle.std.specs.Prelude.{◌≡◌, ◌++◌};
     ghost use Rattle.mlir_work_transforms.specs.ConvertText.{latest_match_failure, located_text};
 
-    ghost told = { λ ks a b. b.text.items ≡ a.text.items ++ located_text ks };
+    ghost reported = { λ ks a b. b.text.items ≡ a.text.items ++ located_text ks };
 
     ghost stayed = { λ s a b. b.failure ≡ latest_match_failure s a.failure };
 

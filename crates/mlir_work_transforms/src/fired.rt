@@ -39,7 +39,7 @@ pub fn canon_fired<L: Analysis>(
 ) -> Result<Outcome, Refusal>
     requires { IsFresh limit lines.old }
     ensures does { Does L.meaning (Change (canonicalizing limit)) (canonical_reply result) bench.old bench.new }
-    ensures told { OnOk result (lines.new.text.items ≡ lines.old.text.items
+    ensures reported { OnOk result (lines.new.text.items ≡ lines.old.text.items
         ++ fired_below (Replied (canonical_reply result)) (names_of lines.old)
         (trace_of (by_rules greedy_rules) limit (module_held bench.old.transaction))) }
     ensures headroom { IsFullSo (IsFull bench.new.transaction.ctx) (state_of L.meaning bench.old) (canonicalizing limit)
@@ -68,7 +68,7 @@ pub fn rewrite_fired<L: Analysis>(
     requires canonical { AreCanonical rules.now }
     requires fresh { IsFresh limit lines.old }
     ensures does { Does L.meaning (Change (rewriting (by_rules rules.now) limit)) (canonical_reply result) bench.old bench.new }
-    ensures told { OnOk result (lines.new.text.items ≡ lines.old.text.items
+    ensures reported { OnOk result (lines.new.text.items ≡ lines.old.text.items
         ++ fired_below (Replied (canonical_reply result)) (names_of lines.old)
         (trace_of (by_rules rules.now) limit (module_held bench.old.transaction))) }
     ensures headroom { IsFullSo (IsFull bench.new.transaction.ctx) (state_of L.meaning bench.old) (rewriting (by_rules rules.now) limit)
@@ -98,7 +98,7 @@ pub fn rewrite_with_patterns_fired<L: Analysis>(
     requires fresh { IsFresh limit lines.old }
     ensures does { Does L.meaning (Change (rewriting (pattern_set_from (patterns_of candidates.now)) limit))
         (canonical_reply result) bench.old bench.new }
-    ensures told { OnOk result (lines.new.text.items ≡ lines.old.text.items
+    ensures reported { OnOk result (lines.new.text.items ≡ lines.old.text.items
         ++ fired_below (Replied (canonical_reply result)) (names_of lines.old)
         (trace_of (pattern_set_from (patterns_of candidates.now)) limit (module_held bench.old.transaction))) }
     ensures headroom { IsFullSo (IsFull bench.new.transaction.ctx) (state_of L.meaning bench.old)

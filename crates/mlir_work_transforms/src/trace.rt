@@ -36,7 +36,7 @@ pub fn canon_traced<L: Analysis>(
     lines: &mut TraceLines,
 ) -> Result<Outcome, Refusal>
     ensures does { Does L.meaning (Change (canonicalizing limit)) (canonical_reply result) bench.old bench.new }
-    ensures told { OnOk result (lines.new.text.items ≡ lines.old.text.items
+    ensures reported { OnOk result (lines.new.text.items ≡ lines.old.text.items
         ++ trace_text (map (λ n. n.items) lines.old.names.items)
         (trace_of (by_rules greedy_rules) limit (module_held bench.old.transaction))) }
     ensures headroom { IsFullSo (IsFull bench.new.transaction.ctx) (state_of L.meaning bench.old) (canonicalizing limit)
@@ -60,7 +60,7 @@ pub fn rewrite_traced<L: Analysis>(
 ) -> Result<Outcome, Refusal>
     requires { AreCanonical rules.now }
     ensures does { Does L.meaning (Change (rewriting (by_rules rules.now) limit)) (canonical_reply result) bench.old bench.new }
-    ensures told { OnOk result (lines.new.text.items ≡ lines.old.text.items
+    ensures reported { OnOk result (lines.new.text.items ≡ lines.old.text.items
         ++ trace_text (map (λ n. n.items) lines.old.names.items)
         (trace_of (by_rules rules.now) limit (module_held bench.old.transaction))) }
     ensures headroom { IsFullSo (IsFull bench.new.transaction.ctx) (state_of L.meaning bench.old) (rewriting (by_rules rules.now) limit)
@@ -85,7 +85,7 @@ pub fn trace_rewrite_with_patterns<L: Analysis>(
     requires { MayUseAll (patterns_of candidates.now) }
     ensures does { Does L.meaning (Change (rewriting (pattern_set_from (patterns_of candidates.now)) limit))
         (canonical_reply result) bench.old bench.new }
-    ensures told { OnOk result (lines.new.text.items ≡ lines.old.text.items
+    ensures reported { OnOk result (lines.new.text.items ≡ lines.old.text.items
         ++ trace_text (map (λ n. n.items) lines.old.names.items)
         (trace_of (pattern_set_from (patterns_of candidates.now)) limit (module_held bench.old.transaction))) }
     ensures headroom { IsFullSo (IsFull bench.new.transaction.ctx) (state_of L.meaning bench.old)

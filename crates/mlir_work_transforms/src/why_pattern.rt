@@ -331,7 +331,7 @@ fn write_mismatch(
         Some(Mismatch::NotNumeric) => text.extend_from_slice(b"expected integer or index"),
         Some(Mismatch::Types) => text.extend_from_slice(b"other-type"),
         Some(Mismatch::Number(place)) => write_number_mismatch(text, alloc, at, place),
-        Some(Mismatch::Condition(index)) => write_false(text, alloc, at, index),
+        Some(Mismatch::Constraint(index)) => write_false(text, alloc, at, index),
         Some(Mismatch::Unbuildable) => text.extend_from_slice(b"unbuildable"),
         Some(Mismatch::Results) => text.extend_from_slice(b"results"),
         Some(Mismatch::IsRoot) => text.extend_from_slice(b"root"),

@@ -13,7 +13,7 @@ use Rattle.op_registry.specs.Rows.{Row, rows}
 use Rattle.op_registry.specs.Registry.{next_to, row_of}
 use Rattle.op_registry.specs.declared.property.PropertyKind.{PropertyKind}
 use Rattle.op_registry.specs.declared.property.PropertyKind.TheVariants.{Any}
-use Rattle.op_registry.specs.Properties.{kinds, kind_of}
+use Rattle.op_registry.specs.Properties.{property_kinds, kind_of}
 
 module _ {A : Type 0} (op : List ℕ) (n : ℕ) where
   -- the tests for the names of a list are tests of the ids from one on
@@ -82,17 +82,17 @@ row_is c n sound =
     next_to_word c n 0 39 rows sound rows_are (omega arith) ∙ ap (slice_get (map (λ (row : List ℕ × Row). row.1) rows)) e
 
 -- the kinds of the keys
-kinds_are : AreWords 39 12 kinds
-unfolding words operations keys visibilities kinds
+kinds_are : AreWords 39 12 property_kinds
+unfolding words operations keys visibilities property_kinds
 kinds_are = refl
 
-pub kind_is : (c : ContextModel) (n : ℕ) → IsSound c → 39 ≤ n → kind_of (name_term c n) ≡ unwrap_or (slice_get (map (λ (row : List ℕ × PropertyKind). row.1) kinds) (n - 39)) Any
+pub kind_is : (c : ContextModel) (n : ℕ) → IsSound c → 39 ≤ n → kind_of (name_term c n) ≡ unwrap_or (slice_get (map (λ (row : List ℕ × PropertyKind). row.1) property_kinds) (n - 39)) Any
 unfolding kind_of
-kind_is c n sound h = ap (λ k. unwrap_or k Any) (next_to_word c n 39 12 kinds sound kinds_are h)
+kind_is c n sound h = ap (λ k. unwrap_or k Any) (next_to_word c n 39 12 property_kinds sound kinds_are h)
 
 pub kind_of_operation : (c : ContextModel) (n : ℕ) → IsSound c → n < 39 → kind_of (name_term c n) ≡ Any
 unfolding kind_of
-kind_of_operation c n sound h = ap (λ k. unwrap_or k Any) (next_to_earlier c n 39 12 kinds sound kinds_are h)
+kind_of_operation c n sound h = ap (λ k. unwrap_or k Any) (next_to_earlier c n 39 12 property_kinds sound kinds_are h)
 
 -- an operation is registered exactly if it has a row
 found : {A B : Type 0} (op : List ℕ) (xs : List (List ℕ × A)) (ys : List (List ℕ × B)) → map (λ (row : List ℕ × A). row.0) xs ≡ map (λ (row : List ℕ × B). row.0) ys → list_any (λ (row : List ℕ × A). bytes_eq op row.0) xs ≡ is_some (next_to op ys)

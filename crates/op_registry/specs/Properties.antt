@@ -9,8 +9,8 @@ use Rattle.op_registry.specs.declared.property.PropertyKind.TheVariants as kind
 use Rattle.op_registry.specs.Registry.{next_to}
 
 -- each key with the kind of its attributes
-unfoldable pub kinds : List (List ℕ × PropertyKind)
-kinds =
+unfoldable pub property_kinds : List (List ℕ × PropertyKind)
+property_kinds =
     (codes "sym_name", kind.Text)
     ∷ (codes "sym_visibility", kind.Visibility)
     ∷ (codes "function_type", kind.Function)
@@ -27,7 +27,7 @@ kinds =
 
 -- the kind of a key; for a key of no row any attribute is allowed
 unfoldable pub kind_of : List ℕ → PropertyKind
-kind_of key = unwrap_or (next_to key kinds) kind.Any
+kind_of key = unwrap_or (next_to key property_kinds) kind.Any
 
 -- the content of an attribute of one form: an integer's type and bits, a string, a type, a symbol's components, a dense
 -- array's type

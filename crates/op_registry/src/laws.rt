@@ -3,7 +3,7 @@ ghost use Rattle.std.specs.Prelude.{◌≡◌, ℕ, List, map, is_some};
 ghost use Rattle.ir_types.specs.Words.{operations, keys, is_listed};
 ghost use Rattle.op_registry.specs.Rows.{Row, rows};
 ghost use Rattle.op_registry.specs.Registry.{row_of, keys_of};
-ghost use Rattle.op_registry.specs.Properties.{kinds};
+ghost use Rattle.op_registry.specs.Properties.{property_kinds};
 ghost use Rattle.op_registry.specs.declared.property.PropertyKind.{PropertyKind};
 
 /// The rows are those of the registered operations, with the keys of their properties.
@@ -18,5 +18,5 @@ pub fn listed_has_row()
 
 /// Each key has a kind.
 pub fn kinds_are_of_keys()
-    ensures { map (λ (row : List ℕ × PropertyKind). row.0) kinds ≡ keys }
+    ensures { map (λ (row : List ℕ × PropertyKind). row.0) property_kinds ≡ keys }
 {}

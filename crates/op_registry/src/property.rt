@@ -6,7 +6,7 @@ ghost use Rattle.ir_types.specs.Terms.{AttrTerm, TypeTerm, attr_from, attr_node_
 ghost use Rattle.ir_types.specs.Readings.{is_bits_of};
 ghost use Rattle.ir_types.specs.Sound.{IsSound};
 ghost use Rattle.op_registry.specs.Properties as properties;
-ghost use Rattle.op_registry.specs.Properties.{kinds};
+ghost use Rattle.op_registry.specs.Properties.{property_kinds};
 
 use ir_types::context::Context;
 use ir_types::ids::{AttrId, NameId, TypeId};
@@ -72,7 +72,7 @@ pub fn property_kind(key: NameId) -> PropertyKind
 
 /// Returns the kind of the key at an index among the keys.
 fn kind_at(place: usize) -> PropertyKind
-    ensures { result ≡ unwrap_or (slice_get (map (λ (row : List ℕ × PropertyKind). row.1) kinds) place) PropertyKind.Any }
+    ensures { result ≡ unwrap_or (slice_get (map (λ (row : List ℕ × PropertyKind). row.1) property_kinds) place) PropertyKind.Any }
 {
     entry(&KINDS, place)
 }

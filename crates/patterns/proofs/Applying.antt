@@ -32,10 +32,10 @@ some_rewrite es m = go (nat_le (op_count m.tree + made_by es) most_ops) (nat_le 
     go true false = λ e. cc
     go false b = λ e. cc
 
-pub stopped : (w : Rewrite) (es : List Edit) (x : ℕ) (m : Module) (c : ContextModel) (e : Refusal) → w ≡ carried_out es m → ApplyFails es m c e → IsReason w x m c e
-stopped w es x m c e is (inl h) = inl h
-stopped w es x m c e is (inr (inl h)) = inr (inr (inl (subst (λ a. IsRefusedSo a e) (sym (is ∙ h)) refl)))
-stopped w es x m c e is (inr (inr h)) = inr (inr (inr (h.0, (λ n. some_rewrite es m (sym is ∙ n), h.1))))
+pub aborted : (w : Rewrite) (es : List Edit) (x : ℕ) (m : Module) (c : ContextModel) (e : Refusal) → w ≡ carried_out es m → ApplyFails es m c e → IsReason w x m c e
+aborted w es x m c e is (inl h) = inl h
+aborted w es x m c e is (inr (inl h)) = inr (inr (inl (subst (λ a. IsRefusedSo a e) (sym (is ∙ h)) refl)))
+aborted w es x m c e is (inr (inr h)) = inr (inr (inr (h.0, (λ n. some_rewrite es m (sym is ∙ n), h.1))))
 
 -- ---- the world of a rewriter and its transaction
 

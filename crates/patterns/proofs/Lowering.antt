@@ -31,12 +31,12 @@ use Rattle.patterns.proofs.Firsts.{left_out, none_then, past, some_then, taken}
 use Rattle.patterns.proofs.Planned.{found, none_rule}
 
 module _ (w : World) (x : ℕ) (insertion : Place) (r : Rule) (pattern_set : is_canonical r ≡ true) where
-  tried : (p : Option RulePlan) → option_map (made_edits w.ctx (module_in w).next x insertion) p ≡ edits_of r (module_in w) x → IfSome p (MadeIsOf w.ctx) → FirstMatch r w x insertion p
-  tried None e of = left_out r (module_in w) x pattern_set e
-  tried (Some p) e of = (record { edits = e; of = of }, taken r (module_in w) x (made_edits w.ctx (module_in w).next x insertion p) pattern_set e)
+  attempted : (p : Option RulePlan) → option_map (made_edits w.ctx (module_in w).next x insertion) p ≡ edits_of r (module_in w) x → IfSome p (MadeIsOf w.ctx) → FirstMatch r w x insertion p
+  attempted None e of = left_out r (module_in w) x pattern_set e
+  attempted (Some p) e of = (record { edits = e; of = of }, taken r (module_in w) x (made_edits w.ctx (module_in w).next x insertion p) pattern_set e)
 
   pub tried_ok : {E : Type 0} (result : Result (Option RulePlan) E) → IfOk result (λ p. option_map (made_edits w.ctx (module_in w).next x insertion) p ≡ edits_of r (module_in w) x) → IfOk result (λ p. IfSome p (MadeIsOf w.ctx)) → IfOk result (FirstMatch r w x insertion)
-  tried_ok (Ok p) e of = tried p e of
+  tried_ok (Ok p) e of = attempted p e of
   tried_ok (Err f) e of = tt
 
 -- the first of some rules may be left out, so the first of the others that applies is the first of all

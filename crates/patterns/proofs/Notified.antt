@@ -14,7 +14,7 @@ use Rattle.patterns_lowering.specs.rewriter.Held.{module_held}
 module _ {B : Type 0} (meaning : B → Listener) where
   -- no events from a state to itself
   pub notified_stays : (b : Benched B) → Notified meaning [] b b
-  notified_stays b = record { grows = grows_refl b.transaction.ctx; steps = refl; told = all_none meaning b.transaction.ctx (module_held b.transaction) b.listeners }
+  notified_stays b = record { grows = grows_refl b.transaction.ctx; steps = refl; reported = all_none meaning b.transaction.ctx (module_held b.transaction) b.listeners }
 
   -- over two calls
   pub notified_through : (es fs : List Event) (a b c : Benched B) → Holds b.transaction.ctx → Notified meaning es a b → Notified meaning fs b c → Notified meaning (es ++ fs) a c
@@ -22,5 +22,5 @@ module _ {B : Type 0} (meaning : B → Listener) where
       record {
         grows = grows_trans a.transaction.ctx b.transaction.ctx c.transaction.ctx h.grows k.grows;
         steps = steps_on c.transaction.ctx es fs (module_held a.transaction) (module_held b.transaction) (module_held c.transaction) (steps_extra b.transaction.ctx c.transaction.ctx k.grows (λ n is. name_stays b.transaction.ctx c.transaction.ctx n k.grows is) (λ x is. attr_stays b.transaction.ctx c.transaction.ctx x holds k.grows is) es (module_held a.transaction) (module_held b.transaction) h.steps) k.steps;
-        told = all_more meaning es fs a.transaction.ctx b.transaction.ctx c.transaction.ctx (module_held a.transaction) (module_held b.transaction) (module_held c.transaction) a.listeners b.listeners c.listeners h.told k.told;
+        reported = all_more meaning es fs a.transaction.ctx b.transaction.ctx c.transaction.ctx (module_held a.transaction) (module_held b.transaction) (module_held c.transaction) a.listeners b.listeners c.listeners h.reported k.reported;
       }

@@ -61,21 +61,21 @@ type_made node c d t holds e = (
 
 kept_plain : (names : List (List ℕ)) (node : AttrNode) → IsPlain node → kept names node ≡ node
 unfolding kept
-kept_plain names (attr.Int ty value) plain = refl
-kept_plain names (attr.Str name) plain = refl
-kept_plain names (attr.Ty ty) plain = refl
-kept_plain names attr.Unit plain = refl
-kept_plain names (attr.Array items) plain = refl
-kept_plain names (attr.Dict entries) plain = absurd plain
-kept_plain names (attr.Sym parts) plain = refl
-kept_plain names (attr.Dense elem values) plain = refl
-kept_plain names (attr.Overflow nsw nuw) plain = refl
-kept_plain names (attr.Opaque text ty) plain = refl
+kept_plain names (attr.Int ty value) simple = refl
+kept_plain names (attr.Str name) simple = refl
+kept_plain names (attr.Ty ty) simple = refl
+kept_plain names attr.Unit simple = refl
+kept_plain names (attr.Array items) simple = refl
+kept_plain names (attr.Dict entries) simple = absurd simple
+kept_plain names (attr.Sym parts) simple = refl
+kept_plain names (attr.Dense elem values) simple = refl
+kept_plain names (attr.Overflow nsw nuw) simple = refl
+kept_plain names (attr.Opaque text ty) simple = refl
 
 pub attr_made : (node : AttrNode) (c d : ContextModel) (a : ℕ) → Holds c → IsPlain node → (a, d) ≡ with_attr node c → IsAttrOf d a (attr_node_term c node)
-attr_made node c d a holds plain e = (
+attr_made node c d a holds simple e = (
   slice_get_within d.attrs a (kept c.names node) (ap (λ (z : ℕ × ContextModel). slice_get z.1.attrs z.0) e ∙ attr_stands node c),
-  ap (λ (z : ℕ × ContextModel). attr_term z.1 z.0) e ∙ new_attr node c holds ∙ ap (attr_node_term c) (kept_plain c.names node plain),
+  ap (λ (z : ℕ × ContextModel). attr_term z.1 z.0) e ∙ new_attr node c holds ∙ ap (attr_node_term c) (kept_plain c.names node simple),
 )
 
 -- ---- the context is full
@@ -124,20 +124,20 @@ fine_size (Memref dims elem) e = not_bad _ e
 fine_size (OpaqueType text) e = cc
 
 plain_reasons : (node : AttrNode) → IsPlain node → (count_reason node ≡ None) × (key_reason node ≡ None)
-plain_reasons (attr.Int ty value) plain = (refl, refl)
-plain_reasons (attr.Str name) plain = (refl, refl)
-plain_reasons (attr.Ty ty) plain = (refl, refl)
-plain_reasons attr.Unit plain = (refl, refl)
-plain_reasons (attr.Array items) plain = (refl, refl)
-plain_reasons (attr.Dict entries) plain = absurd plain
-plain_reasons (attr.Sym parts) plain = (refl, refl)
-plain_reasons (attr.Dense elem values) plain = (refl, refl)
-plain_reasons (attr.Overflow nsw nuw) plain = (refl, refl)
-plain_reasons (attr.Opaque text ty) plain = (refl, refl)
+plain_reasons (attr.Int ty value) simple = (refl, refl)
+plain_reasons (attr.Str name) simple = (refl, refl)
+plain_reasons (attr.Ty ty) simple = (refl, refl)
+plain_reasons attr.Unit simple = (refl, refl)
+plain_reasons (attr.Array items) simple = (refl, refl)
+plain_reasons (attr.Dict entries) simple = absurd simple
+plain_reasons (attr.Sym parts) simple = (refl, refl)
+plain_reasons (attr.Dense elem values) simple = (refl, refl)
+plain_reasons (attr.Overflow nsw nuw) simple = (refl, refl)
+plain_reasons (attr.Opaque text ty) simple = (refl, refl)
 
 full_attr : (node : AttrNode) (c : ContextModel) → IsPlain node → attr_reason node c ≡ Some TooMany → most_things ≤ length c.attrs
-full_attr node c plain e =
-    let p = plain_reasons node plain in
+full_attr node c simple e =
+    let p = plain_reasons node simple in
     elim (either (attr_fault (attr_node_term c node)) _ TooMany e) [
       | inl h ↦ absurd (elim (either (value_reason (attr_node_term c node)) _ TooMany h) [ inl k ↦ fine_value (attr_node_term c node) k | inr k ↦ not_deep _ k ])
       | inr h ↦ elim (either (count_reason node) _ TooMany h) [
@@ -162,7 +162,7 @@ refused_for None (Err r) h e = (let n : r ≡ TooMany = cc in let m : Memory ≡
 refused_for (Some r) result h e = (let n : Err r ≡ Err TooMany = sym h ∙ e in cc)
 
 pub no_headroom_attr : (node : AttrNode) (c d : ContextModel) (result : Result ℕ Refusal) → IsPlain node → IsRefusedFor (attr_reason node c) result → result ≡ Err TooMany → d ≡ c → IsCapacityRefusal d Full
-no_headroom_attr node c d result plain h e same = inr (refl, inr (subst (λ (z : ContextModel). most_things ≤ length z.attrs) (sym same) (full_attr node c plain (refused_for (attr_reason node c) result h e))))
+no_headroom_attr node c d result simple h e same = inr (refl, inr (subst (λ (z : ContextModel). most_things ≤ length z.attrs) (sym same) (full_attr node c simple (refused_for (attr_reason node c) result h e))))
 
 pub no_headroom_type : (node : TypeNode) (c d : ContextModel) (result : Result ℕ Refusal) → IsRefusedFor (type_reason node c) result → result ≡ Err TooMany → d ≡ c → IsCapacityRefusal d Full
 no_headroom_type node c d result h e same = inr (refl, inl (subst (λ (z : ContextModel). most_things ≤ length z.types) (sym same) (full_type node c (refused_for (type_reason node c) result h e))))

@@ -24,11 +24,11 @@ use Rattle.patterns.proofs.Leaves.{Stands, addi_flagged, subi_flagged, muli_flag
 
 -- edits one after another
 first_stands : (c : ContextModel) (insertion : Place) (o : Op) (q : Operation) (es : List Coded) (edits : List Edit) → Stands c o q → EditsDenote c es edits → EditsDenote c (coded.Make insertion o ∷ es) (edit.Make insertion q ∷ edits)
-first_stands c insertion o q es edits s rest = record { meaning = λ i. edit.Make insertion (s.means i) ∷ rest.meaning i; fit = ((s.sound, s.bare), rest.fit) }
+first_stands c insertion o q es edits s rest = record { meaning = λ i. edit.Make insertion (s.means i) ∷ rest.meaning i; fits_in = ((s.sound, s.bare), rest.fits_in) }
 
 module _ (c : ContextModel) (sound : IsSound c) (s : InsertionPoint) where
   given_stands : (v : Value) → EditsDenote c (giving s v) (give s.op v)
-  given_stands v = record { meaning = refl; fit = (tt, (tt, tt)) }
+  given_stands v = record { meaning = refl; fits_in = (tt, (tt, tt)) }
 
   module _ (ty : ℕ) (term : TypeTerm) (t : IsTypeOf c ty term) where
     pub constant_edits_stand : (a bits : ℕ) → IsAttrOf c a (IntegerOf term bits) → (es : List Coded) → es ≡ constant_edits s ty a → EditsDenote c es (give_constant s.point s.next s.op term bits)
@@ -73,5 +73,5 @@ module _ (c : ContextModel) (sound : IsSound c) (s : InsertionPoint) where
       subst (λ z. EditsDenote c z (mirroring s.op p v w)) (sym is)
       (record {
         meaning = λ i. edit.SetAttr s.op (key.1 i) (of.1 i) ∷ edit.SetOperand s.op 0 v ∷ edit.SetOperand s.op 1 w ∷ [];
-        fit = ((key.0, of.0), (tt, (tt, tt)));
+        fits_in = ((key.0, of.0), (tt, (tt, tt)));
       })

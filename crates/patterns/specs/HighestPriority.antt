@@ -36,7 +36,7 @@ AreLikely rs w x (Some ks) = first_matching_rule (greedy rs) (module_in w) x ≡
 
 -- rule r is a canonicalization rule and may apply at operation x
 pub record IsLikely (r : Rule) (w : World) (x : ℕ) : Type 0 where
-  pub tried : is_canonical r ≡ true
+  pub attempted : is_canonical r ≡ true
   pub dead : r ≡ EraseDead → IsDead w x
 
 -- the first of some rules, if there is one, is such a rule

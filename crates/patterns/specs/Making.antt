@@ -14,7 +14,7 @@ use Rattle.patterns.specs.declared.plan.RulePlan.TheVariants as made
 -- edits of the code fit a context and mean these edits there
 pub record EditsDenote (c : ContextModel) (es : List Coded) (edits : List Edit) : Type 0 where
   pub meaning : edits_meaning c es ≡ edits
-  pub fit : AllFit c es
+  pub fits_in : AllFit c es
 
 -- the number of operations that an edit makes, and that some edits make
 abbrev pub edit_makes : Coded → ℕ

@@ -212,10 +212,10 @@ pub fn apply_highest_priority<L: Analysis>(
     if !world.store.in_tree(op) {
         return Err(Refusal::NoSuchOp);
     }
-    let Ok(lowest) = find_highest_priority(alloc, world, op) else {
+    let Ok(highest_rule) = find_highest_priority(alloc, world, op) else {
         return Err(Refusal::Memory);
     };
-    let Some(found) = lowest else {
+    let Some(found) = highest_rule else {
         return Ok(None);
     };
     let rule = found.rule;

@@ -18,7 +18,7 @@ use patterns_lowering::Bench;
 /// Interns an attribute that isn't a dictionary.
 fn attr<L: Analysis>(bench: &mut Bench<L>, node: AttrNode) -> Result<AttrId, Refusal>
     requires of { AttrIsOf bench.old.transaction.ctx node }
-    requires plain { IsPlain node }
+    requires simple { IsPlain node }
     ensures ok { IfOk result (λ a. IsAttrOf bench.new.transaction.ctx a (attr_node_term bench.old.transaction.ctx node)) }
     ensures refused { IfErr result (λ e. IsCapacityRefusal bench.new.transaction.ctx e) }
     ensures added { Added L.meaning bench.old bench.new }

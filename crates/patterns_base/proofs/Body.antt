@@ -58,11 +58,11 @@ module _ {N T A : Type 0} (isolated is_table : N → Bool) where
     pub is : region_at r (regions located.at.here) ≡ Some (block args list)
     pub ids : list_ids list ≡ held
     pub opened : isolated (head located.at.here).name ≡ false
-    pub plain : is_table (head located.at.here).name ≡ false
+    pub simple : is_table (head located.at.here).name ≡ false
     pub spared : (k : ℕ) → uses_of (Arg x r k) m.tree ≡ []
 
   module _ (x r : ℕ) (insertion : Place) (m : ModuleOf N T A) (s : Located isolated x insertion m) (args : List T) (y : OpOf N T A) (rest : OpsOf N T A) (is : region_at r (regions s.at.here) ≡ Some (block args (next y rest)))
-      (opened : isolated (head s.at.here).name ≡ false) (plain : is_table (head s.at.here).name ≡ false) (spared : (k : ℕ) → uses_of (Arg x r k) m.tree ≡ []) where
+      (opened : isolated (head s.at.here).name ≡ false) (simple : is_table (head s.at.here).name ≡ false) (spared : (k : ℕ) → uses_of (Arg x r k) m.tree ≡ []) where
     abbrev t : OpOf N T A
     t = m.tree
 
@@ -101,13 +101,13 @@ module _ {N T A : Type 0} (isolated is_table : N → Bool) where
         ]
 
     abbrev go_free : shift_reason isolated is_table (head y).id insertion m.tree ≡ None
-    go_free = moved.move_free isolated is_table x insertion m s y b there refl refl opened spared plain
+    go_free = moved.move_free isolated is_table x insertion m s y b there refl refl opened spared simple
 
     abbrev after : ModuleOf N T A
     after = record m { tree = shifted (head y).id insertion m.tree }
 
     abbrev located_after : Located isolated x insertion (record m { tree = shifted (head y).id insertion m.tree })
-    located_after = moved.move_located isolated is_table x insertion m s y b there refl refl opened spared plain
+    located_after = moved.move_located isolated is_table x insertion m s y b there refl refl opened spared simple
 
     abbrev x_left : Following x insertion (without (head y).id m.tree)
     x_left = moved.x_left isolated is_table x insertion m s y b there refl refl
@@ -173,7 +173,7 @@ module _ {N T A : Type 0} (isolated is_table : N → Bool) where
       is = is_after;
       ids = ids_after;
       opened = ap (λ h. isolated h.name) head_after ∙ opened;
-      plain = ap (λ h. is_table h.name) head_after ∙ plain;
+      simple = ap (λ h. is_table h.name) head_after ∙ simple;
       spared = spared_after;
     }
 
@@ -187,4 +187,4 @@ module _ {N T A : Type 0} (isolated is_table : N → Bool) where
           let first : (head o).id ≡ y = cc in
           let later : list_ids os ≡ ys = cc in
           subst (λ (p : ℕ × List ℕ). (shift_reason isolated is_table p.0 insertion m.tree ≡ None) × Holding x r insertion p.1 (record m { tree = shifted p.0 insertion m.tree })) (λ i. (first i, later i))
-          (go_free x r insertion m h.located h.args o os is h.opened h.plain h.spared, held_after x r insertion m h.located h.args o os is h.opened h.plain h.spared)
+          (go_free x r insertion m h.located h.args o os is h.opened h.simple h.spared, held_after x r insertion m h.located h.args o os is h.opened h.simple h.spared)

@@ -22,7 +22,7 @@ use Rattle.patterns_base.specs.declared.rule.Rule.TheVariants.{ChooseSame, Choos
 use Rattle.patterns_base.specs.declared.rule.Rule.TheVariants.{ExtendExtension, CutCast, CastBack, OpenBranch}
 use Rattle.patterns_base.specs.declared.rule.Rule.TheVariants.{OpenLoop, StopLoop, ExpandMinMax, ExpandDifference}
 use Rattle.patterns_base.specs.declared.rule.Rule.TheVariants.{ExpandRemainder, LowerIndex, LowerLoop, LowerChoice}
-use Rattle.effects.specs.declared.kinds.EffectKinds.{EffectKinds}
+use Rattle.effects.specs.declared.effect_kinds.EffectKinds.{EffectKinds}
 use Rattle.effects.specs.Effects.{effects_by, regions_effects}
 use Rattle.effects.specs.Dead.{is_unused, is_kept}
 use Rattle.effects.specs.Dead as dead
@@ -77,9 +77,9 @@ nothing_next_to r (row ∷ more) name each lacks = by (bytes_eq name row.0) refl
     by false e rest = rest
 
 -- ---- tests that fail
-stopped : {X : Type 0} (b : Bool) (r : Option X) → b ≡ false → when b r ≡ None
-stopped true r h = absurd (grind arith)
-stopped false r h = refl
+aborted : {X : Type 0} (b : Bool) (r : Option X) → b ≡ false → when b r ≡ None
+aborted true r h = absurd (grind arith)
+aborted false r h = refl
 
 stopped_first : {X : Type 0} (b c : Bool) (r : Option X) → b ≡ false → when (b && c) r ≡ None
 stopped_first true c r h = absurd (grind arith)
@@ -118,16 +118,16 @@ two_among : {X : Type 0} (ws : List (List ℕ)) (h : Header) (c : Two → Bool) 
 two_among ws h c f e = two_none h.name h.operands h.results (λ p. when (among ws p.name && c p) (f p)) (λ p s. stopped_first (among ws p.name) (c p) (f p) (ap (among ws) s ∙ e))
 
 two_named : {X : Type 0} (w : List ℕ) (h : Header) (f : Two → Option X) → named w h.name ≡ false → given (two h) (λ p. when (named w p.name) (f p)) ≡ None
-two_named w h f e = two_none h.name h.operands h.results (λ p. when (named w p.name) (f p)) (λ p s. stopped (named w p.name) (f p) (ap (named w) s ∙ e))
+two_named w h f e = two_none h.name h.operands h.results (λ p. when (named w p.name) (f p)) (λ p s. aborted (named w p.name) (f p) (ap (named w) s ∙ e))
 
 three_named : {X : Type 0} (w : List ℕ) (h : Header) (f : Three → Option X) → named w h.name ≡ false → given (three h) (λ p. when (named w p.name) (f p)) ≡ None
-three_named w h f e = three_none h.name h.operands h.results (λ p. when (named w p.name) (f p)) (λ p s. stopped (named w p.name) (f p) (ap (named w) s ∙ e))
+three_named w h f e = three_none h.name h.operands h.results (λ p. when (named w p.name) (f p)) (λ p s. aborted (named w p.name) (f p) (ap (named w) s ∙ e))
 
 one_named : {X : Type 0} (w : List ℕ) (h : Header) (f : One → Option X) → named w h.name ≡ false → given (one h) (λ p. when (named w p.name) (f p)) ≡ None
-one_named w h f e = one_none h.name h.operands h.results (λ p. when (named w p.name) (f p)) (λ p s. stopped (named w p.name) (f p) (ap (named w) s ∙ e))
+one_named w h f e = one_none h.name h.operands h.results (λ p. when (named w p.name) (f p)) (λ p s. aborted (named w p.name) (f p) (ap (named w) s ∙ e))
 
 one_among : {X : Type 0} (ws : List (List ℕ)) (h : Header) (f : One → Option X) → among ws h.name ≡ false → given (one h) (λ p. when (among ws p.name) (f p)) ≡ None
-one_among ws h f e = one_none h.name h.operands h.results (λ p. when (among ws p.name) (f p)) (λ p s. stopped (among ws p.name) (f p) (ap (among ws) s ∙ e))
+one_among ws h f e = one_none h.name h.operands h.results (λ p. when (among ws p.name) (f p)) (λ p s. aborted (among ws p.name) (f p) (ap (among ws) s ∙ e))
 
 two_next_to : {A X : Type 0} (rows : List (List ℕ × A)) (h : Header) (f : Two → A → Option X) → next_to h.name rows ≡ None → given (two h) (λ p. given (next_to p.name rows) (f p)) ≡ None
 two_next_to rows h f e = two_none h.name h.operands h.results (λ p. given (next_to p.name rows) (f p)) (λ p s. ap (λ z. given z (f p)) (ap (λ name. next_to name rows) s ∙ e))
@@ -250,7 +250,7 @@ at_lower_choice = refl
 
 two_ways : {X : Type 0} (b c : Bool) (x y : Option X) → b ≡ false → c ≡ false → (if b then x else when c y) ≡ None
 two_ways true c x y h k = absurd (grind arith)
-two_ways false c x y h k = stopped c y k
+two_ways false c x y h k = aborted c y k
 
 -- ---- operations that don't fold
 tail_of : {X : Type 0} → List X → List X
@@ -330,7 +330,7 @@ module _ (t : Operation) (n : ℕ) (insertion : Place) (o : Operation) where
   none_zero_remainder lacks = two_among remainders h _ _ (elsewhere ZeroRemainder remainders h.name at_zero_remainder lacks)
 
   none_regroup_constants : Without RegroupConstants → regroup_constants t n insertion o ≡ None
-  none_regroup_constants lacks = two_none h.name h.operands h.results _ (λ p s. stopped (among associative p.name) _ (ap (among associative) s ∙ elsewhere RegroupConstants associative h.name at_regroup_constants lacks))
+  none_regroup_constants lacks = two_none h.name h.operands h.results _ (λ p s. aborted (among associative p.name) _ (ap (among associative) s ∙ elsewhere RegroupConstants associative h.name at_regroup_constants lacks))
 
   none_drop_all_ones : Without DropAllOnes → drop_all_ones t n insertion o ≡ None
   none_drop_all_ones lacks = two_none h.name h.operands h.results _ (λ p s. stopped_first (named (codes "arith.andi") p.name) _ _ (ap (named (codes "arith.andi")) s ∙ another DropAllOnes (codes "arith.andi") h.name at_drop_all_ones lacks))
@@ -374,13 +374,13 @@ module _ (t : Operation) (n : ℕ) (insertion : Place) (o : Operation) where
       (ap (among index_casts) s ∙ elsewhere CastBack index_casts h.name at_cast_back lacks))
 
   none_open_branch : Without OpenBranch → open_branch t insertion o ≡ None
-  none_open_branch lacks = stopped (named (codes "scf.if") h.name) _ (another OpenBranch (codes "scf.if") h.name at_open_branch lacks)
+  none_open_branch lacks = aborted (named (codes "scf.if") h.name) _ (another OpenBranch (codes "scf.if") h.name at_open_branch lacks)
 
   none_open_loop : Without OpenLoop → open_loop t insertion o ≡ None
-  none_open_loop lacks = stopped (named (codes "scf.for") h.name) _ (another OpenLoop (codes "scf.for") h.name at_open_loop lacks)
+  none_open_loop lacks = aborted (named (codes "scf.for") h.name) _ (another OpenLoop (codes "scf.for") h.name at_open_loop lacks)
 
   none_stop_loop : Without StopLoop → stop_loop t insertion o ≡ None
-  none_stop_loop lacks = stopped (named (codes "scf.while") h.name) _ (another StopLoop (codes "scf.while") h.name at_stop_loop lacks)
+  none_stop_loop lacks = aborted (named (codes "scf.while") h.name) _ (another StopLoop (codes "scf.while") h.name at_stop_loop lacks)
 
   none_expand_min_max : Without ExpandMinMax → expand_min_max t n insertion o ≡ None
   none_expand_min_max lacks = two_next_to predicate_of_min_max h _ (nothing_next_to ExpandMinMax predicate_of_min_max h.name at_expand_min_max lacks)
@@ -398,7 +398,7 @@ module _ (t : Operation) (n : ℕ) (insertion : Place) (o : Operation) where
   none_lower_choice lacks = stopped_first (named (codes "scf.if") h.name) _ _ (another LowerChoice (codes "scf.if") h.name at_lower_choice lacks)
 
   none_erase_dead : Without EraseDead → erase_dead t n insertion o ≡ None
-  none_erase_dead lacks = stopped (is_erasable t o) _ (goes_not t o lacks)
+  none_erase_dead lacks = aborted (is_erasable t o) _ (goes_not t o lacks)
 
   nothing_to : (ts : List TypeTerm) (x : Option Known) → x ≡ None → folded_to t n insertion o ts x ≡ None
   nothing_to [] x e = refl

@@ -19,7 +19,7 @@ use Rattle.patterns_base.specs.declared.rule.Rule.TheVariants.{ChooseKnown, Choo
 use Rattle.patterns_laws.specs.Keeps.{given, lowered_type}
 use Rattle.ir_tree.specs.Meaning.{Operation}
 use Rattle.ir_tree_laws.proofs.Listed.{both}
-use Rattle.ir_verify.proofs.Verdicts.{none_told}
+use Rattle.ir_verify.proofs.Verdicts.{none_reported}
 use Rattle.ir_verify.specs.Diagnostics.{broken_at, reported_at}
 use Rattle.std.proofs.Common.{[], Bool, List, None, Option, Some, ap, arith, false, if◌then◌else◌, length, not, refl, sym, true, ℕ, ◌&&◌, ◌++◌, ◌+◌, ◌<◌, ◌||◌, ◌∙◌, ◌∷◌, ◌≡◌, ◌≤◌, ◌⊎◌}
 use Rattle.std.specs.Prelude.{◌&&◌}
@@ -42,7 +42,7 @@ pub verified_in_order : (t : Operation) (h : Header) → is_verified t h ≡ tru
 unfolding is_verified is_in_order
 verified_in_order t h e =
     let w = both (breaks_none (broken_at h.id t)) (has_own_properties h) e in
-    λ i. breaks_none (none_told h.id t (breaks_nothing (broken_at h.id t) w.0) i) && w.1 i
+    λ i. breaks_none (none_reported h.id t (breaks_nothing (broken_at h.id t) w.0) i) && w.1 i
 
 module _ (r : Rule) (t : Operation) (h : Header) where
   pub eligible_is : eligible r t h ≡ (if is_erasing r then is_in_order t h else is_verified t h)

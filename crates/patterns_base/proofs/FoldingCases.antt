@@ -25,14 +25,14 @@ use Rattle.patterns_base.specs.Looks.{is_verified, is_in_order, is_erasable, kno
 use Rattle.patterns_base.specs.Casting.{resizing}
 use Rattle.patterns_base.specs.Rules.{rule}
 use Rattle.patterns_base.specs.Rewrites.{none, refused, becomes, edits_of, rewrite_of, eligible}
-use Rattle.patterns_base.proofs.Small.{i8, i32, Case, at_rule, answer, holding, source, number, user, plain, kept, compared, whole}
+use Rattle.patterns_base.proofs.Small.{i8, i32, Case, at_rule, answer, holding, source, number, user, simple, kept, compared, whole}
 
 abbrev erase_dead_dead : Case
 erase_dead_dead =
     at_rule EraseDead 2
     (holding 3 (
     source 1 i32
-    ∷ plain 2 (codes "arith.addi") (Result 1 0 ∷ Result 1 0 ∷ []) (i32 ∷ [])
+    ∷ simple 2 (codes "arith.addi") (Result 1 0 ∷ Result 1 0 ∷ []) (i32 ∷ [])
     ∷ []))
     (becomes (holding 3 (source 1 i32 ∷ [])))
 
@@ -41,7 +41,7 @@ erase_dead_used =
     at_rule EraseDead 2
     (holding 4 (
     source 1 i32
-    ∷ plain 2 (codes "arith.addi") (Result 1 0 ∷ Result 1 0 ∷ []) (i32 ∷ [])
+    ∷ simple 2 (codes "arith.addi") (Result 1 0 ∷ Result 1 0 ∷ []) (i32 ∷ [])
     ∷ user 3 (Result 2 0)
     ∷ []))
     none
@@ -52,7 +52,7 @@ fold_to_constant_i1_sum_wraps =
     (holding 5 (
     number 1 i1 1
     ∷ number 2 i1 1
-    ∷ plain 3 (codes "arith.addi") (Result 1 0 ∷ Result 2 0 ∷ []) (i1 ∷ [])
+    ∷ simple 3 (codes "arith.addi") (Result 1 0 ∷ Result 2 0 ∷ []) (i1 ∷ [])
     ∷ user 4 (Result 3 0)
     ∷ []))
     (becomes (holding 6 (
@@ -68,7 +68,7 @@ fold_to_constant_zero_alone =
     (holding 5 (
     source 1 i32
     ∷ number 2 i32 0
-    ∷ plain 3 (codes "arith.muli") (Result 1 0 ∷ Result 2 0 ∷ []) (i32 ∷ [])
+    ∷ simple 3 (codes "arith.muli") (Result 1 0 ∷ Result 2 0 ∷ []) (i32 ∷ [])
     ∷ user 4 (Result 3 0)
     ∷ []))
     (becomes (holding 6 (
@@ -84,7 +84,7 @@ fold_to_constant_division_by_zero =
     (holding 5 (
     number 1 i32 4
     ∷ number 2 i32 0
-    ∷ plain 3 (codes "arith.divsi") (Result 1 0 ∷ Result 2 0 ∷ []) (i32 ∷ [])
+    ∷ simple 3 (codes "arith.divsi") (Result 1 0 ∷ Result 2 0 ∷ []) (i32 ∷ [])
     ∷ user 4 (Result 3 0)
     ∷ []))
     none
@@ -95,7 +95,7 @@ fold_to_constant_bad_constant =
     (holding 5 (
     source 1 i32
     ∷ kept 2 (codes "arith.constant") [] (i32 ∷ []) ((codes "other", IntegerOf i32 1) ∷ (codes "value", IntegerOf i32 0) ∷ [])
-    ∷ plain 3 (codes "arith.muli") (Result 1 0 ∷ Result 2 0 ∷ []) (i32 ∷ [])
+    ∷ simple 3 (codes "arith.muli") (Result 1 0 ∷ Result 2 0 ∷ []) (i32 ∷ [])
     ∷ user 4 (Result 3 0)
     ∷ []))
     none
@@ -106,12 +106,12 @@ swap_constant_swaps =
     (holding 4 (
     number 1 i32 4
     ∷ source 2 i32
-    ∷ plain 3 (codes "arith.addi") (Result 1 0 ∷ Result 2 0 ∷ []) (i32 ∷ [])
+    ∷ simple 3 (codes "arith.addi") (Result 1 0 ∷ Result 2 0 ∷ []) (i32 ∷ [])
     ∷ []))
     (becomes (holding 4 (
     number 1 i32 4
     ∷ source 2 i32
-    ∷ plain 3 (codes "arith.addi") (Result 2 0 ∷ Result 1 0 ∷ []) (i32 ∷ [])
+    ∷ simple 3 (codes "arith.addi") (Result 2 0 ∷ Result 1 0 ∷ []) (i32 ∷ [])
     ∷ [])))
 
 abbrev swap_constant_two_constants : Case
@@ -120,7 +120,7 @@ swap_constant_two_constants =
     (holding 4 (
     number 1 i32 4
     ∷ number 2 i32 4
-    ∷ plain 3 (codes "arith.addi") (Result 1 0 ∷ Result 2 0 ∷ []) (i32 ∷ [])
+    ∷ simple 3 (codes "arith.addi") (Result 1 0 ∷ Result 2 0 ∷ []) (i32 ∷ [])
     ∷ []))
     none
 
@@ -130,7 +130,7 @@ swap_constant_bad_second_constant =
     (holding 4 (
     number 1 i32 4
     ∷ kept 2 (codes "arith.constant") [] (i32 ∷ []) ((codes "value", IntegerOf i64 0) ∷ [])
-    ∷ plain 3 (codes "arith.addi") (Result 1 0 ∷ Result 2 0 ∷ []) (i32 ∷ [])
+    ∷ simple 3 (codes "arith.addi") (Result 1 0 ∷ Result 2 0 ∷ []) (i32 ∷ [])
     ∷ []))
     none
 
@@ -140,7 +140,7 @@ drop_zero_shift_by_zero =
     (holding 5 (
     source 1 i8
     ∷ number 2 i8 0
-    ∷ plain 3 (codes "arith.shrsi") (Result 1 0 ∷ Result 2 0 ∷ []) (i8 ∷ [])
+    ∷ simple 3 (codes "arith.shrsi") (Result 1 0 ∷ Result 2 0 ∷ []) (i8 ∷ [])
     ∷ user 4 (Result 3 0)
     ∷ []))
     (becomes (holding 5 (
@@ -155,7 +155,7 @@ drop_zero_not_muli =
     (holding 5 (
     source 1 i8
     ∷ number 2 i8 0
-    ∷ plain 3 (codes "arith.muli") (Result 1 0 ∷ Result 2 0 ∷ []) (i8 ∷ [])
+    ∷ simple 3 (codes "arith.muli") (Result 1 0 ∷ Result 2 0 ∷ []) (i8 ∷ [])
     ∷ user 4 (Result 3 0)
     ∷ []))
     none
@@ -166,7 +166,7 @@ drop_one_by_true =
     (holding 5 (
     source 1 i1
     ∷ number 2 i1 1
-    ∷ plain 3 (codes "arith.divsi") (Result 1 0 ∷ Result 2 0 ∷ []) (i1 ∷ [])
+    ∷ simple 3 (codes "arith.divsi") (Result 1 0 ∷ Result 2 0 ∷ []) (i1 ∷ [])
     ∷ user 4 (Result 3 0)
     ∷ []))
     (becomes (holding 5 (
@@ -181,7 +181,7 @@ drop_all_ones_all_ones =
     (holding 5 (
     source 1 Index
     ∷ number 2 Index 18446744073709551615
-    ∷ plain 3 (codes "arith.andi") (Result 1 0 ∷ Result 2 0 ∷ []) (Index ∷ [])
+    ∷ simple 3 (codes "arith.andi") (Result 1 0 ∷ Result 2 0 ∷ []) (Index ∷ [])
     ∷ user 4 (Result 3 0)
     ∷ []))
     (becomes (holding 5 (
@@ -196,7 +196,7 @@ drop_all_ones_one_bit_short =
     (holding 5 (
     source 1 i8
     ∷ number 2 i8 127
-    ∷ plain 3 (codes "arith.andi") (Result 1 0 ∷ Result 2 0 ∷ []) (i8 ∷ [])
+    ∷ simple 3 (codes "arith.andi") (Result 1 0 ∷ Result 2 0 ∷ []) (i8 ∷ [])
     ∷ user 4 (Result 3 0)
     ∷ []))
     none
@@ -206,7 +206,7 @@ cancel_itself_itself =
     at_rule CancelItself 2
     (holding 4 (
     source 1 i8
-    ∷ plain 2 (codes "arith.xori") (Result 1 0 ∷ Result 1 0 ∷ []) (i8 ∷ [])
+    ∷ simple 2 (codes "arith.xori") (Result 1 0 ∷ Result 1 0 ∷ []) (i8 ∷ [])
     ∷ user 3 (Result 2 0)
     ∷ []))
     (becomes (holding 5 (
@@ -220,7 +220,7 @@ keep_itself_itself =
     at_rule KeepItself 2
     (holding 4 (
     source 1 i8
-    ∷ plain 2 (codes "arith.minui") (Result 1 0 ∷ Result 1 0 ∷ []) (i8 ∷ [])
+    ∷ simple 2 (codes "arith.minui") (Result 1 0 ∷ Result 1 0 ∷ []) (i8 ∷ [])
     ∷ user 3 (Result 2 0)
     ∷ []))
     (becomes (holding 4 (
@@ -234,7 +234,7 @@ zero_remainder_by_one =
     (holding 5 (
     source 1 i8
     ∷ number 2 i8 1
-    ∷ plain 3 (codes "arith.remsi") (Result 1 0 ∷ Result 2 0 ∷ []) (i8 ∷ [])
+    ∷ simple 3 (codes "arith.remsi") (Result 1 0 ∷ Result 2 0 ∷ []) (i8 ∷ [])
     ∷ user 4 (Result 3 0)
     ∷ []))
     (becomes (holding 6 (
@@ -271,9 +271,9 @@ regroup_constants_another_operation =
     (holding 7 (
     source 1 i8
     ∷ number 2 i8 100
-    ∷ plain 3 (codes "arith.muli") (Result 1 0 ∷ Result 2 0 ∷ []) (i8 ∷ [])
+    ∷ simple 3 (codes "arith.muli") (Result 1 0 ∷ Result 2 0 ∷ []) (i8 ∷ [])
     ∷ number 4 i8 100
-    ∷ plain 5 (codes "arith.addi") (Result 3 0 ∷ Result 4 0 ∷ []) (i8 ∷ [])
+    ∷ simple 5 (codes "arith.addi") (Result 3 0 ∷ Result 4 0 ∷ []) (i8 ∷ [])
     ∷ user 6 (Result 5 0)
     ∷ []))
     none
@@ -284,9 +284,9 @@ regroup_constants_constant_first =
     (holding 7 (
     source 1 i8
     ∷ number 2 i8 100
-    ∷ plain 3 (codes "arith.addi") (Result 2 0 ∷ Result 1 0 ∷ []) (i8 ∷ [])
+    ∷ simple 3 (codes "arith.addi") (Result 2 0 ∷ Result 1 0 ∷ []) (i8 ∷ [])
     ∷ number 4 i8 100
-    ∷ plain 5 (codes "arith.addi") (Result 3 0 ∷ Result 4 0 ∷ []) (i8 ∷ [])
+    ∷ simple 5 (codes "arith.addi") (Result 3 0 ∷ Result 4 0 ∷ []) (i8 ∷ [])
     ∷ user 6 (Result 5 0)
     ∷ []))
     none
@@ -297,7 +297,7 @@ add_negative_negated =
     (holding 5 (
     source 1 i8
     ∷ number 2 i8 1
-    ∷ plain 3 (codes "arith.subi") (Result 1 0 ∷ Result 2 0 ∷ []) (i8 ∷ [])
+    ∷ simple 3 (codes "arith.subi") (Result 1 0 ∷ Result 2 0 ∷ []) (i8 ∷ [])
     ∷ user 4 (Result 3 0)
     ∷ []))
     (becomes (holding 7 (
@@ -413,7 +413,7 @@ choose_same_same =
     (holding 5 (
     source 1 i1
     ∷ source 2 (Memref (Some 2 ∷ []) i8)
-    ∷ plain 3 (codes "arith.select") (Result 1 0 ∷ Result 2 0 ∷ Result 2 0 ∷ []) (Memref (Some 2 ∷ []) i8 ∷ [])
+    ∷ simple 3 (codes "arith.select") (Result 1 0 ∷ Result 2 0 ∷ Result 2 0 ∷ []) (Memref (Some 2 ∷ []) i8 ∷ [])
     ∷ user 4 (Result 3 0)
     ∷ []))
     (becomes (holding 5 (
@@ -429,7 +429,7 @@ choose_known_true =
     number 1 i1 1
     ∷ source 2 i8
     ∷ source 3 i8
-    ∷ plain 4 (codes "arith.select") (Result 1 0 ∷ Result 2 0 ∷ Result 3 0 ∷ []) (i8 ∷ [])
+    ∷ simple 4 (codes "arith.select") (Result 1 0 ∷ Result 2 0 ∷ Result 3 0 ∷ []) (i8 ∷ [])
     ∷ user 5 (Result 4 0)
     ∷ []))
     (becomes (holding 6 (
@@ -446,7 +446,7 @@ choose_known_false =
     number 1 i1 0
     ∷ source 2 i8
     ∷ source 3 i8
-    ∷ plain 4 (codes "arith.select") (Result 1 0 ∷ Result 2 0 ∷ Result 3 0 ∷ []) (i8 ∷ [])
+    ∷ simple 4 (codes "arith.select") (Result 1 0 ∷ Result 2 0 ∷ Result 3 0 ∷ []) (i8 ∷ [])
     ∷ user 5 (Result 4 0)
     ∷ []))
     (becomes (holding 6 (
@@ -463,7 +463,7 @@ choose_truth_itself =
     source 1 i1
     ∷ number 2 i1 1
     ∷ number 3 i1 0
-    ∷ plain 4 (codes "arith.select") (Result 1 0 ∷ Result 2 0 ∷ Result 3 0 ∷ []) (i1 ∷ [])
+    ∷ simple 4 (codes "arith.select") (Result 1 0 ∷ Result 2 0 ∷ Result 3 0 ∷ []) (i1 ∷ [])
     ∷ user 5 (Result 4 0)
     ∷ []))
     (becomes (holding 6 (
@@ -480,7 +480,7 @@ choose_truth_wider =
     source 1 i1
     ∷ number 2 i8 1
     ∷ number 3 i8 0
-    ∷ plain 4 (codes "arith.select") (Result 1 0 ∷ Result 2 0 ∷ Result 3 0 ∷ []) (i8 ∷ [])
+    ∷ simple 4 (codes "arith.select") (Result 1 0 ∷ Result 2 0 ∷ Result 3 0 ∷ []) (i8 ∷ [])
     ∷ user 5 (Result 4 0)
     ∷ []))
     none
@@ -491,18 +491,18 @@ choose_opposite_opposite =
     (holding 7 (
     source 1 i1
     ∷ number 2 i1 1
-    ∷ plain 3 (codes "arith.xori") (Result 1 0 ∷ Result 2 0 ∷ []) (i1 ∷ [])
+    ∷ simple 3 (codes "arith.xori") (Result 1 0 ∷ Result 2 0 ∷ []) (i1 ∷ [])
     ∷ source 4 i8
     ∷ source 5 i8
-    ∷ plain 6 (codes "arith.select") (Result 3 0 ∷ Result 4 0 ∷ Result 5 0 ∷ []) (i8 ∷ [])
+    ∷ simple 6 (codes "arith.select") (Result 3 0 ∷ Result 4 0 ∷ Result 5 0 ∷ []) (i8 ∷ [])
     ∷ []))
     (becomes (holding 7 (
     source 1 i1
     ∷ number 2 i1 1
-    ∷ plain 3 (codes "arith.xori") (Result 1 0 ∷ Result 2 0 ∷ []) (i1 ∷ [])
+    ∷ simple 3 (codes "arith.xori") (Result 1 0 ∷ Result 2 0 ∷ []) (i1 ∷ [])
     ∷ source 4 i8
     ∷ source 5 i8
-    ∷ plain 6 (codes "arith.select") (Result 1 0 ∷ Result 5 0 ∷ Result 4 0 ∷ []) (i8 ∷ [])
+    ∷ simple 6 (codes "arith.select") (Result 1 0 ∷ Result 5 0 ∷ Result 4 0 ∷ []) (i8 ∷ [])
     ∷ [])))
 
 abbrev expand_min_max_maxui : Case
@@ -511,14 +511,14 @@ expand_min_max_maxui =
     (holding 5 (
     source 1 i8
     ∷ source 2 i8
-    ∷ plain 3 (codes "arith.maxui") (Result 1 0 ∷ Result 2 0 ∷ []) (i8 ∷ [])
+    ∷ simple 3 (codes "arith.maxui") (Result 1 0 ∷ Result 2 0 ∷ []) (i8 ∷ [])
     ∷ user 4 (Result 3 0)
     ∷ []))
     (becomes (holding 7 (
     source 1 i8
     ∷ source 2 i8
     ∷ compared 5 8 (Result 1 0) (Result 2 0)
-    ∷ plain 6 (codes "arith.select") (Result 5 0 ∷ Result 1 0 ∷ Result 2 0 ∷ []) (i8 ∷ [])
+    ∷ simple 6 (codes "arith.select") (Result 5 0 ∷ Result 1 0 ∷ Result 2 0 ∷ []) (i8 ∷ [])
     ∷ user 4 (Result 6 0)
     ∷ [])))
 
@@ -528,14 +528,14 @@ expand_difference_index =
     (holding 5 (
     source 1 Index
     ∷ source 2 Index
-    ∷ plain 3 (codes "arith.subi") (Result 1 0 ∷ Result 2 0 ∷ []) (Index ∷ [])
+    ∷ simple 3 (codes "arith.subi") (Result 1 0 ∷ Result 2 0 ∷ []) (Index ∷ [])
     ∷ user 4 (Result 3 0)
     ∷ []))
     (becomes (holding 10 (
     source 1 Index
     ∷ source 2 Index
     ∷ number 5 Index 18446744073709551615
-    ∷ plain 6 (codes "arith.xori") (Result 2 0 ∷ Result 5 0 ∷ []) (Index ∷ [])
+    ∷ simple 6 (codes "arith.xori") (Result 2 0 ∷ Result 5 0 ∷ []) (Index ∷ [])
     ∷ number 7 Index 1
     ∷ kept 8 (codes "arith.addi") (Result 6 0 ∷ Result 7 0 ∷ []) (Index ∷ []) ((codes "overflowFlags", Overflow false false) ∷ [])
     ∷ kept 9 (codes "arith.addi") (Result 1 0 ∷ Result 8 0 ∷ []) (Index ∷ []) ((codes "overflowFlags", Overflow false false) ∷ [])
@@ -548,13 +548,13 @@ expand_remainder_remsi =
     (holding 5 (
     source 1 i8
     ∷ source 2 i8
-    ∷ plain 3 (codes "arith.remsi") (Result 1 0 ∷ Result 2 0 ∷ []) (i8 ∷ [])
+    ∷ simple 3 (codes "arith.remsi") (Result 1 0 ∷ Result 2 0 ∷ []) (i8 ∷ [])
     ∷ user 4 (Result 3 0)
     ∷ []))
     (becomes (holding 8 (
     source 1 i8
     ∷ source 2 i8
-    ∷ plain 5 (codes "arith.divsi") (Result 1 0 ∷ Result 2 0 ∷ []) (i8 ∷ [])
+    ∷ simple 5 (codes "arith.divsi") (Result 1 0 ∷ Result 2 0 ∷ []) (i8 ∷ [])
     ∷ kept 6 (codes "arith.muli") (Result 5 0 ∷ Result 2 0 ∷ []) (i8 ∷ []) ((codes "overflowFlags", Overflow false false) ∷ [])
     ∷ kept 7 (codes "arith.subi") (Result 1 0 ∷ Result 6 0 ∷ []) (i8 ∷ []) ((codes "overflowFlags", Overflow false false) ∷ [])
     ∷ user 4 (Result 7 0)
@@ -571,7 +571,7 @@ erase_dead_past_the_last_id =
     at_rule EraseDead 2
     (holding 4294967295 (
     source 1 i32
-    ∷ plain 2 (codes "arith.addi") (Result 1 0 ∷ Result 1 0 ∷ []) (i32 ∷ [])
+    ∷ simple 2 (codes "arith.addi") (Result 1 0 ∷ Result 1 0 ∷ []) (i32 ∷ [])
     ∷ []))
     (becomes (holding 4294967295 (source 1 i32 ∷ [])))
 
@@ -580,7 +580,7 @@ cancel_itself_last_id =
     at_rule CancelItself 2
     (holding 4294967294 (
     source 1 i8
-    ∷ plain 2 (codes "arith.xori") (Result 1 0 ∷ Result 1 0 ∷ []) (i8 ∷ [])
+    ∷ simple 2 (codes "arith.xori") (Result 1 0 ∷ Result 1 0 ∷ []) (i8 ∷ [])
     ∷ user 3 (Result 2 0)
     ∷ []))
     (becomes (holding 4294967295 (
@@ -594,7 +594,7 @@ cancel_itself_past_the_last_id =
     at_rule CancelItself 2
     (holding 4294967295 (
     source 1 i8
-    ∷ plain 2 (codes "arith.xori") (Result 1 0 ∷ Result 1 0 ∷ []) (i8 ∷ [])
+    ∷ simple 2 (codes "arith.xori") (Result 1 0 ∷ Result 1 0 ∷ []) (i8 ∷ [])
     ∷ user 3 (Result 2 0)
     ∷ []))
     (refused IdsExhausted)
@@ -605,7 +605,7 @@ expand_min_max_second_past_the_last_id =
     (holding 4294967294 (
     source 1 i8
     ∷ source 2 i8
-    ∷ plain 3 (codes "arith.maxui") (Result 1 0 ∷ Result 2 0 ∷ []) (i8 ∷ [])
+    ∷ simple 3 (codes "arith.maxui") (Result 1 0 ∷ Result 2 0 ∷ []) (i8 ∷ [])
     ∷ user 4 (Result 3 0)
     ∷ []))
     (refused IdsExhausted)
@@ -624,5 +624,5 @@ cases =
 
 -- each result is that of the definitions (to find one that isn't, shorten the list)
 pub answered : map answer cases ≡ map (λ c. c.after) cases
-unfolding rewrite_of edits_of rule is_verified is_in_order eligible is_erasable known resizing registry.row_of rows.rows words.operations words.is_inherent words.is_listed words.is_table words.is_isolated properties.is_allowed properties.is_of_kind properties.kind_of properties.kinds folds.fold_of folds.rule_of folds.rules folds.predicates arithmetic.absorbs arithmetic.sum_of arithmetic.difference_of arithmetic.product_of arithmetic.signed_quotient_of arithmetic.signed_remainder_of arithmetic.quotient_of arithmetic.remainder_of readings.signed_of readings.wrapped named.commutative named.with_zero_as_right_identity named.with_one_as_right_identity named.self_inverse named.idempotent named.remainders named.associative named.extensions named.index_casts named.arithmetic named.index_users named.flagged named.predicate_of_min_max named.division_of_remainder
+unfolding rewrite_of edits_of rule is_verified is_in_order eligible is_erasable known resizing registry.row_of rows.rows words.operations words.is_inherent words.is_listed words.is_table words.is_isolated properties.is_allowed properties.is_of_kind properties.kind_of properties.property_kinds folds.fold_of folds.rule_of folds.rules folds.predicates arithmetic.absorbs arithmetic.sum_of arithmetic.difference_of arithmetic.product_of arithmetic.signed_quotient_of arithmetic.signed_remainder_of arithmetic.quotient_of arithmetic.remainder_of readings.signed_of readings.wrapped named.commutative named.with_zero_as_right_identity named.with_one_as_right_identity named.self_inverse named.idempotent named.remainders named.associative named.extensions named.index_casts named.arithmetic named.index_users named.flagged named.predicate_of_min_max named.division_of_remainder
 answered = refl

@@ -19,7 +19,7 @@ use Rattle.patterns_base.specs.Looks.{is_verified, is_in_order, is_erasable, kno
 use Rattle.patterns_base.specs.Casting.{resizing}
 use Rattle.patterns_base.specs.Rules.{rule}
 use Rattle.patterns_base.specs.Rewrites.{none, becomes, edits_of, rewrite_of, eligible}
-use Rattle.patterns_base.proofs.Small.{i8, Case, at_rule, answer, body, holding, source, number, user, bridged, plain, compared, whole}
+use Rattle.patterns_base.proofs.Small.{i8, Case, at_rule, answer, body, holding, source, number, user, bridged, simple, compared, whole}
 
 abbrev lower_index_sum : Case
 lower_index_sum =
@@ -73,7 +73,7 @@ lower_index_choice =
     (holding 5 (
     source 1 i1
     ∷ source 2 Index
-    ∷ plain 3 (codes "arith.select") (Result 1 0 ∷ Result 2 0 ∷ Result 2 0 ∷ []) (Index ∷ [])
+    ∷ simple 3 (codes "arith.select") (Result 1 0 ∷ Result 2 0 ∷ Result 2 0 ∷ []) (Index ∷ [])
     ∷ user 4 (Result 3 0)
     ∷ []))
     (becomes (holding 9 (
@@ -81,7 +81,7 @@ lower_index_choice =
     ∷ source 2 Index
     ∷ bridged 5 i64 (Result 2 0)
     ∷ bridged 6 i64 (Result 2 0)
-    ∷ plain 7 (codes "arith.select") (Result 1 0 ∷ Result 5 0 ∷ Result 6 0 ∷ []) (i64 ∷ [])
+    ∷ simple 7 (codes "arith.select") (Result 1 0 ∷ Result 5 0 ∷ Result 6 0 ∷ []) (i64 ∷ [])
     ∷ bridged 8 Index (Result 7 0)
     ∷ user 4 (Result 8 0)
     ∷ [])))
@@ -91,7 +91,7 @@ lower_index_no_index =
     at_rule LowerIndex 2
     (holding 4 (
     source 1 i8
-    ∷ plain 2 (codes "arith.addi") (Result 1 0 ∷ Result 1 0 ∷ []) (i8 ∷ [])
+    ∷ simple 2 (codes "arith.addi") (Result 1 0 ∷ Result 1 0 ∷ []) (i8 ∷ [])
     ∷ user 3 (Result 2 0)
     ∷ []))
     none
@@ -104,8 +104,8 @@ lower_loop_loop =
     ∷ source 2 i8
     ∷ whole 3 (codes "scf.for") (Result 1 0 ∷ Result 1 0 ∷ Result 1 0 ∷ Result 2 0 ∷ Result 1 0 ∷ []) (i8 ∷ Index ∷ []) [] ((codes "note", Flag) ∷ [])
     (region (body (Index ∷ i8 ∷ Index ∷ []) (
-    plain 4 (codes "t.f") (Arg 3 0 0 ∷ Arg 3 0 1 ∷ Arg 3 0 2 ∷ []) []
-    ∷ plain 5 (codes "scf.yield") (Arg 3 0 1 ∷ Arg 3 0 0 ∷ []) []
+    simple 4 (codes "t.f") (Arg 3 0 0 ∷ Arg 3 0 1 ∷ Arg 3 0 2 ∷ []) []
+    ∷ simple 5 (codes "scf.yield") (Arg 3 0 1 ∷ Arg 3 0 0 ∷ []) []
     ∷ [])) no_regions)
     ∷ user 6 (Result 3 1)
     ∷ []))
@@ -120,9 +120,9 @@ lower_loop_loop =
     (region (body (i64 ∷ i8 ∷ i64 ∷ []) (
     bridged 15 Index (Arg 14 0 0)
     ∷ bridged 16 Index (Arg 14 0 2)
-    ∷ plain 4 (codes "t.f") (Result 15 0 ∷ Arg 14 0 1 ∷ Result 16 0 ∷ []) []
+    ∷ simple 4 (codes "t.f") (Result 15 0 ∷ Arg 14 0 1 ∷ Result 16 0 ∷ []) []
     ∷ bridged 17 i64 (Result 15 0)
-    ∷ plain 5 (codes "scf.yield") (Arg 14 0 1 ∷ Result 17 0 ∷ []) []
+    ∷ simple 5 (codes "scf.yield") (Arg 14 0 1 ∷ Result 17 0 ∷ []) []
     ∷ [])) no_regions)
     ∷ bridged 18 Index (Result 14 1)
     ∷ user 6 (Result 18 0)
@@ -134,7 +134,7 @@ lower_loop_no_index =
     (holding 4 (
     source 1 i8
     ∷ whole 2 (codes "scf.for") (Result 1 0 ∷ Result 1 0 ∷ Result 1 0 ∷ []) [] [] []
-    (region (body (i8 ∷ []) (plain 3 (codes "scf.yield") [] [] ∷ [])) no_regions)
+    (region (body (i8 ∷ []) (simple 3 (codes "scf.yield") [] [] ∷ [])) no_regions)
     ∷ []))
     none
 
@@ -146,9 +146,9 @@ lower_choice_if =
     ∷ source 2 Index
     ∷ whole 3 (codes "scf.if") (Result 1 0 ∷ []) (Index ∷ i1 ∷ []) [] []
     (region (body [] (
-    plain 4 (codes "t.x") [] []
-    ∷ plain 5 (codes "scf.yield") (Result 2 0 ∷ Result 1 0 ∷ []) []
-    ∷ [])) (region (body [] (plain 6 (codes "scf.yield") (Result 2 0 ∷ Result 1 0 ∷ []) [] ∷ [])) no_regions))
+    simple 4 (codes "t.x") [] []
+    ∷ simple 5 (codes "scf.yield") (Result 2 0 ∷ Result 1 0 ∷ []) []
+    ∷ [])) (region (body [] (simple 6 (codes "scf.yield") (Result 2 0 ∷ Result 1 0 ∷ []) [] ∷ [])) no_regions))
     ∷ user 7 (Result 3 0)
     ∷ []))
     (becomes (holding 12 (
@@ -156,12 +156,12 @@ lower_choice_if =
     ∷ source 2 Index
     ∷ whole 8 (codes "scf.if") (Result 1 0 ∷ []) (i64 ∷ i1 ∷ []) [] []
     (region (body [] (
-    plain 4 (codes "t.x") [] []
+    simple 4 (codes "t.x") [] []
     ∷ bridged 9 i64 (Result 2 0)
-    ∷ plain 5 (codes "scf.yield") (Result 9 0 ∷ Result 1 0 ∷ []) []
+    ∷ simple 5 (codes "scf.yield") (Result 9 0 ∷ Result 1 0 ∷ []) []
     ∷ [])) (region (body [] (
     bridged 10 i64 (Result 2 0)
-    ∷ plain 6 (codes "scf.yield") (Result 10 0 ∷ Result 1 0 ∷ []) []
+    ∷ simple 6 (codes "scf.yield") (Result 10 0 ∷ Result 1 0 ∷ []) []
     ∷ [])) no_regions))
     ∷ bridged 11 Index (Result 8 0)
     ∷ user 7 (Result 11 0)
@@ -173,7 +173,7 @@ lower_choice_no_index =
     (holding 4 (
     source 1 i1
     ∷ whole 2 (codes "scf.if") (Result 1 0 ∷ []) [] [] []
-    (region (body [] (plain 3 (codes "scf.yield") [] [] ∷ [])) (region empty no_regions))
+    (region (body [] (simple 3 (codes "scf.yield") [] [] ∷ [])) (region empty no_regions))
     ∷ []))
     none
 
@@ -184,5 +184,5 @@ cases =
 
 -- each result is that of the definitions (to find one that isn't, shorten the list)
 pub answered : map answer cases ≡ map (λ c. c.after) cases
-unfolding rewrite_of edits_of rule is_verified is_in_order eligible is_erasable known resizing registry.row_of rows.rows words.operations words.is_inherent words.is_listed words.is_table words.is_isolated properties.is_allowed properties.is_of_kind properties.kind_of properties.kinds folds.fold_of folds.rule_of folds.rules folds.predicates arithmetic.absorbs arithmetic.sum_of arithmetic.difference_of arithmetic.product_of arithmetic.signed_quotient_of arithmetic.signed_remainder_of arithmetic.quotient_of arithmetic.remainder_of readings.signed_of readings.wrapped named.commutative named.with_zero_as_right_identity named.with_one_as_right_identity named.self_inverse named.idempotent named.remainders named.associative named.extensions named.index_casts named.arithmetic named.index_users named.flagged named.predicate_of_min_max named.division_of_remainder
+unfolding rewrite_of edits_of rule is_verified is_in_order eligible is_erasable known resizing registry.row_of rows.rows words.operations words.is_inherent words.is_listed words.is_table words.is_isolated properties.is_allowed properties.is_of_kind properties.kind_of properties.property_kinds folds.fold_of folds.rule_of folds.rules folds.predicates arithmetic.absorbs arithmetic.sum_of arithmetic.difference_of arithmetic.product_of arithmetic.signed_quotient_of arithmetic.signed_remainder_of arithmetic.quotient_of arithmetic.remainder_of readings.signed_of readings.wrapped named.commutative named.with_zero_as_right_identity named.with_one_as_right_identity named.self_inverse named.idempotent named.remainders named.associative named.extensions named.index_casts named.arithmetic named.index_users named.flagged named.predicate_of_min_max named.division_of_remainder
 answered = refl

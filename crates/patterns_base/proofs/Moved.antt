@@ -362,11 +362,11 @@ module _ {N T A : Type 0} (isolated is_table : N → Bool) (x : ℕ) (insertion 
           let e = stands_depth yp y in
           omega (arith, g, e))
 
-      module _ (plain : is_table (head s.at.here).name ≡ false) where
+      module _ (simple : is_table (head s.at.here).name ≡ false) where
         table_was : table_of is_table (head y).id m.tree ≡ Some (table_in is_table (s.at.step_in ∷ s.at.path))
         table_was =
             sym (stands_table is_table yi [] t) ∙ ap (option_map (λ (z : OpWithPathOf N T A). table_in is_table z.path)) (stand_of_member t d (stand y yp) there)
-            ∙ ap (λ c. Some (cond c (Some (head b.parent).id) (table_in is_table (s.at.step_in ∷ s.at.path)))) (ap (λ (z : OpOf N T A). is_table (head z).name) around_it ∙ plain)
+            ∙ ap (λ c. Some (cond c (Some (head b.parent).id) (table_in is_table (s.at.step_in ∷ s.at.path)))) (ap (λ (z : OpOf N T A). is_table (head z).name) around_it ∙ simple)
 
         table_of_x : Some (table_in is_table (s.at.step_in ∷ s.at.path)) ≡ table_of is_table x (put insertion y (without (head y).id m.tree))
         table_of_x =

@@ -23,7 +23,7 @@ use Rattle.ir_tree_laws.proofs.Members.{stand, itself, within, joined_ops, ops_c
 use Rattle.ir_tree_laws.proofs.Around.{around_there, stands_around, stand_present, member_of_place}
 use Rattle.ir_tree_laws.proofs.Put.{child, of_point, Landed}
 use Rattle.ir_tree_laws.proofs.PutForm as put_form
-use Rattle.ir_tree_laws.proofs.Values.{shape, seen_by}
+use Rattle.ir_tree_laws.proofs.Values.{shaped_as, seen_by}
 use Rattle.ir_tree_laws.proofs.Changed.{joined_among}
 use Rattle.ir_tree_laws.proofs.DominatedBy.{visible_there}
 use Rattle.ir_tree_laws.proofs.Edited.{head_stays, dominance_stays}
@@ -68,7 +68,7 @@ module _ {N T A : Type 0} where
       found = stand_found t d (stand s.step_in.parent s.path) up;
       args = s.step_in.args;
       list = trailing;
-      is = shape t s.here s.step_in s.path s.there;
+      is = shaped_as t s.here s.step_in s.path s.there;
       among = joined_among x s.step_in.preceding (next s.here s.step_in.rest) (or_left (eqb (head s.here).id x) _ (eq-eqb (head s.here).id x s.id));
     })
 
@@ -120,7 +120,7 @@ module _ {N T A : Type 0} where
       still =
           let t' = put preceding o t in
           let list : joined_ops there.step_in.preceding (next o there.step_in.rest) ≡ joined_ops (there.step_in.preceding ++ o ∷ []) (next after_it.it after_it.rest) = ap (λ l. joined_ops there.step_in.preceding (next o l)) after_it.is ∙ sym (joined_more there.step_in.preceding o (next after_it.it after_it.rest)) in
-          within there.step_in.parent there.path (stand after_it.it (b' ∷ there.path)) (child there.step_in.parent there.path there.step_in.region there.step_in.args (joined_ops there.step_in.preceding (next o there.step_in.rest)) (stand after_it.it (b' ∷ there.path)) (shape t' o there.step_in there.path there.there)
+          within there.step_in.parent there.path (stand after_it.it (b' ∷ there.path)) (child there.step_in.parent there.path there.step_in.region there.step_in.args (joined_ops there.step_in.preceding (next o there.step_in.rest)) (stand after_it.it (b' ∷ there.path)) (shaped_as t' o there.step_in there.path there.there)
           (subst (λ l. In (stand after_it.it (b' ∷ there.path)) (ops_stands there.step_in.parent there.path there.step_in.region there.step_in.args [] l)) (sym list) (ops_child there.step_in.parent there.path there.step_in.region there.step_in.args [] (there.step_in.preceding ++ o ∷ []) after_it.it after_it.rest))) [] t' there.around
 
       module _ (isolated : N → Bool) where

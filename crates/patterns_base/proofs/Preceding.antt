@@ -13,7 +13,7 @@ use Rattle.ir_tree_laws.proofs.Readings.{step}
 use Rattle.ir_tree_laws.proofs.Members.{stand, within, joined_ops, ops_child, same_stand}
 use Rattle.ir_tree_laws.proofs.Around.{around_there}
 use Rattle.ir_tree_laws.proofs.Put.{child}
-use Rattle.ir_tree_laws.proofs.Values.{shape}
+use Rattle.ir_tree_laws.proofs.Values.{shaped_as}
 
 -- a list is split at one of its entries
 pub cut_at : {X : Type 0} (x : X) (xs : List X) → In x xs → (us vs : List X) × (xs ≡ us ++ x ∷ vs)
@@ -33,8 +33,8 @@ module _ {N T A : Type 0} where
     pub parent : step_in.parent ≡ a.parent
     pub region : step_in.region ≡ a.region
     pub args : step_in.args ≡ a.args
-    pub between : List (OpOf N T A)
-    pub preceding : a.preceding ≡ step_in.preceding ++ f ∷ between
+    pub intermediate : List (OpOf N T A)
+    pub preceding : a.preceding ≡ step_in.preceding ++ f ∷ intermediate
 
   pub stands_before : (t o f : OpOf N T A) (a : StepOf N T A) (q : List (StepOf N T A)) → In (stand o (a ∷ q)) (stands [] t) → In f a.preceding → Before t f a q
   stands_before t o f a q h m =
@@ -43,12 +43,12 @@ module _ {N T A : Type 0} where
       let list : joined_ops a.preceding (next o a.rest) ≡ joined_ops c.0 (next f (joined_ops c.1 (next o a.rest))) = ap (λ l. joined_ops l (next o a.rest)) c.2 ∙ joined_cut c.0 c.1 f (next o a.rest) in
       record {
         step_in = b;
-        there = within a.parent q (stand f (b ∷ q)) (child a.parent q a.region a.args (joined_ops a.preceding (next o a.rest)) (stand f (b ∷ q)) (shape t o a q h)
+        there = within a.parent q (stand f (b ∷ q)) (child a.parent q a.region a.args (joined_ops a.preceding (next o a.rest)) (stand f (b ∷ q)) (shaped_as t o a q h)
             (subst (λ l. In (stand f (b ∷ q)) (ops_stands a.parent q a.region a.args [] l)) (sym list) (ops_child a.parent q a.region a.args [] c.0 f (joined_ops c.1 (next o a.rest))))) [] t (around_there t o a q h).1;
         parent = refl;
         region = refl;
         args = refl;
-        between = c.1;
+        intermediate = c.1;
         preceding = c.2;
       }
 
@@ -63,7 +63,7 @@ module _ {N T A : Type 0} where
               let id = eqb-true (head o).id (head w.0).id (both (eqb (head o).id (head w.0).id) _ w.2).0 in
               let same = same_stand t d (stand w.0 (b.step_in ∷ q)) (stand o p) b.there there (sym id) in
               let path : b.step_in ∷ q ≡ p = ap (λ (z : OpWithPathOf N T A). z.path) same in
-              nearer a b.step_in q b.between w.0 b.parent b.region b.args b.preceding (subst (λ l. dominated_by isolated l v ≡ true) (sym path) s))
+              nearer a b.step_in q b.intermediate w.0 b.parent b.region b.args b.preceding (subst (λ l. dominated_by isolated l v ≡ true) (sym path) s))
           | inr m ↦ or_right (list_any (λ f. shows v (results_of f)) a.preceding) _ (or_right (shows v (arguments (head a.parent).id a.region (length a.args))) _
               (let c = both (not (isolated (head a.parent).name)) (dominated_by isolated q (Result (head o).id k)) m in
               both_hold (not (isolated (head a.parent).name)) (dominated_by isolated q v) c.0 (after_dominated_by a.parent q (around_there t u a q h).1 k c.1 v s)))

@@ -20,21 +20,21 @@ use Rattle.patterns_base.specs.Looks.{is_verified, is_in_order, is_erasable, kno
 use Rattle.patterns_base.specs.Casting.{resizing}
 use Rattle.patterns_base.specs.Rules.{rule}
 use Rattle.patterns_base.specs.Rewrites.{none, becomes, edits_of, rewrite_of, eligible}
-use Rattle.patterns_base.proofs.Small.{i8, i16, i32, i63, i65, Case, at_rule, answer, body, holding, source, number, user, bridged, plain, whole}
+use Rattle.patterns_base.proofs.Small.{i8, i16, i32, i63, i65, Case, at_rule, answer, body, holding, source, number, user, bridged, simple, whole}
 
 abbrev extend_extension_signed_of_unsigned : Case
 extend_extension_signed_of_unsigned =
     at_rule ExtendExtension 3
     (holding 5 (
     source 1 i8
-    ∷ plain 2 (codes "arith.extui") (Result 1 0 ∷ []) (i16 ∷ [])
-    ∷ plain 3 (codes "arith.extsi") (Result 2 0 ∷ []) (i32 ∷ [])
+    ∷ simple 2 (codes "arith.extui") (Result 1 0 ∷ []) (i16 ∷ [])
+    ∷ simple 3 (codes "arith.extsi") (Result 2 0 ∷ []) (i32 ∷ [])
     ∷ user 4 (Result 3 0)
     ∷ []))
     (becomes (holding 6 (
     source 1 i8
-    ∷ plain 2 (codes "arith.extui") (Result 1 0 ∷ []) (i16 ∷ [])
-    ∷ plain 5 (codes "arith.extui") (Result 1 0 ∷ []) (i32 ∷ [])
+    ∷ simple 2 (codes "arith.extui") (Result 1 0 ∷ []) (i16 ∷ [])
+    ∷ simple 5 (codes "arith.extui") (Result 1 0 ∷ []) (i32 ∷ [])
     ∷ user 4 (Result 5 0)
     ∷ [])))
 
@@ -43,8 +43,8 @@ extend_extension_unsigned_of_signed =
     at_rule ExtendExtension 3
     (holding 5 (
     source 1 i8
-    ∷ plain 2 (codes "arith.extsi") (Result 1 0 ∷ []) (i16 ∷ [])
-    ∷ plain 3 (codes "arith.extui") (Result 2 0 ∷ []) (i32 ∷ [])
+    ∷ simple 2 (codes "arith.extsi") (Result 1 0 ∷ []) (i16 ∷ [])
+    ∷ simple 3 (codes "arith.extui") (Result 2 0 ∷ []) (i32 ∷ [])
     ∷ user 4 (Result 3 0)
     ∷ []))
     none
@@ -54,14 +54,14 @@ cut_cast_cut_twice =
     at_rule CutCast 3
     (holding 5 (
     source 1 i32
-    ∷ plain 2 (codes "arith.trunci") (Result 1 0 ∷ []) (i16 ∷ [])
-    ∷ plain 3 (codes "arith.trunci") (Result 2 0 ∷ []) (i8 ∷ [])
+    ∷ simple 2 (codes "arith.trunci") (Result 1 0 ∷ []) (i16 ∷ [])
+    ∷ simple 3 (codes "arith.trunci") (Result 2 0 ∷ []) (i8 ∷ [])
     ∷ user 4 (Result 3 0)
     ∷ []))
     (becomes (holding 6 (
     source 1 i32
-    ∷ plain 2 (codes "arith.trunci") (Result 1 0 ∷ []) (i16 ∷ [])
-    ∷ plain 5 (codes "arith.trunci") (Result 1 0 ∷ []) (i8 ∷ [])
+    ∷ simple 2 (codes "arith.trunci") (Result 1 0 ∷ []) (i16 ∷ [])
+    ∷ simple 5 (codes "arith.trunci") (Result 1 0 ∷ []) (i8 ∷ [])
     ∷ user 4 (Result 5 0)
     ∷ [])))
 
@@ -70,13 +70,13 @@ cut_cast_back =
     at_rule CutCast 3
     (holding 5 (
     source 1 i8
-    ∷ plain 2 (codes "arith.extsi") (Result 1 0 ∷ []) (i16 ∷ [])
-    ∷ plain 3 (codes "arith.trunci") (Result 2 0 ∷ []) (i8 ∷ [])
+    ∷ simple 2 (codes "arith.extsi") (Result 1 0 ∷ []) (i16 ∷ [])
+    ∷ simple 3 (codes "arith.trunci") (Result 2 0 ∷ []) (i8 ∷ [])
     ∷ user 4 (Result 3 0)
     ∷ []))
     (becomes (holding 5 (
     source 1 i8
-    ∷ plain 2 (codes "arith.extsi") (Result 1 0 ∷ []) (i16 ∷ [])
+    ∷ simple 2 (codes "arith.extsi") (Result 1 0 ∷ []) (i16 ∷ [])
     ∷ user 4 (Result 1 0)
     ∷ [])))
 
@@ -85,8 +85,8 @@ cut_cast_another_width =
     at_rule CutCast 3
     (holding 5 (
     source 1 i8
-    ∷ plain 2 (codes "arith.extsi") (Result 1 0 ∷ []) (i32 ∷ [])
-    ∷ plain 3 (codes "arith.trunci") (Result 2 0 ∷ []) (i16 ∷ [])
+    ∷ simple 2 (codes "arith.extsi") (Result 1 0 ∷ []) (i32 ∷ [])
+    ∷ simple 3 (codes "arith.trunci") (Result 2 0 ∷ []) (i16 ∷ [])
     ∷ user 4 (Result 3 0)
     ∷ []))
     none
@@ -96,13 +96,13 @@ cast_back_back_to_64 =
     at_rule CastBack 3
     (holding 5 (
     source 1 i64
-    ∷ plain 2 (codes "arith.index_cast") (Result 1 0 ∷ []) (Index ∷ [])
-    ∷ plain 3 (codes "arith.index_cast") (Result 2 0 ∷ []) (i64 ∷ [])
+    ∷ simple 2 (codes "arith.index_cast") (Result 1 0 ∷ []) (Index ∷ [])
+    ∷ simple 3 (codes "arith.index_cast") (Result 2 0 ∷ []) (i64 ∷ [])
     ∷ user 4 (Result 3 0)
     ∷ []))
     (becomes (holding 5 (
     source 1 i64
-    ∷ plain 2 (codes "arith.index_cast") (Result 1 0 ∷ []) (Index ∷ [])
+    ∷ simple 2 (codes "arith.index_cast") (Result 1 0 ∷ []) (Index ∷ [])
     ∷ user 4 (Result 1 0)
     ∷ [])))
 
@@ -111,8 +111,8 @@ rule_cast_back_65_bits =
     at_rule CastBack 3
     (holding 5 (
     source 1 i65
-    ∷ plain 2 (codes "arith.index_cast") (Result 1 0 ∷ []) (Index ∷ [])
-    ∷ plain 3 (codes "arith.index_cast") (Result 2 0 ∷ []) (i65 ∷ [])
+    ∷ simple 2 (codes "arith.index_cast") (Result 1 0 ∷ []) (Index ∷ [])
+    ∷ simple 3 (codes "arith.index_cast") (Result 2 0 ∷ []) (i65 ∷ [])
     ∷ user 4 (Result 3 0)
     ∷ []))
     none
@@ -122,13 +122,13 @@ cast_back_index_through_65 =
     at_rule CastBack 3
     (holding 5 (
     source 1 Index
-    ∷ plain 2 (codes "arith.index_castui") (Result 1 0 ∷ []) (i65 ∷ [])
-    ∷ plain 3 (codes "arith.index_castui") (Result 2 0 ∷ []) (Index ∷ [])
+    ∷ simple 2 (codes "arith.index_castui") (Result 1 0 ∷ []) (i65 ∷ [])
+    ∷ simple 3 (codes "arith.index_castui") (Result 2 0 ∷ []) (Index ∷ [])
     ∷ user 4 (Result 3 0)
     ∷ []))
     (becomes (holding 5 (
     source 1 Index
-    ∷ plain 2 (codes "arith.index_castui") (Result 1 0 ∷ []) (i65 ∷ [])
+    ∷ simple 2 (codes "arith.index_castui") (Result 1 0 ∷ []) (i65 ∷ [])
     ∷ user 4 (Result 1 0)
     ∷ [])))
 
@@ -137,8 +137,8 @@ cast_back_index_through_63 =
     at_rule CastBack 3
     (holding 5 (
     source 1 Index
-    ∷ plain 2 (codes "arith.index_cast") (Result 1 0 ∷ []) (i63 ∷ [])
-    ∷ plain 3 (codes "arith.index_cast") (Result 2 0 ∷ []) (Index ∷ [])
+    ∷ simple 2 (codes "arith.index_cast") (Result 1 0 ∷ []) (i63 ∷ [])
+    ∷ simple 3 (codes "arith.index_cast") (Result 2 0 ∷ []) (Index ∷ [])
     ∷ user 4 (Result 3 0)
     ∷ []))
     none
@@ -179,16 +179,16 @@ open_branch_then =
     ∷ source 2 i8
     ∷ whole 3 (codes "scf.if") (Result 1 0 ∷ []) (i8 ∷ []) [] []
     (region (body [] (
-    plain 4 (codes "arith.addi") (Result 2 0 ∷ Result 2 0 ∷ []) (i8 ∷ [])
+    simple 4 (codes "arith.addi") (Result 2 0 ∷ Result 2 0 ∷ []) (i8 ∷ [])
     ∷ user 5 (Result 4 0)
-    ∷ plain 6 (codes "scf.yield") (Result 4 0 ∷ []) []
-    ∷ [])) (region (body [] (plain 7 (codes "scf.yield") (Result 2 0 ∷ []) [] ∷ [])) no_regions))
+    ∷ simple 6 (codes "scf.yield") (Result 4 0 ∷ []) []
+    ∷ [])) (region (body [] (simple 7 (codes "scf.yield") (Result 2 0 ∷ []) [] ∷ [])) no_regions))
     ∷ user 8 (Result 3 0)
     ∷ []))
     (becomes (holding 9 (
     number 1 i1 1
     ∷ source 2 i8
-    ∷ plain 4 (codes "arith.addi") (Result 2 0 ∷ Result 2 0 ∷ []) (i8 ∷ [])
+    ∷ simple 4 (codes "arith.addi") (Result 2 0 ∷ Result 2 0 ∷ []) (i8 ∷ [])
     ∷ user 5 (Result 4 0)
     ∷ user 8 (Result 4 0)
     ∷ [])))
@@ -200,8 +200,8 @@ open_branch_no_else =
     number 1 i1 0
     ∷ whole 2 (codes "scf.if") (Result 1 0 ∷ []) [] [] []
     (region (body [] (
-    plain 3 (codes "t.x") [] []
-    ∷ plain 4 (codes "scf.yield") [] []
+    simple 3 (codes "t.x") [] []
+    ∷ simple 4 (codes "scf.yield") [] []
     ∷ [])) (region empty no_regions))
     ∷ []))
     (becomes (holding 5 (number 1 i1 0 ∷ [])))
@@ -216,8 +216,8 @@ open_loop_never =
     ∷ source 4 i8
     ∷ whole 5 (codes "scf.for") (Result 1 0 ∷ Result 2 0 ∷ Result 3 0 ∷ Result 4 0 ∷ []) (i8 ∷ []) [] []
     (region (body (i8 ∷ i8 ∷ []) (
-    plain 6 (codes "t.f") (Arg 5 0 0 ∷ Arg 5 0 1 ∷ []) (i8 ∷ [])
-    ∷ plain 7 (codes "scf.yield") (Result 6 0 ∷ []) []
+    simple 6 (codes "t.f") (Arg 5 0 0 ∷ Arg 5 0 1 ∷ []) (i8 ∷ [])
+    ∷ simple 7 (codes "scf.yield") (Result 6 0 ∷ []) []
     ∷ [])) no_regions)
     ∷ user 8 (Result 5 0)
     ∷ []))
@@ -239,8 +239,8 @@ open_loop_once =
     ∷ source 4 i8
     ∷ whole 5 (codes "scf.for") (Result 1 0 ∷ Result 2 0 ∷ Result 3 0 ∷ Result 4 0 ∷ []) (i8 ∷ []) [] []
     (region (body (i8 ∷ i8 ∷ []) (
-    plain 6 (codes "t.f") (Arg 5 0 0 ∷ Arg 5 0 1 ∷ []) (i8 ∷ [])
-    ∷ plain 7 (codes "scf.yield") (Result 6 0 ∷ []) []
+    simple 6 (codes "t.f") (Arg 5 0 0 ∷ Arg 5 0 1 ∷ []) (i8 ∷ [])
+    ∷ simple 7 (codes "scf.yield") (Result 6 0 ∷ []) []
     ∷ [])) no_regions)
     ∷ user 8 (Result 5 0)
     ∷ []))
@@ -249,7 +249,7 @@ open_loop_once =
     ∷ number 2 i8 127
     ∷ number 3 i8 100
     ∷ source 4 i8
-    ∷ plain 6 (codes "t.f") (Result 1 0 ∷ Result 4 0 ∷ []) (i8 ∷ [])
+    ∷ simple 6 (codes "t.f") (Result 1 0 ∷ Result 4 0 ∷ []) (i8 ∷ [])
     ∷ user 8 (Result 6 0)
     ∷ [])))
 
@@ -263,8 +263,8 @@ open_loop_once_hands_on_argument =
     ∷ source 4 i8
     ∷ whole 5 (codes "scf.for") (Result 1 0 ∷ Result 2 0 ∷ Result 3 0 ∷ Result 4 0 ∷ []) (i8 ∷ []) [] []
     (region (body (Index ∷ i8 ∷ []) (
-    plain 6 (codes "t.f") (Arg 5 0 0 ∷ Arg 5 0 1 ∷ []) (i8 ∷ [])
-    ∷ plain 7 (codes "scf.yield") (Arg 5 0 1 ∷ []) []
+    simple 6 (codes "t.f") (Arg 5 0 0 ∷ Arg 5 0 1 ∷ []) (i8 ∷ [])
+    ∷ simple 7 (codes "scf.yield") (Arg 5 0 1 ∷ []) []
     ∷ [])) no_regions)
     ∷ user 8 (Result 5 0)
     ∷ []))
@@ -273,7 +273,7 @@ open_loop_once_hands_on_argument =
     ∷ number 2 Index 1
     ∷ number 3 Index 1
     ∷ source 4 i8
-    ∷ plain 6 (codes "t.f") (Result 1 0 ∷ Result 4 0 ∷ []) (i8 ∷ [])
+    ∷ simple 6 (codes "t.f") (Result 1 0 ∷ Result 4 0 ∷ []) (i8 ∷ [])
     ∷ user 8 (Result 4 0)
     ∷ [])))
 
@@ -287,8 +287,8 @@ open_loop_twice =
     ∷ source 4 i8
     ∷ whole 5 (codes "scf.for") (Result 1 0 ∷ Result 2 0 ∷ Result 3 0 ∷ Result 4 0 ∷ []) (i8 ∷ []) [] []
     (region (body (i8 ∷ i8 ∷ []) (
-    plain 6 (codes "t.f") (Arg 5 0 0 ∷ Arg 5 0 1 ∷ []) (i8 ∷ [])
-    ∷ plain 7 (codes "scf.yield") (Result 6 0 ∷ []) []
+    simple 6 (codes "t.f") (Arg 5 0 0 ∷ Arg 5 0 1 ∷ []) (i8 ∷ [])
+    ∷ simple 7 (codes "scf.yield") (Result 6 0 ∷ []) []
     ∷ [])) no_regions)
     ∷ user 8 (Result 5 0)
     ∷ []))
@@ -304,8 +304,8 @@ open_loop_step_below_zero =
     ∷ source 4 i8
     ∷ whole 5 (codes "scf.for") (Result 1 0 ∷ Result 2 0 ∷ Result 3 0 ∷ Result 4 0 ∷ []) (i8 ∷ []) [] []
     (region (body (i8 ∷ i8 ∷ []) (
-    plain 6 (codes "t.f") (Arg 5 0 0 ∷ Arg 5 0 1 ∷ []) (i8 ∷ [])
-    ∷ plain 7 (codes "scf.yield") (Result 6 0 ∷ []) []
+    simple 6 (codes "t.f") (Arg 5 0 0 ∷ Arg 5 0 1 ∷ []) (i8 ∷ [])
+    ∷ simple 7 (codes "scf.yield") (Result 6 0 ∷ []) []
     ∷ [])) no_regions)
     ∷ user 8 (Result 5 0)
     ∷ []))
@@ -318,15 +318,15 @@ stop_loop_false =
     source 1 i8
     ∷ whole 2 (codes "scf.while") (Result 1 0 ∷ []) (i8 ∷ []) [] []
     (region (body (i8 ∷ []) (
-    plain 3 (codes "t.x") (Arg 2 0 0 ∷ []) []
+    simple 3 (codes "t.x") (Arg 2 0 0 ∷ []) []
     ∷ number 4 i1 0
-    ∷ plain 5 (codes "scf.condition") (Result 4 0 ∷ Arg 2 0 0 ∷ []) []
-    ∷ [])) (region (body (i8 ∷ []) (plain 6 (codes "scf.yield") (Arg 2 1 0 ∷ []) [] ∷ [])) no_regions))
+    ∷ simple 5 (codes "scf.condition") (Result 4 0 ∷ Arg 2 0 0 ∷ []) []
+    ∷ [])) (region (body (i8 ∷ []) (simple 6 (codes "scf.yield") (Arg 2 1 0 ∷ []) [] ∷ [])) no_regions))
     ∷ user 7 (Result 2 0)
     ∷ []))
     (becomes (holding 8 (
     source 1 i8
-    ∷ plain 3 (codes "t.x") (Result 1 0 ∷ []) []
+    ∷ simple 3 (codes "t.x") (Result 1 0 ∷ []) []
     ∷ number 4 i1 0
     ∷ user 7 (Result 1 0)
     ∷ [])))
@@ -338,10 +338,10 @@ stop_loop_true =
     source 1 i8
     ∷ whole 2 (codes "scf.while") (Result 1 0 ∷ []) (i8 ∷ []) [] []
     (region (body (i8 ∷ []) (
-    plain 3 (codes "t.x") (Arg 2 0 0 ∷ []) []
+    simple 3 (codes "t.x") (Arg 2 0 0 ∷ []) []
     ∷ number 4 i1 1
-    ∷ plain 5 (codes "scf.condition") (Result 4 0 ∷ Arg 2 0 0 ∷ []) []
-    ∷ [])) (region (body (i8 ∷ []) (plain 6 (codes "scf.yield") (Arg 2 1 0 ∷ []) [] ∷ [])) no_regions))
+    ∷ simple 5 (codes "scf.condition") (Result 4 0 ∷ Arg 2 0 0 ∷ []) []
+    ∷ [])) (region (body (i8 ∷ []) (simple 6 (codes "scf.yield") (Arg 2 1 0 ∷ []) [] ∷ [])) no_regions))
     ∷ user 7 (Result 2 0)
     ∷ []))
     none
@@ -356,5 +356,5 @@ cases =
 
 -- each result is that of the definitions (to find one that isn't, shorten the list)
 pub answered : map answer cases ≡ map (λ c. c.after) cases
-unfolding rewrite_of edits_of rule is_verified is_in_order eligible is_erasable known resizing registry.row_of rows.rows words.operations words.is_inherent words.is_listed words.is_table words.is_isolated properties.is_allowed properties.is_of_kind properties.kind_of properties.kinds folds.fold_of folds.rule_of folds.rules folds.predicates arithmetic.absorbs arithmetic.sum_of arithmetic.difference_of arithmetic.product_of arithmetic.signed_quotient_of arithmetic.signed_remainder_of arithmetic.quotient_of arithmetic.remainder_of readings.signed_of readings.wrapped named.commutative named.with_zero_as_right_identity named.with_one_as_right_identity named.self_inverse named.idempotent named.remainders named.associative named.extensions named.index_casts named.arithmetic named.index_users named.flagged named.predicate_of_min_max named.division_of_remainder
+unfolding rewrite_of edits_of rule is_verified is_in_order eligible is_erasable known resizing registry.row_of rows.rows words.operations words.is_inherent words.is_listed words.is_table words.is_isolated properties.is_allowed properties.is_of_kind properties.kind_of properties.property_kinds folds.fold_of folds.rule_of folds.rules folds.predicates arithmetic.absorbs arithmetic.sum_of arithmetic.difference_of arithmetic.product_of arithmetic.signed_quotient_of arithmetic.signed_remainder_of arithmetic.quotient_of arithmetic.remainder_of readings.signed_of readings.wrapped named.commutative named.with_zero_as_right_identity named.with_one_as_right_identity named.self_inverse named.idempotent named.remainders named.associative named.extensions named.index_casts named.arithmetic named.index_users named.flagged named.predicate_of_min_max named.division_of_remainder
 answered = refl

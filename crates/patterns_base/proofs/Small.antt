@@ -38,12 +38,12 @@ abbrev pub kept : ℕ → List ℕ → List Value → List TypeTerm → Entries 
 kept id name operands results properties = whole id name operands results properties [] no_regions
 
 -- an operation without properties, attributes and regions
-abbrev pub plain : ℕ → List ℕ → List Value → List TypeTerm → Operation
-plain id name operands results = kept id name operands results []
+abbrev pub simple : ℕ → List ℕ → List Value → List TypeTerm → Operation
+simple id name operands results = kept id name operands results []
 
 -- an operation that defines an unknown value
 abbrev pub source : ℕ → TypeTerm → Operation
-source id ty = plain id (codes "t.source") [] (ty ∷ [])
+source id ty = simple id (codes "t.source") [] (ty ∷ [])
 
 -- a constant
 abbrev pub number : ℕ → TypeTerm → ℕ → Operation
@@ -55,11 +55,11 @@ compared id predicate a b = kept id (codes "arith.cmpi") (a ∷ b ∷ []) (i1 �
 
 -- an unrealized cast to a type
 abbrev pub bridged : ℕ → TypeTerm → Value → Operation
-bridged id ty v = plain id (codes "builtin.unrealized_conversion_cast") (v ∷ []) (ty ∷ [])
+bridged id ty v = simple id (codes "builtin.unrealized_conversion_cast") (v ∷ []) (ty ∷ [])
 
 -- a use of a value
 abbrev pub user : ℕ → Value → Operation
-user id v = plain id (codes "t.use") (v ∷ []) []
+user id v = simple id (codes "t.use") (v ∷ []) []
 
 -- operations in order
 abbrev in_order : List Operation → OpsOf (List ℕ) TypeTerm AttrTerm

@@ -48,7 +48,7 @@ pub data End : Type 0 where
 
 -- a refusal, or the module after a number of rewrites
 pub data Canonical : Type 0 where
-  stopped : Refusal → Canonical
+  aborted : Refusal → Canonical
   ended : Module → ℕ → End → Canonical
 
 -- how a run ends at the limit, by the next rewrite
@@ -60,7 +60,7 @@ end_of (becomes m) = limited
 -- how a run continues after the next rewrite of a module, which a number of rewrites made
 abbrev pub go_on : Rewrite → Module → ℕ → (Module → Canonical) → Canonical
 go_on none m done more = ended m done converged
-go_on (refused e) m done more = stopped e
+go_on (refused e) m done more = aborted e
 go_on (becomes n) m done more = more n
 
 -- at most a number of rewrites, after others were made
@@ -75,7 +75,7 @@ most_rewrites = 1000000
 -- at most a number of rewrites of a module
 unfoldable pub canonicalization_of : ℕ → Module → Canonical
 canonicalization_of limit m =
-    if nat_le 1 limit && nat_le limit most_rewrites then canonical_from limit 0 m else stopped BadLimit
+    if nat_le 1 limit && nat_le limit most_rewrites then canonical_from limit 0 m else aborted BadLimit
 
 -- the canonicalization rules that the table lists for a name
 abbrev pub greedy_rules_for : List ℕ → List Rule

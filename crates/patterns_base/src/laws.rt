@@ -16,7 +16,7 @@ pub fn rules_are_distinct()
 /// highest-priority rule of all that apply.
 pub fn only_listed_rules_apply()
     ensures applies { OnlyListed }
-    ensures lowest { TableSuffices }
+    ensures highest_rule { TableSuffices }
 {}
 
 /// If a rule that a conversion may try applies, it makes an operation.

@@ -5,7 +5,7 @@ use Rattle.std.specs.List.{list_all}
 use Rattle.std.proofs.lemmas.Bool.Decides.{nat_tests}
 use Rattle.dialects_int.specs.declared.operations.Arithmetic.TheVariants as op
 use Rattle.ir_types.specs.Words.{is_inherent, operations}
-use Rattle.op_registry.specs.Properties.{is_allowed, is_of_kind, kinds}
+use Rattle.op_registry.specs.Properties.{is_allowed, is_of_kind, property_kinds}
 use Rattle.op_registry.specs.Properties as property_kind
 use Rattle.ir_types.specs.declared.bits.BitsKind.{BitsKind}
 use Rattle.ir_types.specs.Bits.{width_of, type_of}
@@ -49,7 +49,7 @@ pub record Asks (n : ℕ) : Type 0 where
   pub itself : is_true_when_equal n ≡ truth (law.holds_of_itself what)
 
 number_fine : (n : ℕ) → list_all (is_property (codes "arith.cmpi")) (predicate_entry n) ≡ (nat_le n 9 && true)
-unfolding is_inherent operations is_allowed is_of_kind property_kind.kind_of kinds
+unfolding is_inherent operations is_allowed is_of_kind property_kind.kind_of property_kinds
 number_fine n = refl
 
 past : (n : ℕ) → (nat_le (suc (suc (suc (suc (suc (suc (suc (suc (suc (suc n)))))))))) 9 && true) ≡ true → ⊥

@@ -7,7 +7,7 @@ use Rattle.ir_types.proofs.ReadingLaws.{bits_below}
 use Rattle.ir_types.specs.Readings.{signed_of, wrapped}
 use Rattle.std.proofs.Math.Nat.{div-le_self}
 use Rattle.ir_types.specs.Words.{is_inherent, operations}
-use Rattle.op_registry.specs.Properties.{is_allowed, is_of_kind, kinds}
+use Rattle.op_registry.specs.Properties.{is_allowed, is_of_kind, property_kinds}
 use Rattle.op_registry.specs.Properties as property_kind
 use Rattle.ir_types.specs.declared.bits.BitsKind.{BitsKind}
 use Rattle.ir_types.specs.Bits.{width_of, type_of}
@@ -67,7 +67,7 @@ regrouped name o r s fine k p q a c d v ha hc hd h =
     (constant_gives k cd.0) (pair_gives name o (flags name) k a cd.0 f.number r fine la lcd same ∙ ap Some f.whole))
 
 pub all_regrouped : Each Regrouping associative
-unfolding rule_of rules associative flagged is_inherent operations is_allowed is_of_kind property_kind.kind_of kinds
+unfolding rule_of rules associative flagged is_inherent operations is_allowed is_of_kind property_kind.kind_of property_kinds
 all_regrouped = (
   regrouped (codes "arith.addi") op.Add refl refl refl,
   (
@@ -96,15 +96,15 @@ unfolding rule_of rules
 by_multiply = refl
 
 add_fine : list_all (is_property (codes "arith.addi")) (flags (codes "arith.addi")) ≡ true
-unfolding flagged is_inherent operations is_allowed is_of_kind property_kind.kind_of kinds
+unfolding flagged is_inherent operations is_allowed is_of_kind property_kind.kind_of property_kinds
 add_fine = refl
 
 subtract_fine : list_all (is_property (codes "arith.subi")) (flags (codes "arith.subi")) ≡ true
-unfolding flagged is_inherent operations is_allowed is_of_kind property_kind.kind_of kinds
+unfolding flagged is_inherent operations is_allowed is_of_kind property_kind.kind_of property_kinds
 subtract_fine = refl
 
 multiply_fine : list_all (is_property (codes "arith.muli")) (flags (codes "arith.muli")) ≡ true
-unfolding flagged is_inherent operations is_allowed is_of_kind property_kind.kind_of kinds
+unfolding flagged is_inherent operations is_allowed is_of_kind property_kind.kind_of property_kinds
 multiply_fine = refl
 
 exclusive_or_fine : list_all (is_property (codes "arith.xori")) (flags (codes "arith.xori")) ≡ true

@@ -9,7 +9,7 @@ use Rattle.ir_types.specs.declared.bits.BitsKind.TheVariants as kind
 use Rattle.ir_types.specs.Terms.{TypeTerm}
 use Rattle.ir_types.specs.Bits.{width_of, type_of}
 use Rattle.ir_types.specs.Words.{is_inherent, operations}
-use Rattle.op_registry.specs.Properties.{is_allowed, is_of_kind, kinds}
+use Rattle.op_registry.specs.Properties.{is_allowed, is_of_kind, property_kinds}
 use Rattle.op_registry.specs.Properties as property_kind
 use Rattle.dialects_int.specs.declared.operations.Arithmetic.{Arithmetic}
 use Rattle.dialects_int.specs.declared.operations.Arithmetic.TheVariants as op
@@ -81,7 +81,7 @@ unfolding rule_of rules
 by_constant = refl
 
 value_fine : (ty : TypeTerm) (n : ℕ) → list_all (is_property (codes "arith.constant")) (value_entry ty n) ≡ true
-unfolding is_inherent operations is_allowed is_of_kind property_kind.kind_of kinds
+unfolding is_inherent operations is_allowed is_of_kind property_kind.kind_of property_kinds
 value_fine ty n = refl
 
 -- a constant gives its value

@@ -4,7 +4,7 @@ use Rattle.std.specs.Prelude.{Option, codes, if◌then◌else◌, slice_get}
 use Rattle.std.specs.List.{list_all}
 use Rattle.std.specs.Option.{option_map}
 use Rattle.ir_types.specs.Words.{is_inherent, operations}
-use Rattle.op_registry.specs.Properties.{is_allowed, is_of_kind, kinds}
+use Rattle.op_registry.specs.Properties.{is_allowed, is_of_kind, property_kinds}
 use Rattle.op_registry.specs.Properties as property_kind
 use Rattle.ir_types.specs.declared.node.Sign.TheVariants.{Signless, Signed, Unsigned}
 use Rattle.ir_types.specs.Terms.{TypeTerm}
@@ -41,7 +41,7 @@ chosen name o n p r fine there law k q a b v ha hb h =
     (select_gives [] k c a b refl ∙ ap Some (ap (λ m. (k, m)) (same_Some (choice_of c a b) g.number (sym (law w a b (some_bits k a ha) (below k a ha) (below k b hb)) ∙ g.is)) ∙ g.whole))
 
 pub all_chosen : Each Choosing predicate_of_min_max
-unfolding rule_of rules predicate_of_min_max predicates is_inherent operations is_allowed is_of_kind property_kind.kind_of kinds
+unfolding rule_of rules predicate_of_min_max predicates is_inherent operations is_allowed is_of_kind property_kind.kind_of property_kinds
 all_chosen = (
   chosen (codes "arith.maxsi") op.MaximumSigned 4 asks.SignedGreater refl refl refl (λ w a b s la lb. ap Some (signed_maximum_chosen w a b s la lb)),
   (

@@ -50,7 +50,7 @@ refused_why s t e r g = elim g.answer [
     go None is h = absurd (taken e s.held r h)
     go (Some q) is h = (let n : q ≡ r = cc in is ∙ ap Some n)
 
-pub tried_by : {A : Type 0} (s t : State) (e : Edit) (result : Result A Refusal) (plain : Result (Unit {0}) Refusal) → Goes s (Do e) (reply_of result) Nothing t → reply_of plain ≡ reply_of result → IsMadeOrRefused e plain s.held t.held × (t.marks ≡ s.marks)
+pub tried_by : {A : Type 0} (s t : State) (e : Edit) (result : Result A Refusal) (simple : Result (Unit {0}) Refusal) → Goes s (Do e) (reply_of result) Nothing t → reply_of simple ≡ reply_of result → IsMadeOrRefused e simple s.held t.held × (t.marks ≡ s.marks)
 tried_by s t e (Ok a) (Ok u) g is = (let d = accepted_gives s t (Do e) Done Nothing g refl in ((d.0, d.1), d.2))
 tried_by s t e (Err r) (Err q) g is = (let d = refused_leaves s t (Do e) (Refused r) Nothing g refl in let n : r ≡ q = cc in ((elim (refused_why s t e r g) [ inl h ↦ inl (sym n ∙ h) | inr h ↦ inr (h ∙ ap Some n) ], d.0), d.1))
 tried_by s t e (Ok a) (Err q) g is = absurd cc
@@ -84,22 +84,22 @@ module _ {B : Type 0} (meaning : B → Listener) where
     pub done : List Coded
     pub parts : done ++ rest ≡ all
     pub held : module_held b.transaction ≡ all_edited (edits_meaning a.transaction.ctx done) (module_held a.transaction)
-    pub fit : AllFit a.transaction.ctx rest
+    pub fits_in : AllFit a.transaction.ctx rest
     pub along : Along meaning a b
     pub noted : Journaled meaning a b
 
   pub carrying_none : ((z : Benched B) → Notified meaning [] z z) → (all : List Coded) (a : Benched B) → AllFit a.transaction.ctx all → Carrying all all a a
-  carrying_none none all a fit = record { done = []; parts = refl; held = refl; fit = fit; along = record { ctx = refl; opens = refl; led = ([], none a) }; noted = ([], none a, recorded_none a.transaction) }
+  carrying_none none all a fits_in = record { done = []; parts = refl; held = refl; fits_in = fits_in; along = record { ctx = refl; opens = refl; led = ([], none a) }; noted = ([], none a, recorded_none a.transaction) }
 
   pub fits_next : (all rest : List Coded) (e : Coded) (a b : Benched B) → Carrying all (e ∷ rest) a b → Fits b.transaction.ctx e
-  fits_next all rest e a b c = subst (λ z. Fits z e) (sym c.along.ctx) c.fit.0
+  fits_next all rest e a b c = subst (λ z. Fits z e) (sym c.along.ctx) c.fits_in.0
 
   pub carrying_more : Composes → (all rest : List Coded) (e : Coded) (a b d : Benched B) → Holds a.transaction.ctx → Carrying all (e ∷ rest) a b → IsMadeOrRefused (edit_meaning b.transaction.ctx (numbered e)) (Ok tt) (module_held b.transaction) (module_held d.transaction) → Along meaning b d → Journaled meaning b d → Carrying all rest a d
-  carrying_more more all rest e a b d holds c tried along noted = record {
+  carrying_more more all rest e a b d holds c attempted along noted = record {
     done = c.done ++ e ∷ [];
     parts = append_assoc c.done (e ∷ []) rest ∙ c.parts;
-    held = tried.1 ∙ (λ i. edited (edit_meaning (c.along.ctx i) (numbered e)) (c.held i)) ∙ sym (ap (λ l. all_edited l (module_held a.transaction)) (edits_more a.transaction.ctx c.done (e ∷ [])) ∙ edited_both (edits_meaning a.transaction.ctx c.done) (edit_meaning a.transaction.ctx (numbered e) ∷ []) (module_held a.transaction));
-    fit = c.fit.1;
+    held = attempted.1 ∙ (λ i. edited (edit_meaning (c.along.ctx i) (numbered e)) (c.held i)) ∙ sym (ap (λ l. all_edited l (module_held a.transaction)) (edits_more a.transaction.ctx c.done (e ∷ [])) ∙ edited_both (edits_meaning a.transaction.ctx c.done) (edit_meaning a.transaction.ctx (numbered e) ∷ []) (module_held a.transaction));
+    fits_in = c.fits_in.1;
     along = along_on more a b d holds c.along along;
     noted = noted_on more a b d holds c.along along c.noted noted;
   }
@@ -108,7 +108,7 @@ module _ {B : Type 0} (meaning : B → Listener) where
   carrying_done all a b c = c.held ∙ ap (λ l. all_edited (edits_meaning a.transaction.ctx l) (module_held a.transaction)) (sym (append-nil c.done) ∙ c.parts)
 
   pub carrying_why : (all rest : List Coded) (e : Coded) (r : Refusal) (a b d : Benched B) → Carrying all (e ∷ rest) a b → IsMadeOrRefused (edit_meaning b.transaction.ctx (numbered e)) (Err r) (module_held b.transaction) (module_held d.transaction) → IsWhy (edits_meaning a.transaction.ctx all) (module_held a.transaction) r
-  carrying_why all rest e r a b d c tried = elim tried.0 [
+  carrying_why all rest e r a b d c attempted = elim attempted.0 [
     | inl h ↦ inl h
     | inr h ↦ inr (record {
       made = edits_meaning a.transaction.ctx c.done;

@@ -27,7 +27,7 @@ module _ {B : Type 0} (meaning : B → Listener) where
   -- the edits left after one more
   pub free_more : (rest : List Coded) (e : Coded) (b d : Benched B) → Free (edits_meaning b.transaction.ctx (e ∷ rest)) (module_held b.transaction)
       → IsMadeOrRefused (edit_meaning b.transaction.ctx (numbered e)) (Ok tt) (module_held b.transaction) (module_held d.transaction) → Along meaning b d → Free (edits_meaning d.transaction.ctx rest) (module_held d.transaction)
-  free_more rest e b d free tried along = subst (λ (p : List Edit × Module). Free p.0 p.1) (λ i. (edits_meaning (sym along.ctx i) rest, sym tried.1 i)) free.1
+  free_more rest e b d free attempted along = subst (λ (p : List Edit × Module). Free p.0 p.1) (λ i. (edits_meaning (sym along.ctx i) rest, sym attempted.1 i)) free.1
 
   -- the edits after a step was opened
   pub begun_free : (a b : Benched B) (begun : Begun meaning a b) (es : List Coded) → Free (edits_meaning a.transaction.ctx es) (module_held a.transaction) → Free (edits_meaning b.transaction.ctx es) (module_held b.transaction)

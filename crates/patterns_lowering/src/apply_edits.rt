@@ -15,7 +15,7 @@ use rewriter::laws::led_benches_are_kept;
 
 /// Makes edits one after another, until one is refused.
 fn carry<L: Analysis>(bench: &mut Bench<L>, edits: &[Edit]) -> Result<(), Refusal>
-    requires fit { AllFit bench.old.transaction.ctx edits.now }
+    requires fits_in { AllFit bench.old.transaction.ctx edits.now }
     ensures ok { OnOk result (module_held bench.new.transaction
         ≡ all_edited (edits_meaning bench.old.transaction.ctx edits.now) (module_held bench.old.transaction)) }
     ensures refused { IfErr result (λ e. IsWhy (edits_meaning bench.old.transaction.ctx edits.now)
@@ -40,7 +40,7 @@ fn carry<L: Analysis>(bench: &mut Bench<L>, edits: &[Edit]) -> Result<(), Refusa
 ///
 /// Errors: the refusal of the first edit that is refused; `Memory`.
 pub fn apply_edits<L: Analysis>(bench: &mut Bench<L>, edits: &[Edit]) -> Result<(), Refusal>
-    requires fit { AllFit bench.old.transaction.ctx edits.now }
+    requires fits_in { AllFit bench.old.transaction.ctx edits.now }
     ensures ok { OnOk result (module_held bench.new.transaction
         ≡ all_edited (edits_meaning bench.old.transaction.ctx edits.now) (module_held bench.old.transaction)) }
     ensures err { OnErr result (module_held bench.new.transaction ≡ module_held bench.old.transaction) }

@@ -15,7 +15,7 @@ use rewriter::laws::led_benches_are_kept;
 
 /// Makes edits one after another that aren't refused, until memory runs out.
 fn carry_all<L: Analysis>(bench: &mut Bench<L>, edits: &[Edit]) -> Result<(), Refusal>
-    requires fit { AllFit bench.old.transaction.ctx edits.now }
+    requires fits_in { AllFit bench.old.transaction.ctx edits.now }
     requires free { Free (edits_meaning bench.old.transaction.ctx edits.now) (module_held bench.old.transaction) }
     ensures ok { OnOk result (module_held bench.new.transaction
         ≡ all_edited (edits_meaning bench.old.transaction.ctx edits.now) (module_held bench.old.transaction)) }
@@ -42,7 +42,7 @@ fn carry_all<L: Analysis>(bench: &mut Bench<L>, edits: &[Edit]) -> Result<(), Re
 ///
 /// Errors: `Memory`.
 pub fn apply_unchecked<L: Analysis>(bench: &mut Bench<L>, edits: &[Edit]) -> Result<(), Refusal>
-    requires fit { AllFit bench.old.transaction.ctx edits.now }
+    requires fits_in { AllFit bench.old.transaction.ctx edits.now }
     requires free { Free (edits_meaning bench.old.transaction.ctx edits.now) (module_held bench.old.transaction) }
     ensures ok { OnOk result (module_held bench.new.transaction
         ≡ all_edited (edits_meaning bench.old.transaction.ctx edits.now) (module_held bench.old.transaction)) }

@@ -35,7 +35,7 @@ fn operation<L: Analysis>(
     ensures edits { IfOk result (λ es. edits_meaning bench.new.transaction.ctx es.items
         ≡ operation_lowered bench.old.transaction.store.module_of.next point.now of.now.index_operands.items
         of.now.index_results.items (meaning bench.old.transaction.ctx of.now.op)) }
-    ensures fit { IfOk result (λ es. AllFit bench.new.transaction.ctx es.items) }
+    ensures fits_in { IfOk result (λ es. AllFit bench.new.transaction.ctx es.items) }
     ensures refused { IfErr result (λ e. IsCapacityRefusal bench.new.transaction.ctx e) }
     ensures interned { Added L.meaning bench.old bench.new }
 {
@@ -63,7 +63,7 @@ fn over_loop<L: Analysis>(
     requires headroom { bench.old.transaction.store.module_of.next + lowering_makes (Loop of.now) ≤ most_next }
     ensures edits { IfOk result (λ es. edits_meaning bench.new.transaction.ctx es.items
         ≡ lowering_meaning bench.old.transaction.ctx bench.old.transaction.store.module_of.next point.now (Loop of.now)) }
-    ensures fit { IfOk result (λ es. AllFit bench.new.transaction.ctx es.items) }
+    ensures fits_in { IfOk result (λ es. AllFit bench.new.transaction.ctx es.items) }
     ensures refused { IfErr result (λ e. IsCapacityRefusal bench.new.transaction.ctx e) }
     ensures interned { Added L.meaning bench.old bench.new }
 {
@@ -91,7 +91,7 @@ fn over_choice<L: Analysis>(
     requires headroom { bench.old.transaction.store.module_of.next + lowering_makes (Choice of.now) ≤ most_next }
     ensures edits { IfOk result (λ es. edits_meaning bench.new.transaction.ctx es.items
         ≡ lowering_meaning bench.old.transaction.ctx bench.old.transaction.store.module_of.next point.now (Choice of.now)) }
-    ensures fit { IfOk result (λ es. AllFit bench.new.transaction.ctx es.items) }
+    ensures fits_in { IfOk result (λ es. AllFit bench.new.transaction.ctx es.items) }
     ensures refused { IfErr result (λ e. IsCapacityRefusal bench.new.transaction.ctx e) }
     ensures interned { Added L.meaning bench.old bench.new }
 {
@@ -122,7 +122,7 @@ pub fn lowering_edits<L: Analysis>(
     requires headroom { bench.old.transaction.store.module_of.next + lowering_makes plan.now ≤ most_next }
     ensures edits { IfOk result (λ es. edits_meaning bench.new.transaction.ctx es.items
         ≡ lowering_meaning bench.old.transaction.ctx bench.old.transaction.store.module_of.next point.now plan.now) }
-    ensures fit { IfOk result (λ es. AllFit bench.new.transaction.ctx es.items) }
+    ensures fits_in { IfOk result (λ es. AllFit bench.new.transaction.ctx es.items) }
     ensures refused { IfErr result (λ e. IsCapacityRefusal bench.new.transaction.ctx e) }
     ensures interned { Added L.meaning bench.old bench.new }
 {

@@ -22,7 +22,7 @@ use rewriter::Bench;
 fn make_one<L: Analysis>(bench: &mut Bench<L>, place: Place, op: &TreeOp) -> Result<(), Refusal>
     requires sound { IsSoundIn bench.old.transaction.ctx op.now }
     requires bare { holds_none (Some op.now) ≡ true }
-    ensures tried { IsMadeOrRefused (edit_meaning bench.old.transaction.ctx (edit.Make place op.now)) result (module_held bench.old.transaction)
+    ensures attempted { IsMadeOrRefused (edit_meaning bench.old.transaction.ctx (edit.Make place op.now)) result (module_held bench.old.transaction)
         (module_held bench.new.transaction) }
     ensures along { Along L.meaning bench.old bench.new }
     ensures journal { JournalAfter L.meaning result bench.old bench.new }
@@ -39,7 +39,7 @@ fn set_one<L: Analysis>(
     operand: u32,
     value: Value,
 ) -> Result<(), Refusal>
-    ensures tried { IsMadeOrRefused (edit_meaning bench.old.transaction.ctx (edit.SetOperand op operand value)) result
+    ensures attempted { IsMadeOrRefused (edit_meaning bench.old.transaction.ctx (edit.SetOperand op operand value)) result
         (module_held bench.old.transaction) (module_held bench.new.transaction) }
     ensures along { Along L.meaning bench.old bench.new }
     ensures journal { JournalAfter L.meaning result bench.old bench.new }
@@ -48,7 +48,7 @@ fn set_one<L: Analysis>(
 }
 
 fn replace_one<L: Analysis>(bench: &mut Bench<L>, old: Value, new: Value) -> Result<(), Refusal>
-    ensures tried { IsMadeOrRefused (edit_meaning bench.old.transaction.ctx (edit.Replace old new)) result (module_held bench.old.transaction)
+    ensures attempted { IsMadeOrRefused (edit_meaning bench.old.transaction.ctx (edit.Replace old new)) result (module_held bench.old.transaction)
         (module_held bench.new.transaction) }
     ensures along { Along L.meaning bench.old bench.new }
     ensures journal { JournalAfter L.meaning result bench.old bench.new }
@@ -57,7 +57,7 @@ fn replace_one<L: Analysis>(bench: &mut Bench<L>, old: Value, new: Value) -> Res
 }
 
 fn move_one<L: Analysis>(bench: &mut Bench<L>, op: OpId, place: Place) -> Result<(), Refusal>
-    ensures tried { IsMadeOrRefused (edit_meaning bench.old.transaction.ctx (edit.Move op place)) result (module_held bench.old.transaction)
+    ensures attempted { IsMadeOrRefused (edit_meaning bench.old.transaction.ctx (edit.Move op place)) result (module_held bench.old.transaction)
         (module_held bench.new.transaction) }
     ensures along { Along L.meaning bench.old bench.new }
     ensures journal { JournalAfter L.meaning result bench.old bench.new }
@@ -66,7 +66,7 @@ fn move_one<L: Analysis>(bench: &mut Bench<L>, op: OpId, place: Place) -> Result
 }
 
 fn erase_one<L: Analysis>(bench: &mut Bench<L>, op: OpId) -> Result<(), Refusal>
-    ensures tried { IsMadeOrRefused (edit_meaning bench.old.transaction.ctx (edit.Erase op)) result (module_held bench.old.transaction)
+    ensures attempted { IsMadeOrRefused (edit_meaning bench.old.transaction.ctx (edit.Erase op)) result (module_held bench.old.transaction)
         (module_held bench.new.transaction) }
     ensures along { Along L.meaning bench.old bench.new }
     ensures journal { JournalAfter L.meaning result bench.old bench.new }
@@ -82,7 +82,7 @@ fn enter_one<L: Analysis>(
 ) -> Result<(), Refusal>
     requires key { IsName bench.old.transaction.ctx key }
     requires attr { IsAttr bench.old.transaction.ctx attr }
-    ensures tried { IsMadeOrRefused (edit_meaning bench.old.transaction.ctx (edit.SetAttr op key attr)) result
+    ensures attempted { IsMadeOrRefused (edit_meaning bench.old.transaction.ctx (edit.SetAttr op key attr)) result
         (module_held bench.old.transaction) (module_held bench.new.transaction) }
     ensures along { Along L.meaning bench.old bench.new }
     ensures journal { JournalAfter L.meaning result bench.old bench.new }
@@ -93,7 +93,7 @@ fn enter_one<L: Analysis>(
 /// Makes one edit. If it is refused, nothing changes.
 pub(crate) fn carry_one<L: Analysis>(bench: &mut Bench<L>, edit: &Edit) -> Result<(), Refusal>
     requires fits { Fits bench.old.transaction.ctx edit.now }
-    ensures tried { IsMadeOrRefused (edit_meaning bench.old.transaction.ctx (numbered edit.now)) result (module_held bench.old.transaction)
+    ensures attempted { IsMadeOrRefused (edit_meaning bench.old.transaction.ctx (numbered edit.now)) result (module_held bench.old.transaction)
         (module_held bench.new.transaction) }
     ensures along { Along L.meaning bench.old bench.new }
     ensures journal { JournalAfter L.meaning result bench.old bench.new }

@@ -18,7 +18,7 @@ use rewriter::Bench;
 
 fn replace_one<L: Analysis>(bench: &mut Bench<L>, old: Value, new: Value) -> Result<(), Refusal>
     requires { edit_reason (edit_meaning bench.old.transaction.ctx (edit.Replace old new)) (module_held bench.old.transaction) ≡ None }
-    ensures tried { IsMadeOrRefused (edit_meaning bench.old.transaction.ctx (edit.Replace old new)) result (module_held bench.old.transaction)
+    ensures attempted { IsMadeOrRefused (edit_meaning bench.old.transaction.ctx (edit.Replace old new)) result (module_held bench.old.transaction)
         (module_held bench.new.transaction) }
     ensures along { Along L.meaning bench.old bench.new }
     ensures journal { JournalAfter L.meaning result bench.old bench.new }
@@ -28,7 +28,7 @@ fn replace_one<L: Analysis>(bench: &mut Bench<L>, old: Value, new: Value) -> Res
 
 fn move_one<L: Analysis>(bench: &mut Bench<L>, op: OpId, place: Place) -> Result<(), Refusal>
     requires { edit_reason (edit_meaning bench.old.transaction.ctx (edit.Move op place)) (module_held bench.old.transaction) ≡ None }
-    ensures tried { IsMadeOrRefused (edit_meaning bench.old.transaction.ctx (edit.Move op place)) result (module_held bench.old.transaction)
+    ensures attempted { IsMadeOrRefused (edit_meaning bench.old.transaction.ctx (edit.Move op place)) result (module_held bench.old.transaction)
         (module_held bench.new.transaction) }
     ensures along { Along L.meaning bench.old bench.new }
     ensures journal { JournalAfter L.meaning result bench.old bench.new }
@@ -38,7 +38,7 @@ fn move_one<L: Analysis>(bench: &mut Bench<L>, op: OpId, place: Place) -> Result
 
 fn erase_one<L: Analysis>(bench: &mut Bench<L>, op: OpId) -> Result<(), Refusal>
     requires { edit_reason (edit_meaning bench.old.transaction.ctx (edit.Erase op)) (module_held bench.old.transaction) ≡ None }
-    ensures tried { IsMadeOrRefused (edit_meaning bench.old.transaction.ctx (edit.Erase op)) result (module_held bench.old.transaction)
+    ensures attempted { IsMadeOrRefused (edit_meaning bench.old.transaction.ctx (edit.Erase op)) result (module_held bench.old.transaction)
         (module_held bench.new.transaction) }
     ensures along { Along L.meaning bench.old bench.new }
     ensures journal { JournalAfter L.meaning result bench.old bench.new }
@@ -50,7 +50,7 @@ fn erase_one<L: Analysis>(bench: &mut Bench<L>, op: OpId) -> Result<(), Refusal>
 pub(crate) fn carry_unchecked<L: Analysis>(bench: &mut Bench<L>, edit: &Edit) -> Result<(), Refusal>
     requires fits { Fits bench.old.transaction.ctx edit.now }
     requires free { edit_reason (edit_meaning bench.old.transaction.ctx (numbered edit.now)) (module_held bench.old.transaction) ≡ None }
-    ensures tried { IsMadeOrRefused (edit_meaning bench.old.transaction.ctx (numbered edit.now)) result (module_held bench.old.transaction)
+    ensures attempted { IsMadeOrRefused (edit_meaning bench.old.transaction.ctx (numbered edit.now)) result (module_held bench.old.transaction)
         (module_held bench.new.transaction) }
     ensures along { Along L.meaning bench.old bench.new }
     ensures journal { JournalAfter L.meaning result bench.old bench.new }

@@ -11,7 +11,7 @@ use Rattle.ir_event.proofs.of_types.SameTerms.{type_refl, type_is}
 use Rattle.ir_event.specs.trees.declared.value.Value.{Value}
 use Rattle.op_registry.specs.Rows.{rows}
 use Rattle.op_registry.specs.Registry.{row_of}
-use Rattle.op_registry.specs.Properties.{kinds, kind_of, is_of_kind, is_allowed, is_overflow, integer_of}
+use Rattle.op_registry.specs.Properties.{property_kinds, kind_of, is_of_kind, is_allowed, is_overflow, integer_of}
 use Rattle.ir_verify_base.specs.Types.{is_number}
 use Rattle.ir_verify_base.specs.Fits.{Node, Outer, Surroundings}
 use Rattle.patterns_base.specs.verify.Breaks.{broken_rules_in, numbers_from, broken}
@@ -21,10 +21,10 @@ use Rattle.patterns_matchers.specs.Pairs.{pairs, AreFlags}
 use Rattle.ir_event.proofs.of_types.Truths.{none_left}
 
 -- no rule of a list is reported
-pub none_told : (n : ℕ) (bs : List Bool) → list_all not bs ≡ true → numbers_from n bs ≡ []
-none_told n [] e = refl
-none_told n (true ∷ bs) e = absurd cc
-none_told n (false ∷ bs) e = none_told (n + 1) bs e
+pub none_reported : (n : ℕ) (bs : List Bool) → list_all not bs ≡ true → numbers_from n bs ≡ []
+none_reported n [] e = refl
+none_reported n (true ∷ bs) e = absurd cc
+none_reported n (false ∷ bs) e = none_reported (n + 1) bs e
 
 -- arithmetic on two operands, at any place
 abbrev pub pair_node : List ℕ → ℕ → Value → Value → TypeTerm → List (List ℕ × AttrTerm) → List (List ℕ × AttrTerm) → Node
@@ -36,8 +36,8 @@ pair_node name x a b ty flags attributes = record {
 abbrev pub pair_at : List ℕ → ℕ → Value → Value → TypeTerm → List (List ℕ × AttrTerm) → List (List ℕ × AttrTerm) → List (Option (List ℕ)) → Option Outer → Surroundings
 pair_at name x a b ty flags attributes lasts outer = record { node = pair_node name x a b ty flags attributes; lasts = lasts; types = Some ty ∷ Some ty ∷ []; outer = outer }
 
-abbrev silent : Surroundings → Bool
-silent s = list_all not (broken_rules_in (row_of s.node.head.name) s)
+abbrev reports_nothing : Surroundings → Bool
+reports_nothing s = list_all not (broken_rules_in (row_of s.node.head.name) s)
 
 -- the verifier's requirements on the type
 abbrev requested : Bool → Bool → Bool
@@ -49,20 +49,20 @@ Fine name =
     → broken (pair_at name x a b ty flags attributes lasts outer) ≡ []
 
 fine : (name : List ℕ)
-    → ((x : ℕ) (a b : Value) (ty : TypeTerm) (attributes : List (List ℕ × AttrTerm)) (lasts : List (Option (List ℕ))) (outer : Option Outer) → silent (pair_at name x a b ty [] attributes lasts outer) ≡ requested (is_number ty) (same_type ty ty))
+    → ((x : ℕ) (a b : Value) (ty : TypeTerm) (attributes : List (List ℕ × AttrTerm)) (lasts : List (Option (List ℕ))) (outer : Option Outer) → reports_nothing (pair_at name x a b ty [] attributes lasts outer) ≡ requested (is_number ty) (same_type ty ty))
     → ((x : ℕ) (a b : Value) (ty : TypeTerm) (nsw nuw : Bool) (attributes : List (List ℕ × AttrTerm)) (lasts : List (Option (List ℕ))) (outer : Option Outer)
-    → silent (pair_at name x a b ty ((codes "overflowFlags", Overflow nsw nuw) ∷ []) attributes lasts outer) ≡ requested (is_number ty) (same_type ty ty))
+    → reports_nothing (pair_at name x a b ty ((codes "overflowFlags", Overflow nsw nuw) ∷ []) attributes lasts outer) ≡ requested (is_number ty) (same_type ty ty))
     → Fine name
-fine name f g x a b ty flags attributes lasts outer fl num = none_told 1 (broken_rules_in (row_of name) (pair_at name x a b ty flags attributes lasts outer)) (quiet ∙ λ i. requested (num i) (type_refl ty i))
+fine name f g x a b ty flags attributes lasts outer fl num = none_reported 1 (broken_rules_in (row_of name) (pair_at name x a b ty flags attributes lasts outer)) (quiet ∙ λ i. requested (num i) (type_refl ty i))
   where
-    quiet : silent (pair_at name x a b ty flags attributes lasts outer) ≡ requested (is_number ty) (same_type ty ty)
+    quiet : reports_nothing (pair_at name x a b ty flags attributes lasts outer) ≡ requested (is_number ty) (same_type ty ty)
     quiet = elim fl [
-      | inl e ↦ ap (λ es. silent (pair_at name x a b ty es attributes lasts outer)) e ∙ f x a b ty attributes lasts outer
-      | inr e ↦ ap (λ es. silent (pair_at name x a b ty es attributes lasts outer)) e.2 ∙ g x a b ty e.0 e.1 attributes lasts outer
+      | inl e ↦ ap (λ es. reports_nothing (pair_at name x a b ty es attributes lasts outer)) e ∙ f x a b ty attributes lasts outer
+      | inr e ↦ ap (λ es. reports_nothing (pair_at name x a b ty es attributes lasts outer)) e.2 ∙ g x a b ty e.0 e.1 attributes lasts outer
     ]
 
 each_fine : Each Fine pairs
-unfolding pairs row_of rows kinds kind_of is_of_kind is_allowed
+unfolding pairs row_of rows property_kinds kind_of is_of_kind is_allowed
 each_fine = (
   fine (codes "arith.addi") (λ x a b ty es ls o. refl) (λ x a b ty n u es ls o. refl),
   (
@@ -146,7 +146,7 @@ of_type None ty e = absurd cc
 of_type (Some u) ty e = ap Some (type_is u ty e)
 
 pub flags_are : (a : AttrTerm) → is_allowed (codes "overflowFlags") a ≡ true → (nsw nuw : Bool) × (a ≡ Overflow nsw nuw)
-unfolding kinds kind_of is_of_kind is_allowed
+unfolding property_kinds kind_of is_of_kind is_allowed
 flags_are a e = go a e
   where
     go : (a : AttrTerm) → is_overflow a ≡ true → (nsw nuw : Bool) × (a ≡ Overflow nsw nuw)

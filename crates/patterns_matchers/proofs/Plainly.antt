@@ -13,7 +13,7 @@ use Rattle.ir_event.specs.trees.Tree.{Op}
 use Rattle.ir_event.specs.trees.Meaning.{meaning}
 use Rattle.ir_event.specs.store.Nodes.{node_of}
 use Rattle.ir_event.specs.store.Nodes.{Node as NumberNode}
-use Rattle.op_registry.specs.Properties.{is_allowed, is_of_kind, kinds}
+use Rattle.op_registry.specs.Properties.{is_allowed, is_of_kind, property_kinds}
 use Rattle.op_registry.specs.Properties as property_kind
 use Rattle.dialects_int.specs.declared.operations.Rule.TheVariants as rule
 use Rattle.dialects_int.specs.Folds.{Known, kind_of, rule_of, rules, fold_of}
@@ -40,7 +40,7 @@ is_named : true ≡ named (codes "arith.constant") (codes "arith.constant")
 is_named = refl
 
 plain_gives : (x : ℕ) (ty : TypeTerm) (bits : ℕ) (attributes : List (List ℕ × AttrTerm)) (k : BitsKind) → kind_of ty ≡ Some k → constant_value (trivial_constant x ty bits attributes).head ≡ Some (k, bits)
-unfolding is_inherent operations is_allowed is_of_kind property_kind.kind_of kinds
+unfolding is_inherent operations is_allowed is_of_kind property_kind.kind_of property_kinds
 plain_gives x ty bits attributes k e = constant_folds (codes "arith.constant") (value_entry ty bits) ty k (record { by = by_constant; fine = refl; kind = e }) bits refl
 
 -- the known bits of the result of such a constant

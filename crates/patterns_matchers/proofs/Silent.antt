@@ -17,7 +17,7 @@ use Rattle.ir_event.proofs.of_tree_laws.Readings.{stands_find}
 use Rattle.ir_event.specs.store.Nodes.{Node as NumberNode, node_of}
 use Rattle.op_registry.specs.Rows.{rows}
 use Rattle.op_registry.specs.Registry.{row_of}
-use Rattle.op_registry.specs.Properties.{kinds, kind_of, is_of_kind, is_allowed}
+use Rattle.op_registry.specs.Properties.{property_kinds, kind_of, is_of_kind, is_allowed}
 use Rattle.ir_verify_base.specs.Surroundings.{surround, last_names, outer_of}
 use Rattle.ir_verify_base.specs.Mapped.{map_node}
 use Rattle.ir_verify_base.proofs.Meanings.{map_node_of}
@@ -29,7 +29,7 @@ use Rattle.patterns_base.specs.Diagnostics.{broken_at}
 use Rattle.patterns_base.specs.Looks.{breaks_none}
 use Rattle.patterns_matchers.specs.TriviallyVerified.{trivial_constant, IsTriviallyVerified}
 use Rattle.patterns_matchers.specs.Pairs.{IsPair}
-use Rattle.patterns_matchers.proofs.Pairs.{none_told, pair_node, pair_unbroken}
+use Rattle.patterns_matchers.proofs.Pairs.{none_reported, pair_node, pair_unbroken}
 
 -- a constant, at any place
 abbrev constant_at : ℕ → TypeTerm → ℕ → List (List ℕ × AttrTerm) → List (Option (List ℕ)) → Option Outer → Surroundings
@@ -41,12 +41,12 @@ requested n s = not (not (n && true)) && (not (not s) && true)
 
 quiet : (x : ℕ) (ty : TypeTerm) (bits : ℕ) (attributes : List (List ℕ × AttrTerm)) (lasts : List (Option (List ℕ))) (outer : Option Outer)
     → list_all not (broken_rules_in (row_of (codes "arith.constant")) (constant_at x ty bits attributes lasts outer)) ≡ requested (is_number ty) (same_type ty ty)
-unfolding row_of rows kinds kind_of is_of_kind is_allowed
+unfolding row_of rows property_kinds kind_of is_of_kind is_allowed
 quiet x ty bits attributes lasts outer = refl
 
 plain_unbroken : (x : ℕ) (ty : TypeTerm) (bits : ℕ) (attributes : List (List ℕ × AttrTerm)) (lasts : List (Option (List ℕ))) (outer : Option Outer) → is_number ty ≡ true → broken (constant_at x ty bits attributes lasts outer) ≡ []
 plain_unbroken x ty bits attributes lasts outer num =
-    none_told 1 (broken_rules_in (row_of (codes "arith.constant")) (constant_at x ty bits attributes lasts outer)) (quiet x ty bits attributes lasts outer ∙ λ i. requested (num i) (type_refl ty i))
+    none_reported 1 (broken_rules_in (row_of (codes "arith.constant")) (constant_at x ty bits attributes lasts outer)) (quiet x ty bits attributes lasts outer ∙ λ i. requested (num i) (type_refl ty i))
 
 abbrev OpWithPath : Type 0
 OpWithPath = OpWithPathOf (List ℕ) TypeTerm AttrTerm

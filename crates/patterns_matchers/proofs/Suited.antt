@@ -32,8 +32,8 @@ by_rules [] rs = refl
 by_rules (b ∷ bs) [] = (refl, refl)
 by_rules (b ∷ bs) (r ∷ rs) = refl
 
-pub told_so : (x : ℕ) (t : Operation) (v : Verdict) → verdict_at x t ≡ Some v → IsVerdictOf x t v
-told_so x t v e = go (surroundings x t) e
+pub reported_so : (x : ℕ) (t : Operation) (v : Verdict) → verdict_at x t ≡ Some v → IsVerdictOf x t v
+reported_so x t v e = go (surroundings x t) e
   where
     go : (s : Option Surroundings) → option_map verdict_in s ≡ Some v → IsVerdict (option_map broken s) (option_map reported s) v
     go None e = absurd cc
@@ -46,8 +46,8 @@ module _ (t : Operation) (h : Header) (own : has_own_properties h ≡ true) wher
   pub only_in_order : breaks_none (broken_at h.id t) ≡ false → breaks_none (reported_at h.id t) ≡ true → (is_verified t h ≡ false) × (is_in_order t h ≡ true)
   only_in_order e f = (verified_is t h ∙ (λ i. e i && own i), in_order_is t h ∙ (λ i. f i && own i))
 
-  pub told_of : breaks_none (reported_at h.id t) ≡ false → is_in_order t h ≡ false
-  told_of e = in_order_is t h ∙ (λ i. e i && own i)
+  pub reported_of : breaks_none (reported_at h.id t) ≡ false → is_in_order t h ≡ false
+  reported_of e = in_order_is t h ∙ (λ i. e i && own i)
 
 -- a property that isn't inherent
 pub unfit : (t : Operation) (h : Header) → has_own_properties h ≡ false → is_in_order t h ≡ false

@@ -11,9 +11,9 @@ use Rattle.patterns_matchers.specs.declared.eligibility.Eligibility.TheVariants.
 -- a verdict on the rules that an operation breaks and on the rules that are reported for it: both are empty, only the
 -- first isn't, or the second isn't
 abbrev pub IsVerdict : Option (List ℕ) → Option (List ℕ) → Verdict → Type 0
-IsVerdict broken told Valid = breaks_none broken ≡ true
-IsVerdict broken told Unlisted = (breaks_none broken ≡ false) × (breaks_none told ≡ true)
-IsVerdict broken told Invalid = breaks_none told ≡ false
+IsVerdict broken reported Valid = breaks_none broken ≡ true
+IsVerdict broken reported Unlisted = (breaks_none broken ≡ false) × (breaks_none reported ≡ true)
+IsVerdict broken reported Invalid = breaks_none reported ≡ false
 
 abbrev pub IsVerdictOf : ℕ → Operation → Verdict → Type 0
 IsVerdictOf x t v = IsVerdict (broken_at x t) (reported_at x t) v

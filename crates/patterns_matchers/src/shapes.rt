@@ -38,7 +38,7 @@ pub struct TernaryOp {
 
 /// Returns the node as a unary operation, or `None` unless it has one operand and one result.
 pub fn unary_op(node: &Node<'_>) -> Option<UnaryOp>
-    ensures shape { (c : ContextModel) → option_map (one_in c) result ≡ one (header_of_node c node.now) }
+    ensures shaped_as { (c : ContextModel) → option_map (one_in c) result ≡ one (header_of_node c node.now) }
     ensures name { (c : ContextModel) → NodeIsOf c node.now → IfSome result (λ p. IsName c p.name) }
     ensures of { (c : ContextModel) → NodeIsOf c node.now → IfSome result (λ p. IsType c p.ty) }
 {
@@ -57,7 +57,7 @@ pub fn unary_op(node: &Node<'_>) -> Option<UnaryOp>
 
 /// Returns the node as a binary operation, or `None` unless it has two operands and one result.
 pub fn binary_op(node: &Node<'_>) -> Option<BinaryOp>
-    ensures shape { (c : ContextModel) → option_map (two_in c) result ≡ two (header_of_node c node.now) }
+    ensures shaped_as { (c : ContextModel) → option_map (two_in c) result ≡ two (header_of_node c node.now) }
     ensures name { (c : ContextModel) → NodeIsOf c node.now → IfSome result (λ p. IsName c p.name) }
     ensures of { (c : ContextModel) → NodeIsOf c node.now → IfSome result (λ p. IsType c p.ty) }
 {
@@ -77,7 +77,7 @@ pub fn binary_op(node: &Node<'_>) -> Option<BinaryOp>
 
 /// Returns the node as a ternary operation, or `None` unless it has three operands and one result.
 pub fn ternary_op(node: &Node<'_>) -> Option<TernaryOp>
-    ensures shape { (c : ContextModel) → option_map (three_in c) result ≡ three (header_of_node c node.now) }
+    ensures shaped_as { (c : ContextModel) → option_map (three_in c) result ≡ three (header_of_node c node.now) }
     ensures of { (c : ContextModel) → NodeIsOf c node.now → IfSome result (λ p. IsType c p.ty) }
 {
     let [first, second, third] = node.operands() else {

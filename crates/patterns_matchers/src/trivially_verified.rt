@@ -50,7 +50,7 @@ pub(crate) fn is_trivially_verified_node(world: &World, op: OpId, node: &Node<'_
 /// no operands and no regions, one result, and its value as the only property, with the type of the result.
 fn constant_integer_of_node(ctx: &Context, node: &Node<'_>) -> Option<(TypeId, u128)>
     requires { NodeIsOf ctx.now node.now }
-    ensures plain { IfSome result (λ i. IsConstantOf (node_in ctx.now node.now) (type_term ctx.now i.0) i.1) }
+    ensures simple { IfSome result (λ i. IsConstantOf (node_in ctx.now node.now) (type_term ctx.now i.0) i.1) }
     ensures ty { IfSome result (λ i. IsType ctx.now i.0) }
 {
     if !ctx.is_word(node.name(), Word::ArithConstant) {

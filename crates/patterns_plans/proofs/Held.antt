@@ -49,12 +49,12 @@ block_read t o r e k = go (region_at r (regions o)) refl k
     }
 
 -- an operation with the block that isn't isolated and isn't a symbol table; the arguments of the block aren't used
-module _ (x r : ℕ) (insertion : Place) (m : Module) (s : StandsAt x insertion m) (e : Ended) (read : Some e ≡ body_at x r m.tree) (opened : is_isolated (head s.at.here).name ≡ false) (plain : is_table (head s.at.here).name ≡ false)
+module _ (x r : ℕ) (insertion : Place) (m : Module) (s : StandsAt x insertion m) (e : Ended) (read : Some e ≡ body_at x r m.tree) (opened : is_isolated (head s.at.here).name ≡ false) (simple : is_table (head s.at.here).name ≡ false)
     (spared : (k : ℕ) → uses_of (Arg x r k) m.tree ≡ []) where
   pub holds_body : HasFirst x r insertion (e.before ++ e.last.id ∷ []) m
   holds_body =
       let b = block_read m.tree s.at.here r e (read ∙ ap (λ z. given z (λ o. body m.tree o r)) (found_there is_isolated x insertion m s)) in
-      record { located = s; args = b.args; list = b.list; is = b.is; ids = b.ids; opened = opened; plain = plain; spared = spared }
+      record { located = s; args = b.args; list = b.list; is = b.is; ids = b.ids; opened = opened; simple = simple; spared = spared }
 
   pub body_moves : (es : List Edit) → Free es (all_edited (moving insertion e.before) m) → Free (moving insertion e.before ++ es) m
   body_moves es rest = move_free x r insertion e.before (e.last.id ∷ []) m holds_body es rest

@@ -155,19 +155,19 @@ module _ (c : ContextModel) (n : Node) (x : ℕ) (m : Operation) (insertion : Pl
       go (Some low) None d = refl
       go (Some low) (Some high) d = by_step low high d (int_lt (reading low) (reading high))
 
-  module _ (lower upper step : Value) (inits : List Value) (shape : n.head.operands ≡ lower ∷ upper ∷ step ∷ inits) where
-    told : (o : Operation) → given (times_of m lower upper step) (by_times o (loop lower upper step inits)) ≡ given (loop_from n.head.operands) (by_bounds m insertion o)
-    told o = sym (ap (λ l. given (loop_from l) (by_bounds m insertion o)) shape ∙ bounds_tell o (loop lower upper step inits))
+  module _ (lower upper step : Value) (inits : List Value) (shaped_as : n.head.operands ≡ lower ∷ upper ∷ step ∷ inits) where
+    reported : (o : Operation) → given (times_of m lower upper step) (by_times o (loop lower upper step inits)) ≡ given (loop_from n.head.operands) (by_bounds m insertion o)
+    reported o = sym (ap (λ l. given (loop_from l) (by_bounds m insertion o)) shaped_as ∙ bounds_tell o (loop lower upper step inits))
 
     pub unknown_open_loop : None ≡ times_of m lower upper step → None ≡ open_loop_at x m insertion
-    unknown_open_loop e = viewed c n (find x m) (λ z. None ≡ given z (λ o. open_loop m insertion o)) at (λ rs s k. when_none _ _ (ap (λ z. given z (by_times (here rs) (loop lower upper step inits))) e ∙ told (here rs)))
+    unknown_open_loop e = viewed c n (find x m) (λ z. None ≡ given z (λ o. open_loop m insertion o)) at (λ rs s k. when_none _ _ (ap (λ z. given z (by_times (here rs) (loop lower upper step inits))) e ∙ reported (here rs)))
 
     pub never_open_loop : (b : Bool) → b ≡ named (codes "scf.for") (name_term c n.head.name) → b ≡ true → Some Zero ≡ times_of m lower upper step
         → (es : List Edit) → es ≡ replacing (results_from x 0 inits) inits ++ Erase x ∷ [] → Some es ≡ open_loop_at x m insertion
     never_open_loop b e f g es h =
         viewed c n (find x m) (λ z. Some es ≡ given z (λ o. open_loop m insertion o)) at
         (λ rs s k. ap Some (h ∙ ap (λ y. replacing (results_from y 0 inits) inits ++ Erase y ∷ []) (sym (found_id x m (here rs) k)))
-        ∙ ap (λ z. given z (by_times (here rs) (loop lower upper step inits))) g ∙ told (here rs) ∙ when_yes b _ _ e f)
+        ∙ ap (λ z. given z (by_times (here rs) (loop lower upper step inits))) g ∙ reported (here rs) ∙ when_yes b _ _ e f)
 
     pub once_open_loop : (b : Bool) → b ≡ named (codes "scf.for") (name_term c n.head.name) → b ≡ true → Some One ≡ times_of m lower upper step
         → (p : Option (List Edit)) → p ≡ opened_at x 0 m insertion (lower ∷ inits) → p ≡ open_loop_at x m insertion
@@ -175,7 +175,7 @@ module _ (c : ContextModel) (n : Node) (x : ℕ) (m : Operation) (insertion : Pl
         viewed c n (find x m) (λ z. p ≡ given z (λ o. open_loop m insertion o)) at
         (λ rs s k. h ∙ ap (λ z. given (given z (λ o. body m o 0)) (λ e. Some (opening x insertion e.before (lower ∷ inits) e.last.operands))) k
         ∙ ap (λ y. given (body m (here rs) 0) (λ e. Some (opening y insertion e.before (lower ∷ inits) e.last.operands))) (sym (found_id x m (here rs) k))
-        ∙ ap (λ z. given z (by_times (here rs) (loop lower upper step inits))) g ∙ told (here rs) ∙ when_yes b _ _ e f)
+        ∙ ap (λ z. given z (by_times (here rs) (loop lower upper step inits))) g ∙ reported (here rs) ∙ when_yes b _ _ e f)
 
   -- `stop-loop`
   pub not_stop_loop : (b : Bool) → b ≡ named (codes "scf.while") (name_term c n.head.name) → b ≡ false → None ≡ stop_loop_at x m insertion
@@ -200,15 +200,15 @@ module _ (c : ContextModel) (n : Node) (x : ℕ) (m : Operation) (insertion : Pl
         go o [] h = refl
         go o (v ∷ l) h = absurd (omega (arith, h))
 
-    module _ (v : Value) (handed : List Value) (shape : e.last.operands ≡ v ∷ handed) (t : Bool) (test : t ≡ is_number m 0 v) where
+    module _ (v : Value) (handed : List Value) (shaped_as : e.last.operands ≡ v ∷ handed) (t : Bool) (test : t ≡ is_number m 0 v) where
       pub no_number_stop_loop : t ≡ false → None ≡ stop_loop_at x m insertion
       no_number_stop_loop f =
           viewed c n (find x m) (λ z. None ≡ given z (λ o. stop_loop m insertion o)) at
-          (λ rs s k. when_none _ _ (when_no t _ _ test f ∙ ap (by_end m insertion (here rs) e) (sym shape) ∙ by_its_end (here rs) k))
+          (λ rs s k. when_none _ _ (when_no t _ _ test f ∙ ap (by_end m insertion (here rs) e) (sym shaped_as) ∙ by_its_end (here rs) k))
 
       pub number_stop_loop : (b : Bool) → b ≡ named (codes "scf.while") (name_term c n.head.name) → b ≡ true → t ≡ true
           → (es : List Edit) → es ≡ opening x insertion e.before n.head.operands handed → Some es ≡ stop_loop_at x m insertion
       number_stop_loop b g i f es h =
           viewed c n (find x m) (λ z. Some es ≡ given z (λ o. stop_loop m insertion o)) at
           (λ rs s k. ap Some (h ∙ ap (λ y. opening y insertion e.before n.head.operands handed) (sym (found_id x m (here rs) k)))
-          ∙ when_yes t _ _ test f ∙ ap (by_end m insertion (here rs) e) (sym shape) ∙ by_its_end (here rs) k ∙ when_yes b _ _ g i)
+          ∙ when_yes t _ _ test f ∙ ap (by_end m insertion (here rs) e) (sym shaped_as) ∙ by_its_end (here rs) k ∙ when_yes b _ _ g i)

@@ -30,7 +30,7 @@ pub(crate) fn plan_extend_extension(
 ) -> Result<Option<RewritePlan>, AllocError>
     requires of { NodeIsOf world.now.ctx node.now }
     ensures edits { (x : ℕ) → IfOk result (IsPlanned extend_extension world.now x node.now) }
-    ensures fit { IfOk result (FitsIn world.now.ctx) }
+    ensures fits_in { IfOk result (FitsIn world.now.ctx) }
 {
     let Some(p) = unary_op(node) else {
         return Ok(None);
@@ -65,7 +65,7 @@ pub(crate) fn plan_cut_cast(
 ) -> Result<Option<RewritePlan>, AllocError>
     requires of { NodeIsOf world.now.ctx node.now }
     ensures edits { IfOk result (IsPlanned cut_cast world.now op node.now) }
-    ensures fit { IfOk result (FitsIn world.now.ctx) }
+    ensures fits_in { IfOk result (FitsIn world.now.ctx) }
 {
     let Some(p) = unary_op(node) else {
         return Ok(None);
@@ -104,7 +104,7 @@ fn unrealized(
     requires name { IsName world.now.ctx p.now.name }
     requires ty { IsType world.now.ctx p.now.ty }
     ensures edits { IfOk result (IsPlannedOne unrealized world.now op p.now) }
-    ensures fit { IfOk result (FitsIn world.now.ctx) }
+    ensures fits_in { IfOk result (FitsIn world.now.ctx) }
 {
     if is_of_type(world, p.ty, p.first) {
         let plan = give(alloc, op, p.first)?;
@@ -134,7 +134,7 @@ fn through_index(
     requires name { IsName world.now.ctx p.now.name }
     requires ty { IsType world.now.ctx p.now.ty }
     ensures edits { IfOk result (IsPlannedOne through_index world.now op p.now) }
-    ensures fit { IfOk result (FitsIn world.now.ctx) }
+    ensures fits_in { IfOk result (FitsIn world.now.ctx) }
 {
     let Some(inside) = defining_op_named(alloc, world, p.name, &p.first)? else {
         return Ok(None);
@@ -162,7 +162,7 @@ pub(crate) fn plan_cast_back(
 ) -> Result<Option<RewritePlan>, AllocError>
     requires of { NodeIsOf world.now.ctx node.now }
     ensures edits { IfOk result (IsPlanned cast_back world.now op node.now) }
-    ensures fit { IfOk result (FitsIn world.now.ctx) }
+    ensures fits_in { IfOk result (FitsIn world.now.ctx) }
 {
     let Some(p) = unary_op(node) else {
         return Ok(None);

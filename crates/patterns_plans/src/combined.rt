@@ -25,7 +25,7 @@ pub(crate) fn plan_regroup_constants(
 ) -> Result<Option<RewritePlan>, AllocError>
     requires of { NodeIsOf world.now.ctx node.now }
     ensures edits { (x : ℕ) → IfOk result (IsPlanned regroup_constants world.now x node.now) }
-    ensures fit { IfOk result (FitsIn world.now.ctx) }
+    ensures fits_in { IfOk result (FitsIn world.now.ctx) }
 {
     let Some(p) = binary_op(node) else {
         return Ok(None);
@@ -71,7 +71,7 @@ pub(crate) fn plan_add_negative(
 ) -> Result<Option<RewritePlan>, AllocError>
     requires of { NodeIsOf world.now.ctx node.now }
     ensures edits { (x : ℕ) → IfOk result (IsPlanned add_negative world.now x node.now) }
-    ensures fit { IfOk result (FitsIn world.now.ctx) }
+    ensures fits_in { IfOk result (FitsIn world.now.ctx) }
 {
     let Some(p) = binary_op(node) else {
         return Ok(None);

@@ -66,7 +66,7 @@ fn folded(world: &World, node: &Node<'_>, operands: &[Option<Bits>]) -> Option<R
     requires named { named (codes "arith.constant") (name_term world.now.ctx node.now.head.name) ≡ false }
     requires known { Some (map known_of operands.now) ≡ known_each (module_in world.now).tree node.now.head.operands }
     ensures edits { (x : ℕ) → IsPlanned fold_to_constant world.now x node.now result }
-    ensures fit { FitsIn world.now.ctx result }
+    ensures fits_in { FitsIn world.now.ctx result }
 {
     let [ty] = node.results() else {
         return None;
@@ -96,7 +96,7 @@ fn fold_each(
     requires of { NodeIsOf world.now.ctx node.now }
     requires named { named (codes "arith.constant") (name_term world.now.ctx node.now.head.name) ≡ false }
     ensures edits { (x : ℕ) → IfOk result (IsPlanned fold_to_constant world.now x node.now) }
-    ensures fit { IfOk result (FitsIn world.now.ctx) }
+    ensures fits_in { IfOk result (FitsIn world.now.ctx) }
 {
     let Some(operands) = known_each(alloc, world, node.operands())? else {
         return Ok(None);
@@ -116,7 +116,7 @@ fn fold_two(
     requires named { named (codes "arith.constant") (name_term world.now.ctx node.now.head.name) ≡ false }
     requires operands { node.now.head.operands ≡ first.now ∷ second.now ∷ [] }
     ensures edits { (x : ℕ) → IfOk result (IsPlanned fold_to_constant world.now x node.now) }
-    ensures fit { IfOk result (FitsIn world.now.ctx) }
+    ensures fits_in { IfOk result (FitsIn world.now.ctx) }
 {
     let Some(one) = readable(alloc, world, first)? else {
         return Ok(None);
@@ -137,7 +137,7 @@ pub(crate) fn plan_fold_to_constant(
 ) -> Result<Option<RewritePlan>, AllocError>
     requires of { NodeIsOf world.now.ctx node.now }
     ensures edits { (x : ℕ) → IfOk result (IsPlanned fold_to_constant world.now x node.now) }
-    ensures fit { IfOk result (FitsIn world.now.ctx) }
+    ensures fits_in { IfOk result (FitsIn world.now.ctx) }
 {
     if world.ctx.is_word(node.name(), Word::ArithConstant) {
         return Ok(None);
@@ -153,7 +153,7 @@ pub(crate) fn plan_fold_to_constant(
 pub(crate) fn plan_cancel_itself(world: &World, node: &Node<'_>) -> Option<RewritePlan>
     requires of { NodeIsOf world.now.ctx node.now }
     ensures edits { (x : ℕ) → IsPlanned cancel_itself world.now x node.now result }
-    ensures fit { FitsIn world.now.ctx result }
+    ensures fits_in { FitsIn world.now.ctx result }
 {
     let Some(p) = binary_op(node) else {
         return None;
@@ -176,7 +176,7 @@ pub(crate) fn plan_zero_remainder(
 ) -> Result<Option<RewritePlan>, AllocError>
     requires of { NodeIsOf world.now.ctx node.now }
     ensures edits { (x : ℕ) → IfOk result (IsPlanned zero_remainder world.now x node.now) }
-    ensures fit { IfOk result (FitsIn world.now.ctx) }
+    ensures fits_in { IfOk result (FitsIn world.now.ctx) }
 {
     let Some(p) = binary_op(node) else {
         return Ok(None);
@@ -195,7 +195,7 @@ pub(crate) fn plan_zero_remainder(
 pub(crate) fn plan_compare_itself(world: &World, node: &Node<'_>) -> Option<RewritePlan>
     requires of { NodeIsOf world.now.ctx node.now }
     ensures edits { (x : ℕ) → IsPlanned compare_itself world.now x node.now result }
-    ensures fit { FitsIn world.now.ctx result }
+    ensures fits_in { FitsIn world.now.ctx result }
 {
     let Some(p) = binary_op(node) else {
         return None;
@@ -224,7 +224,7 @@ pub(crate) fn plan_compare_zero(
 ) -> Result<Option<RewritePlan>, AllocError>
     requires of { NodeIsOf world.now.ctx node.now }
     ensures edits { (x : ℕ) → IfOk result (IsPlanned compare_zero world.now x node.now) }
-    ensures fit { IfOk result (FitsIn world.now.ctx) }
+    ensures fits_in { IfOk result (FitsIn world.now.ctx) }
 {
     let Some(p) = binary_op(node) else {
         return Ok(None);

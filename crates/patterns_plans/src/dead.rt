@@ -25,7 +25,7 @@ pub fn is_dead(world: &World, op: OpId) -> bool
 /// Returns the plan that erases an operation.
 pub fn erase(alloc: Global, op: OpId) -> Result<RewritePlan, AllocError>
     ensures edits { IfOk result (λ p. (c : ContextModel) (n : ℕ) (point : At) → plan_meaning c n op point p ≡ Erase op ∷ []) }
-    ensures fit { IfOk result (λ p. (c : ContextModel) → PlanIsOf c p) }
+    ensures fits_in { IfOk result (λ p. (c : ContextModel) → PlanIsOf c p) }
 {
     let mut edits = Vec::with_capacity(alloc, 1)?;
     edits.push(Edit::Erase { op })?;
@@ -40,7 +40,7 @@ pub(crate) fn plan_erase_dead(
     op: OpId,
 ) -> Result<Option<RewritePlan>, AllocError>
     ensures edits { IfOk result (IsPlanAt EraseDead world.now op) }
-    ensures fit { IfOk result (FitsIn world.now.ctx) }
+    ensures fits_in { IfOk result (FitsIn world.now.ctx) }
 {
     if !dead_op(world, op) {
         return Ok(None);

@@ -17,7 +17,7 @@ use patterns_matchers::types::all_ones;
 pub(crate) fn plan_expand_min_max(world: &World, node: &Node<'_>) -> Option<RewritePlan>
     requires of { NodeIsOf world.now.ctx node.now }
     ensures edits { (x : ℕ) → IsPlanned expand_min_max world.now x node.now result }
-    ensures fit { FitsIn world.now.ctx result }
+    ensures fits_in { FitsIn world.now.ctx result }
 {
     let Some(p) = binary_op(node) else {
         return None;
@@ -38,7 +38,7 @@ pub(crate) fn plan_expand_min_max(world: &World, node: &Node<'_>) -> Option<Rewr
 pub(crate) fn plan_expand_difference(world: &World, node: &Node<'_>) -> Option<RewritePlan>
     requires of { NodeIsOf world.now.ctx node.now }
     ensures edits { (x : ℕ) → IsPlanned expand_difference world.now x node.now result }
-    ensures fit { FitsIn world.now.ctx result }
+    ensures fits_in { FitsIn world.now.ctx result }
 {
     let Some(p) = binary_op(node) else {
         return None;
@@ -59,7 +59,7 @@ pub(crate) fn plan_expand_difference(world: &World, node: &Node<'_>) -> Option<R
 pub(crate) fn plan_expand_remainder(world: &World, node: &Node<'_>) -> Option<RewritePlan>
     requires of { NodeIsOf world.now.ctx node.now }
     ensures edits { (x : ℕ) → IsPlanned expand_remainder world.now x node.now result }
-    ensures fit { FitsIn world.now.ctx result }
+    ensures fits_in { FitsIn world.now.ctx result }
 {
     let Some(p) = binary_op(node) else {
         return None;

@@ -28,7 +28,7 @@ use std::alloc::{AllocError, Global};
 /// Returns the plan that replaces the result of `op` by `value` and erases `op`.
 pub(crate) fn give(alloc: Global, op: OpId, value: Value) -> Result<RewritePlan, AllocError>
     ensures edits { IfOk result (λ p. (c : ContextModel) (n : ℕ) (point : At) → plan_meaning c n op point p ≡ give op value) }
-    ensures fit { IfOk result (λ p. (c : ContextModel) → PlanIsOf c p) }
+    ensures fits_in { IfOk result (λ p. (c : ContextModel) → PlanIsOf c p) }
 {
     let mut edits = Vec::with_capacity(alloc, 2)?;
     edits.push(Edit::Replace {
@@ -48,7 +48,7 @@ pub(crate) fn plan_drop_zero(
     node: &Node<'_>,
 ) -> Result<Option<RewritePlan>, AllocError>
     ensures edits { IfOk result (IsPlanned drop_zero world.now op node.now) }
-    ensures fit { IfOk result (FitsIn world.now.ctx) }
+    ensures fits_in { IfOk result (FitsIn world.now.ctx) }
 {
     let Some(p) = binary_op(node) else {
         return Ok(None);
@@ -72,7 +72,7 @@ pub(crate) fn plan_drop_one(
     node: &Node<'_>,
 ) -> Result<Option<RewritePlan>, AllocError>
     ensures edits { IfOk result (IsPlanned drop_one world.now op node.now) }
-    ensures fit { IfOk result (FitsIn world.now.ctx) }
+    ensures fits_in { IfOk result (FitsIn world.now.ctx) }
 {
     let Some(p) = binary_op(node) else {
         return Ok(None);
@@ -97,7 +97,7 @@ pub(crate) fn plan_drop_all_ones(
 ) -> Result<Option<RewritePlan>, AllocError>
     requires of { NodeIsOf world.now.ctx node.now }
     ensures edits { IfOk result (IsPlanned drop_all_ones world.now op node.now) }
-    ensures fit { IfOk result (FitsIn world.now.ctx) }
+    ensures fits_in { IfOk result (FitsIn world.now.ctx) }
 {
     let Some(p) = binary_op(node) else {
         return Ok(None);
@@ -124,7 +124,7 @@ pub(crate) fn plan_keep_itself(
     node: &Node<'_>,
 ) -> Result<Option<RewritePlan>, AllocError>
     ensures edits { IfOk result (IsPlanned keep_itself world.now op node.now) }
-    ensures fit { IfOk result (FitsIn world.now.ctx) }
+    ensures fits_in { IfOk result (FitsIn world.now.ctx) }
 {
     let Some(p) = binary_op(node) else {
         return Ok(None);
@@ -148,7 +148,7 @@ pub(crate) fn plan_choose_same(
     node: &Node<'_>,
 ) -> Result<Option<RewritePlan>, AllocError>
     ensures edits { IfOk result (IsPlanned choose_same world.now op node.now) }
-    ensures fit { IfOk result (FitsIn world.now.ctx) }
+    ensures fits_in { IfOk result (FitsIn world.now.ctx) }
 {
     let Some(p) = ternary_op(node) else {
         return Ok(None);
@@ -172,7 +172,7 @@ pub(crate) fn plan_choose_known(
     node: &Node<'_>,
 ) -> Result<Option<RewritePlan>, AllocError>
     ensures edits { IfOk result (IsPlanned choose_known world.now op node.now) }
-    ensures fit { IfOk result (FitsIn world.now.ctx) }
+    ensures fits_in { IfOk result (FitsIn world.now.ctx) }
 {
     let Some(p) = ternary_op(node) else {
         return Ok(None);
@@ -198,7 +198,7 @@ pub(crate) fn plan_choose_truth(
 ) -> Result<Option<RewritePlan>, AllocError>
     requires of { NodeIsOf world.now.ctx node.now }
     ensures edits { IfOk result (IsPlanned choose_truth world.now op node.now) }
-    ensures fit { IfOk result (FitsIn world.now.ctx) }
+    ensures fits_in { IfOk result (FitsIn world.now.ctx) }
 {
     let Some(p) = ternary_op(node) else {
         return Ok(None);

@@ -26,7 +26,7 @@ pub(crate) fn plan_swap_constant(
     node: &Node<'_>,
 ) -> Result<Option<RewritePlan>, AllocError>
     ensures edits { IfOk result (IsPlanned swap_constant world.now op node.now) }
-    ensures fit { IfOk result (FitsIn world.now.ctx) }
+    ensures fits_in { IfOk result (FitsIn world.now.ctx) }
 {
     let Some(p) = binary_op(node) else {
         return Ok(None);
@@ -64,7 +64,7 @@ pub(crate) fn plan_mirror_comparison(
 ) -> Result<Option<RewritePlan>, AllocError>
     requires of { NodeIsOf world.now.ctx node.now }
     ensures edits { (x : ℕ) → IfOk result (IsPlanned mirror_comparison world.now x node.now) }
-    ensures fit { IfOk result (FitsIn world.now.ctx) }
+    ensures fits_in { IfOk result (FitsIn world.now.ctx) }
 {
     let Some(p) = binary_op(node) else {
         return Ok(None);
@@ -97,7 +97,7 @@ pub(crate) fn plan_choose_opposite(
     node: &Node<'_>,
 ) -> Result<Option<RewritePlan>, AllocError>
     ensures edits { IfOk result (IsPlanned choose_opposite world.now op node.now) }
-    ensures fit { IfOk result (FitsIn world.now.ctx) }
+    ensures fits_in { IfOk result (FitsIn world.now.ctx) }
 {
     let Some(p) = ternary_op(node) else {
         return Ok(None);

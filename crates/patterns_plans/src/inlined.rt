@@ -93,7 +93,7 @@ pub(crate) fn opened(
 ) -> Result<Vec<Edit>, AllocError>
     ensures edits { IfOk result (λ es. (c : ContextModel)
         → edits_meaning c es.items ≡ opening op point.now ops.now values.now handed.now) }
-    ensures fit { IfOk result (λ es. (c : ContextModel) → AllFit c es.items) }
+    ensures fits_in { IfOk result (λ es. (c : ContextModel) → AllFit c es.items) }
 {
     let mut edits = Vec::new(alloc);
     replace_arguments(op, values, &mut edits)?;

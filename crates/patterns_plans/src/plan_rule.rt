@@ -37,7 +37,7 @@ pub fn plan(
     requires shown { Some (header_of_node world.now.ctx node.now) ≡ head_at op (module_in world.now).tree }
     requires of { NodeIsOf world.now.ctx node.now }
     ensures edits { IfOk result (IsPlanAt rule world.now op) }
-    ensures fit { IfOk result (FitsIn world.now.ctx) }
+    ensures fits_in { IfOk result (FitsIn world.now.ctx) }
 {
     match rule {
         Rule::EraseDead => plan_erase_dead(alloc, world, op),

@@ -123,7 +123,7 @@ fn go_never(
 ) -> Result<Vec<Edit>, AllocError>
     ensures edits { IfOk result (λ es. (c : ContextModel)
         → edits_meaning c es.items ≡ replacing (results_from op 0 inits.now) inits.now ++ Erase op ∷ []) }
-    ensures fit { IfOk result (λ es. (c : ContextModel) → AllFit c es.items) }
+    ensures fits_in { IfOk result (λ es. (c : ContextModel) → AllFit c es.items) }
 {
     opened(alloc, op, point, &[], &[], inits)
 }

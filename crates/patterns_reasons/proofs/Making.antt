@@ -58,14 +58,14 @@ unused_shown x t h b c e u is = ap (λ y. is_unused y t) (shown_of x t h e).3 �
 
 -- ---- dead operations
 module _ (t : Operation) (h : Header) where
-  pub used_told : (a : Bool) → is_unused h.id t ≡ false → Some Used ≡ first_failed_test (erase_dead t h a)
-  used_told a u = rw u refl
+  pub used_reported : (a : Bool) → is_unused h.id t ≡ false → Some Used ≡ first_failed_test (erase_dead t h a)
+  used_reported a u = rw u refl
 
-  pub effects_told : (a : Bool) → is_unused h.id t ≡ true → a ≡ false → Some HasEffects ≡ first_failed_test (erase_dead t h a)
-  effects_told a u f = rw (u, f) refl
+  pub effects_reported : (a : Bool) → is_unused h.id t ≡ true → a ≡ false → Some HasEffects ≡ first_failed_test (erase_dead t h a)
+  effects_reported a u f = rw (u, f) refl
 
-  pub dead_told : (a : Bool) → is_unused h.id t ≡ true → a ≡ true → None ≡ first_failed_test (erase_dead t h a)
-  dead_told a u f = rw (u, f) refl
+  pub dead_reported : (a : Bool) → is_unused h.id t ≡ true → a ≡ true → None ≡ first_failed_test (erase_dead t h a)
+  dead_reported a u f = rw (u, f) refl
 
 -- ---- casts whose operand isn't a cast's result
 module _ (t : Operation) (p : One) (s : Option Header) (h : Header) (e : s ≡ source t p.name p.first) (is : s ≡ Some h) (none : None ≡ one h) where

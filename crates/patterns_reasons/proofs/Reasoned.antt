@@ -76,9 +76,9 @@ module _ (r : Rule) (m : Module) (x : ℕ) (h : Header) (e : Some h ≡ head_at 
         sym (after_insertion ∙ ap (λ c. unless_holds c NotVerified (unless_holds (has_rule r (head o).name) WrongOperation (first_failed_test (tests r m.tree o (applies r m x)))))
         (ap (eligible r m.tree) (sym with_id) ∙ sym s ∙ n))
 
-    module _ (b : Bool) (s : b ≡ eligible r m.tree (record h { id = x })) (fit : b ≡ true) where
+    module _ (b : Bool) (s : b ≡ eligible r m.tree (record h { id = x })) (fits_in : b ≡ true) where
       eligible_it : eligible r m.tree (head o) ≡ true
-      eligible_it = ap (eligible r m.tree) (sym with_id) ∙ sym s ∙ fit
+      eligible_it = ap (eligible r m.tree) (sym with_id) ∙ sym s ∙ fits_in
 
       after_fit : reason_of r m x ≡ unless_holds (has_rule r (head o).name) WrongOperation (first_failed_test (tests r m.tree o (applies r m x)))
       after_fit = after_insertion ∙ ap (λ c. unless_holds c NotVerified (unless_holds (has_rule r (head o).name) WrongOperation (first_failed_test (tests r m.tree o (applies r m x))))) eligible_it

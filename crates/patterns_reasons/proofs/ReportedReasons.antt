@@ -50,9 +50,9 @@ split (Some f) false h g T pass listed = refl
 split (Some f) true false g T pass listed = sym (ap is_some (listed refl f))
 split (Some f) true true g T pass listed = pass f
 
-pub told_where_rules_apply : NoReasonWhereRulesApply
+pub reported_where_rules_apply : NoReasonWhereRulesApply
 unfolding reason_of edits_of
-told_where_rules_apply r m x o e = at_find (find x m.tree) e
+reported_where_rules_apply r m x o e = at_find (find x m.tree) e
   where
     edits : Option Operation → Option (List Edit)
     edits q = given q (λ o. given (insertion_of x m.tree) (λ insertion. when (eligible r m.tree (head o)) (rule r m.tree m.next insertion o)))
@@ -66,9 +66,9 @@ told_where_rules_apply r m x o e = at_find (find x m.tree) e
         ∙ split (insertion_of x m.tree) (eligible r m.tree (head o)) (has_rule r (head o).name) (λ insertion. rule r m.tree m.next insertion o) (λ b. all_hold (tests r m.tree o b))
         (λ insertion. passes m.tree m.next insertion o r) (λ none insertion. only_listed r m.tree m.next insertion o none))
 
-pub told_conditions_fail : ReportedReasonsHold
+pub reported_conditions_fail : ReportedReasonsHold
 unfolding reason_of
-told_conditions_fail r m x c h = at_find (find x m.tree) refl h
+reported_conditions_fail r m x c h = at_find (find x m.tree) refl h
   where
     at_find : (q : Option Operation) → find x m.tree ≡ q → given q (λ o. first_failed_test (conditions r m x o)) ≡ Some c → (o : Operation) × (find x m.tree ≡ Some o) × In (asks c false) (conditions r m x o)
     at_find None e f = absurd cc

@@ -2,7 +2,7 @@
 use Rattle.std.proofs.Common.{◌≡◌, ℕ, [], Result, Ok, Err, refl, sym, ap, subst, inl, inr, ◌⊎◌}
 use Rattle.ir_event.specs.Modules.{Module}
 use Rattle.rewriter_machine.specs.Machine.{Answer, Fault, Outcome, Reply, Shows, State, Transformation, due_change}
-use Rattle.patterns_base.specs.Canonicalization.{Canonical, End, canonicalization_of, ended, stopped}
+use Rattle.patterns_base.specs.Canonicalization.{Canonical, End, canonicalization_of, ended, aborted}
 use Rattle.greedy.specs.Changes.{canonicalizing, rewriting}
 use Rattle.greedy.specs.Changes as changes
 use Rattle.greedy.specs.Rewriting.{rewriting_of}
@@ -57,7 +57,7 @@ record Ends (c : Canonical) (n : Module) : Type 0 where
 
 run_made : (c : Canonical) (n : Module) (o : Outcome) → changes.made_of c ≡ Ok (o, n) → Ends c n
 run_made (ended m k e) n o i = record { count = k; end = e; is = ap (λ m. ended m k e) (module_of _ o m n (changes.made_of (ended m k e)) refl i) }
-run_made (stopped r) n o i = absurd (never_ok _ (o, n) _ (Ok (o, n)) refl refl i)
+run_made (aborted r) n o i = absurd (never_ok _ (o, n) _ (Ok (o, n)) refl refl i)
 
 -- ---- the laws
 pub rewrite_answer_refines : NotedRewriteRefines → RewriteAnswerRefines
@@ -69,19 +69,19 @@ rewrite_answer_refines refines b reached ts are limit s t reply shows ready rang
 ]
 
 pub canon_list_answer_refines : NotedCanonListsRefine → CanonListAnswerRefines
-canon_list_answer_refines refines b reached ts are limit s t reply shows ready plain range a = elim (answers_held (rewriting (pattern_set_from ts) limit) s t reply shows a) [
-  | inl e ↦ (still s.held t.held ready range e, subst IsPlain (sym e) plain)
+canon_list_answer_refines refines b reached ts are limit s t reply shows ready simple range a = elim (answers_held (rewriting (pattern_set_from ts) limit) s t reply shows a) [
+  | inl e ↦ (still s.held t.held ready range e, subst IsPlain (sym e) simple)
   | inr made ↦
       let r = run_made (rewriting_of (pattern_set_from ts) limit s.held) t.held made.0 made.1 in
-      let k = refines b reached ts are limit s.held t.held r.count r.end ready plain range r.is in
+      let k = refines b reached ts are limit s.held t.held r.count r.end ready simple range r.is in
       ((k.0, k.2, k.3), k.1)
 ]
 
 pub canon_answer_refines : CanonicalizationKeeps → CanonStaysInRange → CanonRefines → CanonAnswerRefines
-canon_answer_refines keeps stays refines limit s t reply shows ready plain range a = elim (answers_held (canonicalizing limit) s t reply shows a) [
-  | inl e ↦ (still s.held t.held ready range e, subst IsPlain (sym e) plain)
+canon_answer_refines keeps stays refines limit s t reply shows ready simple range a = elim (answers_held (canonicalizing limit) s t reply shows a) [
+  | inl e ↦ (still s.held t.held ready range e, subst IsPlain (sym e) simple)
   | inr made ↦
       let r = run_made (canonicalization_of limit s.held) t.held made.0 made.1 in
-      let k = keeps limit s.held t.held r.count r.end ready plain r.is in
-      ((k.0, stays limit s.held t.held r.count r.end ready plain range r.is, refines limit s.held t.held r.count r.end ready plain r.is), k.1)
+      let k = keeps limit s.held t.held r.count r.end ready simple r.is in
+      ((k.0, stays limit s.held t.held r.count r.end ready simple range r.is, refines limit s.held t.held r.count r.end ready simple r.is), k.1)
 ]

@@ -112,7 +112,7 @@ widths_are w most a b c = and_from (nat_lt 0 w) (nat_le w most_width) (one 0 w a
     two : (a b : ℕ) → a ≤ b → nat_le a b ≡ true
     two a b h = grind (arith, nat_tests)
 
-module _ (p : PatternModel) (at : ℕ → BitsKind) (wide_at : (v : ℕ) → v < p.types → is_width (width_of (at v)) ≡ true) (fit : fits (map (kind_by at) p.value_types) p ≡ true) where
+module _ (p : PatternModel) (at : ℕ → BitsKind) (wide_at : (v : ℕ) → v < p.types → is_width (width_of (at v)) ≡ true) (fits_in : fits (map (kind_by at) p.value_types) p ≡ true) where
   wide : (s : PatternType) → is_wide p s ≡ true → is_width (width_of (kind_by at s)) ≡ true
   wide (sort.Concrete k) e = e
   wide (sort.Variable v) e = wide_at v (ltb-true v p.types e)
@@ -136,7 +136,7 @@ module _ (p : PatternModel) (at : ℕ → BitsKind) (wide_at : (v : ℕ) → v <
 
   less : (a b : PatternType) → is_less p a b ≡ true → nat_lt (width_of (kind_by at a)) (width_of (kind_by at b)) ≡ true
   less a b e =
-      let all = (and_parts (list_all (is_requested (map (kind_by at) p.value_types)) p.type_constraints) (list_all (extra_fits (map (kind_by at) p.value_types)) p.extra && list_all (number_fits (map (kind_by at) p.value_types)) p.given) fit).0 in
+      let all = (and_parts (list_all (is_requested (map (kind_by at) p.value_types)) p.type_constraints) (list_all (extra_fits (map (kind_by at) p.value_types)) p.extra && list_all (number_fits (map (kind_by at) p.value_types)) p.given) fits_in).0 in
       elim (or_cases (is_written_less p a b) (list_any (asks_narrower p a b) p.type_constraints) e) [ inl i ↦ written a b i | inr i ↦ requested_less a b p.type_constraints all i ]
     where
       written : (a b : PatternType) → is_written_less p a b ≡ true → nat_lt (width_of (kind_by at a)) (width_of (kind_by at b)) ≡ true
@@ -183,8 +183,8 @@ module _ (p : PatternModel) (at : ℕ → BitsKind) (wide_at : (v : ℕ) → v <
 -- at kinds that satisfy the pattern's constraints, and have valid widths
 pub kinded_by_kinds : (p : PatternModel) → is_kinded_by_form p ≡ true → (at : ℕ → BitsKind) → ((v : ℕ) → v < p.types → is_width (width_of (at v)) ≡ true)
     → fits (map (kind_by at) p.value_types) p ≡ true → is_kinded_at (map (kind_by at) p.value_types) p ≡ true
-kinded_by_kinds p kinded at wide_at fit =
-    ap (λ es. news_take (map (kind_by at) p.value_types) es p.new) (matched_map at p) ∙ news_there p at wide_at fit p.new (sorts_matched p) kinded
+kinded_by_kinds p kinded at wide_at fits_in =
+    ap (λ es. news_take (map (kind_by at) p.value_types) es p.new) (matched_map at p) ∙ news_there p at wide_at fits_in p.new (sorts_matched p) kinded
 
 -- at widths
 kinds_same : (ws : List ℕ) (ss : List PatternType) → map (kind_by (λ v. kind.Int (get_or ws v 0))) ss ≡ kinds_with ws ss
@@ -193,7 +193,7 @@ kinds_same ws (sort.Concrete k ∷ ss) = ap (λ ks. k ∷ ks) (kinds_same ws ss)
 kinds_same ws (sort.Variable v ∷ ss) = ap (λ ks. kind.Int (get_or ws v 0) ∷ ks) (kinds_same ws ss)
 
 pub kinded_by_form : KindedByForm
-kinded_by_form p kinded most within ws are fit =
+kinded_by_form p kinded most within ws are fits_in =
     subst (λ ks. is_kinded_at ks p ≡ true) (kinds_same ws p.value_types)
     (kinded_by_kinds p kinded (λ v. kind.Int (get_or ws v 0)) (λ v l. let w = width_within p.types most ws v are l in widths_are (get_or ws v 0) most w.0 w.1 within)
-    (subst (λ ks. fits ks p ≡ true) (sym (kinds_same ws p.value_types)) fit))
+    (subst (λ ks. fits ks p ≡ true) (sym (kinds_same ws p.value_types)) fits_in))

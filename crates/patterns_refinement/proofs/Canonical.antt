@@ -78,7 +78,7 @@ one_known (s ∷ rs) k r (inl i) = subst IsKnown (sym i) k.0
 one_known (s ∷ rs) k r (inr i) = one_known rs k.1 r i
 
 fine_cast_back : IsFine CastBack
-fine_cast_back t n insertion o = record { plain = λ es e. let g = cast_back_gives t n insertion o es e in subst (AllPlain (head o)) g.1 (tt, (tt, tt)) }
+fine_cast_back t n insertion o = record { simple = λ es e. let g = cast_back_gives t n insertion o es e in subst (AllPlain (head o)) g.1 (tt, (tt, tt)) }
 
 -- ---- invariants of rewrites
 -- ---- runs of them
@@ -88,58 +88,58 @@ module _ (accepted : AreAccepted) (only : OnlyListed) where
 
   -- a rule that creates only operations with plain names keeps the module plain
   pub plain_after : (m p : Module) (x : ℕ) (r : Rule) → IsFine r → IsReady m → IsPlain m → rewrite_of r m x ≡ becomes p → IsPlain p
-  plain_after m p x r fine ready plain e =
+  plain_after m p x r fine ready simple e =
       let q = ruled accepted r m p x ready.wellformed ready.sorted e in
-      subst IsPlain q.module_is (all_plain (head q.here) q.edits m ((fine m.tree m.next q.insertion q.here).plain q.edits q.made) plain)
+      subst IsPlain q.module_is (all_plain (head q.here) q.edits m ((fine m.tree m.next q.insertion q.here).simple q.edits q.made) simple)
 
   back_step : (m p : Module) (x : ℕ) → IsReady m → IsPlain m → rewrite_of CastBack m x ≡ becomes p → IsStep m p x
-  back_step m p x ready plain e =
+  back_step m p x ready simple e =
       let q = ruled accepted CastBack m p x ready.wellformed ready.sorted e in
-      let name = (each_found (λ h. is_plain h.name ≡ true) x m.tree plain q.here q.found).0 in (
-        plain_after m p x CastBack fine_cast_back ready plain e,
+      let name = (each_found (λ h. is_plain h.name ≡ true) x m.tree simple q.here q.found).0 in (
+        plain_after m p x CastBack fine_cast_back ready simple e,
         (cast_back_ready accepted m p x ready e, (λ a done c. casts_back accepted m p x q.here a done ready c q.found (no_unrealized (head q.here).name name) e)),
       )
 
   -- the other rules don't apply in a plain module
   never : (m p : Module) (x : ℕ) (r : Rule) → IsReady m → IsPlain m → ((name : List ℕ) → is_plain name ≡ true → has_rule r name ≡ false) → rewrite_of r m x ≡ becomes p → ⊥
-  never m p x r ready plain lacks e =
+  never m p x r ready simple lacks e =
       let q = ruled accepted r m p x ready.wellformed ready.sorted e in
-      let name = (each_found (λ h. is_plain h.name ≡ true) x m.tree plain q.here q.found).0 in
+      let name = (each_found (λ h. is_plain h.name ≡ true) x m.tree simple q.here q.found).0 in
       none-some q.edits (sym (only r m.tree m.next q.insertion q.here (lacks (head q.here).name name)) ∙ q.made)
 
   pub one_step : (m p : Module) (x : ℕ) (r : Rule) → In r greedy_rules → IsReady m → IsPlain m → rewrite_of r m x ≡ becomes p → IsStep m p x
-  one_step m p x r i ready plain e = go (one_known greedy_rules all_known r i)
+  one_step m p x r i ready simple e = go (one_known greedy_rules all_known r i)
     where
       go : IsKnown r → IsStep m p x
       go (inl k) =
           let keeps = all_kept accepted kept_rules (λ r i. i) r k.0 in
-          (plain_after m p x r k.1 ready plain e, (keeps.0 m p x ready e, (λ a done c. keeps.1 m p x a done ready c e)))
-      go (inr (inl same)) = back_step m p x ready plain (ap (λ r. rewrite_of r m x) (sym same) ∙ e)
-      go (inr (inr lacks)) = absurd (never m p x r ready plain lacks e)
+          (plain_after m p x r k.1 ready simple e, (keeps.0 m p x ready e, (λ a done c. keeps.1 m p x a done ready c e)))
+      go (inr (inl same)) = back_step m p x ready simple (ap (λ r. rewrite_of r m x) (sym same) ∙ e)
+      go (inr (inr lacks)) = absurd (never m p x r ready simple lacks e)
 
   pub canonicalization_keeps : IsOfItsRules → CanonicalizationKeeps
-  canonicalization_keeps own limit m n k e ready plain i =
+  canonicalization_keeps own limit m n k e ready simple i =
       let l = led greedy_rules limit k m n e (own limit m ∙ i) in
-      let r = rules_under IsPlain greedy_rules (λ r i m p x plain ready e. one_step m p x r i ready plain e) l.0 m n plain ready l.1 in
+      let r = rules_under IsPlain greedy_rules (λ r i m p x simple ready e. one_step m p x r i ready simple e) l.0 m n simple ready l.1 in
       (r.1.0, r.0, r.1.1, r.1.2)
 
   -- a step keeps the kinds of a module's values within a set that has `i1`
   pub kinds_step : (good : BitsKind → Bool) → good (kind.Int 1) ≡ true → (m p : Module) (x : ℕ) (r : Rule) → In r greedy_rules → IsReady m → IsPlain m → HaveKinds good m → rewrite_of r m x ≡ becomes p → HaveKinds good p
-  kinds_step good l m p x r i ready plain kinds e = go (one_known greedy_rules all_known r i)
+  kinds_step good l m p x r i ready simple value_kinds e = go (one_known greedy_rules all_known r i)
     where
       go : IsKnown r → HaveKinds good p
-      go (inl k) = fine_narrow good accepted l r k.1 m p x ready kinds e
-      go (inr (inl same)) = fine_narrow good accepted l CastBack fine_cast_back m p x ready kinds (ap (λ r. rewrite_of r m x) (sym same) ∙ e)
-      go (inr (inr lacks)) = absurd (never m p x r ready plain lacks e)
+      go (inl k) = fine_narrow good accepted l r k.1 m p x ready value_kinds e
+      go (inr (inl same)) = fine_narrow good accepted l CastBack fine_cast_back m p x ready value_kinds (ap (λ r. rewrite_of r m x) (sym same) ∙ e)
+      go (inr (inr lacks)) = absurd (never m p x r ready simple lacks e)
 
   pub canonicalization_kinds : IsOfItsRules → (good : BitsKind → Bool) → good (kind.Int 1) ≡ true
       → (limit : ℕ) (m n : Module) (k : ℕ) (e : End) → IsReady m → IsPlain m → HaveKinds good m → canonicalization_of limit m ≡ ended n k e → HaveKinds good n
-  canonicalization_kinds own good l limit m n k e ready plain kinds i =
+  canonicalization_kinds own good l limit m n k e ready simple value_kinds i =
       let d = led greedy_rules limit k m n e (own limit m ∙ i) in
       let r =
-      rules_under (λ m. IsPlain m × HaveKinds good m) greedy_rules (λ r i m p x s ready e. let t = one_step m p x r i ready s.0 e in ((t.0, kinds_step good l m p x r i ready s.0 s.1 e), t.1)) d.0 m n (plain, kinds) ready d.1 in
+      rules_under (λ m. IsPlain m × HaveKinds good m) greedy_rules (λ r i m p x s ready e. let t = one_step m p x r i ready s.0 e in ((t.0, kinds_step good l m p x r i ready s.0 s.1 e), t.1)) d.0 m n (simple, value_kinds) ready d.1 in
       r.0.1
 
   pub canonicalization_narrow : IsOfItsRules → NarrowCanonicalizationKeeps
-  canonicalization_narrow own most some limit m n k e ready plain narrow i =
-      canonicalization_kinds own (is_narrow most) (truth_narrow most some) limit m n k e ready plain narrow i
+  canonicalization_narrow own most some limit m n k e ready simple narrow i =
+      canonicalization_kinds own (is_narrow most) (truth_narrow most some) limit m n k e ready simple narrow i

@@ -177,9 +177,9 @@ module _ (accepted : AreAccepted) where
     pub kind : BitsKind
     pub is : result_kind (head q.here) ≡ Some kind
     pub first_kind : kind_in m.tree w.first ≡ Some kind
-    pub between : BitsKind
-    pub between_is : result_kind (head sole.here) ≡ Some between
-    pub wide : width_of kind ≤ width_of between
+    pub intermediate : BitsKind
+    pub between_is : result_kind (head sole.here) ≡ Some intermediate
+    pub wide : width_of kind ≤ width_of intermediate
     pub value : has_value w.first m.tree ≡ true
     pub inside : (head sole.here).operands ≡ w.first ∷ []
 
@@ -208,7 +208,7 @@ module _ (accepted : AreAccepted) where
         kind = k.kind;
         is = k.is;
         first_kind = of_type m.tree w.ty w.first w.of_its_type ∙ of;
-        between = j.kind;
+        intermediate = j.kind;
         between_is = j.is;
         wide = at_most (width_of k.kind) (width_of j.kind) (sym (λ i. nat_le (widths w.ty k.kind of i) (widths w.inner_ty j.kind inner_of i)) ∙ w.wide);
         value = (and_parts (has_value w.first m.tree) true (subst (λ vs. list_all (λ v. has_value v m.tree) vs ≡ true) operands inside)).0;
@@ -237,14 +237,14 @@ module _ (accepted : AreAccepted) where
         better = λ d.
             index_result m a done x q.here s w.outer.0 w.middle k.kind (a w.first) w.outer.1 k.is w.operands d
             (λ z f.
-            twice_refined w.outer.0 w.outer.0 k.between k.kind (a w.first) (a w.middle) z (a w.first) f
-            (subst (λ v. (resize_outcome w.outer.0 k.between (a w.first) ≡ Some (a v)) ⊎ (a v ≡ None)) (sym k.sole.value) (index_made m a done k.sole.id k.sole.here i w.outer.0 w.first k.between k.name k.between_is k.inside (inner d)))
+            twice_refined w.outer.0 w.outer.0 k.intermediate k.kind (a w.first) (a w.middle) z (a w.first) f
+            (subst (λ v. (resize_outcome w.outer.0 k.intermediate (a w.first) ≡ Some (a v)) ⊎ (a v ≡ None)) (sym k.sole.value) (index_made m a done k.sole.id k.sole.here i w.outer.0 w.first k.intermediate k.name k.between_is k.inside (inner d)))
             (λ y b j is c g.
             let value_types = value_kind m a done x q.here s w.first k.kind y k.first_kind is in
             let fits = value_bits m a done x q.here s w.first k.value y is in
             let number : j ≡ y.1 =
-            came_back w.outer.0 (width_of k.kind) (width_of k.between) y.1 b j w.outer.2 (subst (λ k. 1 ≤ width_of k) value_types (some_bits y.0 y.1 fits)) k.wide (subst (λ k. y.1 < 2 ^ width_of k) value_types (below y.0 y.1 fits))
-            (subst (λ u. cast_of w.outer.0 (width_of u) (width_of k.between) y.1 ≡ Some b) value_types c) g in
+            came_back w.outer.0 (width_of k.kind) (width_of k.intermediate) y.1 b j w.outer.2 (subst (λ k. 1 ≤ width_of k) value_types (some_bits y.0 y.1 fits)) k.wide (subst (λ k. y.1 < 2 ^ width_of k) value_types (below y.0 y.1 fits))
+            (subst (λ u. cast_of w.outer.0 (width_of u) (width_of k.intermediate) y.1 ≡ Some b) value_types c) g in
             let back = sym value_types in
             same_refined (Some (k.kind, j)) (a w.first) ((λ t. Some (back t, number t)) ∙ sym is)));
         there = λ d. operand_there m a done k.sole.id k.sole.here i (is_there done) w.first k.inside (i.fed (inner d));

@@ -262,9 +262,9 @@ module _ (accepted : AreAccepted) where
     pub of : kind_of w.ty ≡ Some kind
     pub is : result_kind (head q.here) ≡ Some kind
     pub width : is_width (width_of kind) ≡ true
-    pub between : BitsKind
-    pub between_is : kind_in m.tree w.middle ≡ Some between
-    pub less : width_of kind < width_of between
+    pub intermediate : BitsKind
+    pub between_is : kind_in m.tree w.middle ≡ Some intermediate
+    pub less : width_of kind < width_of intermediate
     pub value : has_value w.first m.tree ≡ true
 
   cut_kinds : (m n : Module) (x : ℕ) (q : Ruled CutCast m n x) (w : Cut m n x q) → IsReady m → CutKinds m n x q w
@@ -282,7 +282,7 @@ module _ (accepted : AreAccepted) where
         of = sym (ap (λ tys. given (slice_get tys 0) kind_of) w.results) ∙ k.is;
         is = k.is;
         width = k.width;
-        between = cut.0;
+        intermediate = cut.0;
         between_is = cut.1;
         less = cut.2;
         value = (and_parts (has_value w.first m.tree) true (subst (λ vs. list_all (λ v. has_value v m.tree) vs ≡ true) (ap (λ (h : Header). h.operands) s.heads ∙ w.inner_operands) inside)).0;
@@ -296,8 +296,8 @@ module _ (accepted : AreAccepted) where
     test : Header → Bool
     test h = among resizing h.name && is_verified m.tree h
 
-    first_kind : (i : BitsKind) × (kind_in m.tree w.first ≡ Some i) × (width_of k.between < width_of i)
-    first_kind = cut_parts (kind_in m.tree w.first) k.between (source_narrows m (λ h. among resizing h.name && is_verified m.tree h) w.middle w.inner k.sole w.first w.inner_operands cuts.Truncate inner_cuts ready.kinded k.between k.between_is).0
+    first_kind : (i : BitsKind) × (kind_in m.tree w.first ≡ Some i) × (width_of k.intermediate < width_of i)
+    first_kind = cut_parts (kind_in m.tree w.first) k.intermediate (source_narrows m (λ h. among resizing h.name && is_verified m.tree h) w.middle w.inner k.sole w.first w.inner_operands cuts.Truncate inner_cuts ready.kinded k.intermediate k.between_is).0
 
     first_below : owner w.first < m.next
     first_below = value_below m.next m.tree (is_below m.next m.tree ready.wellformed.below) w.first k.value
@@ -351,9 +351,9 @@ module _ (accepted : AreAccepted) where
             subst (λ o. refines (a (Result x 0)) o ≡ true) (sym ((all_at a m.next None (cast_outcome cuts.Truncate k.kind (a w.first) ∷ [])).0 0))
             (cast_result m a done x q.here site cuts.Truncate w.middle k.kind out w.name k.is w.operands d
             (λ z i.
-            twice_refined cuts.Truncate cuts.Truncate k.between k.kind (a w.first) (a w.middle) z out i
-            (source_makes m (λ h. among resizing h.name && is_verified m.tree h) w.middle w.inner k.sole w.first w.inner_operands cuts.Truncate inner_cuts a done ready.wellformed ready.kinded computing (λ i. ap is_some (sym k.sole.kind ∙ k.between_is)) (middle_there d) k.between k.between_is)
-            (λ y b j is c f. cast_refined cuts.Truncate k.kind (a w.first) y j is (sym (truncated_twice (width_of y.0) (width_of k.between) (width_of k.kind) y.1 b k.less c) ∙ f))));
+            twice_refined cuts.Truncate cuts.Truncate k.intermediate k.kind (a w.first) (a w.middle) z out i
+            (source_makes m (λ h. among resizing h.name && is_verified m.tree h) w.middle w.inner k.sole w.first w.inner_operands cuts.Truncate inner_cuts a done ready.wellformed ready.kinded computing (λ i. ap is_some (sym k.sole.kind ∙ k.between_is)) (middle_there d) k.intermediate k.between_is)
+            (λ y b j is c f. cast_refined cuts.Truncate k.kind (a w.first) y j is (sym (truncated_twice (width_of y.0) (width_of k.intermediate) (width_of k.kind) y.1 b k.less c) ∙ f))));
         there = λ d. after_new m.next x done m.next (omega arith) ∙ d;
       }
 
@@ -381,15 +381,15 @@ module _ (accepted : AreAccepted) where
           better = λ d.
               cast_result m a done x q.here s cuts.Truncate w.middle k.kind (a w.first) w.name k.is w.operands d
               (λ z i.
-              twice_refined inner_extends.0 cuts.Truncate k.between k.kind (a w.first) (a w.middle) z (a w.first) i
-              (source_makes m (λ h. among resizing h.name && is_verified m.tree h) w.middle w.inner k.sole w.first w.inner_operands inner_extends.0 inner_extends.1 a done ready.wellformed ready.kinded computing (λ i. ap is_some (sym k.sole.kind ∙ k.between_is)) (middle d) k.between k.between_is)
+              twice_refined inner_extends.0 cuts.Truncate k.intermediate k.kind (a w.first) (a w.middle) z (a w.first) i
+              (source_makes m (λ h. among resizing h.name && is_verified m.tree h) w.middle w.inner k.sole w.first w.inner_operands inner_extends.0 inner_extends.1 a done ready.wellformed ready.kinded computing (λ i. ap is_some (sym k.sole.kind ∙ k.between_is)) (middle d) k.intermediate k.between_is)
               (λ y b j is c f.
               let value_types = value_kind m a done x q.here s w.first k.kind y back_kind is in
               let back_to = sym value_types in
               let fits = value_bits m a done x q.here s w.first k.value y is in
               let number : j ≡ y.1 =
-              cut_back_to inner_extends.0 (width_of k.kind) (width_of k.between) y.1 b j inner_extends.2 (subst (λ k. 1 ≤ width_of k) value_types (some_bits y.0 y.1 fits)) k.less (subst (λ k. y.1 < 2 ^ width_of k) value_types (below y.0 y.1 fits))
-              (subst (λ u. cast_of inner_extends.0 (width_of u) (width_of k.between) y.1 ≡ Some b) value_types c) f in
+              cut_back_to inner_extends.0 (width_of k.kind) (width_of k.intermediate) y.1 b j inner_extends.2 (subst (λ k. 1 ≤ width_of k) value_types (some_bits y.0 y.1 fits)) k.less (subst (λ k. y.1 < 2 ^ width_of k) value_types (below y.0 y.1 fits))
+              (subst (λ u. cast_of inner_extends.0 (width_of u) (width_of k.intermediate) y.1 ≡ Some b) value_types c) f in
               same_refined (Some (k.kind, j)) (a w.first) ((λ i. Some (back_to i, number i)) ∙ sym is)));
           there = λ d. source_there m (λ h. among resizing h.name && is_verified m.tree h) w.middle w.inner k.sole w.first w.inner_operands inner_extends.0 inner_extends.1 a done ready.wellformed ready.kinded computing (λ i. ap is_some (sym k.sole.kind ∙ k.between_is)) (middle d);
         })

@@ -53,16 +53,16 @@ wellformed = record {
 }
 
 in_range : Each (λ h. is_in_range h ≡ true) before.tree
-unfolding folds.fold_of folds.rule_of folds.rules words.operations words.is_inherent words.is_listed properties.is_allowed properties.is_of_kind properties.kind_of properties.kinds registry.row_of rows.rows
+unfolding folds.fold_of folds.rule_of folds.rules words.operations words.is_inherent words.is_listed properties.is_allowed properties.is_of_kind properties.kind_of properties.property_kinds registry.row_of rows.rows
 in_range = (refl, (((refl, (((refl, tt), ((refl, tt), ((refl, tt), tt))), tt)), tt), tt))
 
 within : Each (λ h. is_within before.tree h ≡ true) before.tree
 unfolding folds.rule_of folds.rules registry.row_of rows.rows
 within = (refl, (((refl, (((refl, tt), ((refl, tt), ((refl, tt), tt))), tt)), tt), tt))
 
-silent : diagnostics_of before.tree ≡ []
-unfolding words.operations words.is_inherent words.is_listed words.is_isolated words.is_table properties.is_allowed properties.is_of_kind properties.kind_of properties.kinds registry.row_of rows.rows
-silent = refl
+reports_nothing : diagnostics_of before.tree ≡ []
+unfolding words.operations words.is_inherent words.is_listed words.is_isolated words.is_table properties.is_allowed properties.is_of_kind properties.kind_of properties.property_kinds registry.row_of rows.rows
+reports_nothing = refl
 
 -- ---- the module computes
 no_result : (x k : ℕ) (ty : TypeTerm) → slice_get [] k ≡ Some ty → IsOfType ty (true_and_five (Result x k))
@@ -127,7 +127,7 @@ origins = record {
 
 -- ---- the rule applies
 applies : rewrite_of ChooseSame before 2 ≡ becomes after
-unfolding rewrites.rewrite_of rewrites.edits_of rewrites.eligible rule_table.rule rule_table.rules_for rule_table.table looks.is_verified looks.known folds.fold_of folds.rule_of folds.rules words.operations words.is_inherent words.is_listed words.is_table words.is_isolated properties.is_allowed properties.is_of_kind properties.kind_of properties.kinds registry.row_of rows.rows
+unfolding rewrites.rewrite_of rewrites.edits_of rewrites.eligible rule_table.rule rule_table.rules_for rule_table.table looks.is_verified looks.known folds.fold_of folds.rule_of folds.rules words.operations words.is_inherent words.is_listed words.is_table words.is_isolated properties.is_allowed properties.is_of_kind properties.kind_of properties.property_kinds registry.row_of rows.rows
 applies = refl
 
 -- ---- observations
@@ -147,7 +147,7 @@ other_memref r =
 
 pub choice_is_refined : ChoiceIsRefined
 choice_is_refined = record {
-  verified = record { wellformed = wellformed; sorted = refl; in_range = in_range; within = within; silent = silent };
+  verified = record { wellformed = wellformed; sorted = refl; in_range = in_range; within = within; reports_nothing = reports_nothing };
   computing = computes;
   origins = origins;
   applies = applies;

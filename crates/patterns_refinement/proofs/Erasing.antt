@@ -147,7 +147,7 @@ module _ (accepted : AreAccepted) where
         each_both (Alike m.tree u) (λ h. h.id < m.next) (λ h. IsKept m.next m.tree u a a later h h) (λ h p l. kept_so m.next m.tree u a a later (λ v. itself (a v)) h p) m.tree alike below in
         let stays : Each (λ h. Stays m.next m.tree u a a later h h) m.tree =
         each_both (Alike m.tree u) (λ h. h.id < m.next) (λ h. Stays m.next m.tree u a a later h h) (λ h p l. stays_so m.next m.tree u a a later (λ v. itself (a v)) h p) m.tree alike below in
-        let plain : (v : Value) → owner v < m.next → is_computed m.tree v ≡ false → is_computed u v ≡ false =
+        let simple : (v : Value) → owner v < m.next → is_computed m.tree v ≡ false → is_computed u v ≡ false =
         free_still m.next (λ y. true) (λ y. true) m.tree u
         (each_without (Was m.next (λ y. true) (λ y. true) m.tree) x m.tree (was_old m.next (λ y. true) (λ y. true) m.tree ready.wellformed.distinct (λ y l i. refl))) in
         record {
@@ -161,8 +161,8 @@ module _ (accepted : AreAccepted) where
               (record {
                 root = λ e. subst (Stays m.next m.tree u a a later (head m.tree)) (sym (head_without m.tree)) (at_root (λ h. Stays m.next m.tree u a a later h h) m.tree stays);
                 follows = erased_follows (Stays m.next m.tree u a a later) m.tree x q.here ready.wellformed.distinct q.found q.unmissed stays;
-                plain = plain;
-                origins = same_origins m.next m.tree u a a later kept (λ P s. each_without P x m.tree s) plain;
+                simple = simple;
+                origins = same_origins m.next m.tree u a a later kept (λ P s. each_without P x m.tree s) simple;
               });
         }
       where

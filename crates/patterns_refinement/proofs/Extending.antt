@@ -160,7 +160,7 @@ module _ (accepted : AreAccepted) where
     pub inside : IsExtending w.inner.name
     pub joins_it : joins inside.0 w.outer.0 ≡ true
     pub extension : Extends m.tree w.first w.inner_ty
-    pub between : kind_in m.tree w.middle ≡ Some (bits.Int extension.to)
+    pub intermediate : kind_in m.tree w.middle ≡ Some (bits.Int extension.to)
     pub value : has_value w.first m.tree ≡ true
 
   twice_kinds : (m n : Module) (x : ℕ) (q : Ruled ExtendExtension m n x) (w : Twice m n x q) → IsReady m → TwiceKinds m n x q w
@@ -194,7 +194,7 @@ module _ (accepted : AreAccepted) where
               ap (joins c.0) (same_cast w.outer.0 casts.ExtendSigned same) ∙ signed_joins c.0 c.2
         ];
         extension = extension;
-        between = s.kind ∙ ap (λ tys. given (slice_get tys 0) kind_of) results ∙ extension.result;
+        intermediate = s.kind ∙ ap (λ tys. given (slice_get tys 0) kind_of) results ∙ extension.result;
         value = (and_parts (has_value w.first m.tree) true (subst (λ vs. list_all (λ v. has_value v m.tree) vs ≡ true) operands inside.0)).0;
       }
 
@@ -247,7 +247,7 @@ module _ (accepted : AreAccepted) where
         outcomes = cast_outcome k.inside.0 k.kind (a w.first) ∷ [];
         give = (
           cast_gives a done m.next x (cast_outcome k.inside.0 k.kind (a w.first) ∷ []) w.inner.name w.ty w.first k.kind k.inside.0 k.inside.1 k.of first_below
-              (λ d. source_there m (λ h. among extensions h.name && is_verified m.tree h) w.middle w.inner k.sole w.first w.inner_operands k.inside.0 k.inside.1 a done ready.wellformed ready.kinded computing (λ i. ap is_some (sym k.sole.kind ∙ k.between)) (middle_there d)) total,
+              (λ d. source_there m (λ h. among extensions h.name && is_verified m.tree h) w.middle w.inner k.sole w.first w.inner_operands k.inside.0 k.inside.1 a done ready.wellformed ready.kinded computing (λ i. ap is_some (sym k.sole.kind ∙ k.intermediate)) (middle_there d)) total,
           tt,
         );
         better = λ d.
@@ -255,7 +255,7 @@ module _ (accepted : AreAccepted) where
             (cast_result m a done x q.here site w.outer.0 w.middle k.kind out w.outer.1 k.is w.operands d
             (λ z i.
             twice_refined k.inside.0 w.outer.0 (bits.Int k.extension.to) k.kind (a w.first) (a w.middle) z out i
-            (source_makes m (λ h. among extensions h.name && is_verified m.tree h) w.middle w.inner k.sole w.first w.inner_operands k.inside.0 k.inside.1 a done ready.wellformed ready.kinded computing (λ i. ap is_some (sym k.sole.kind ∙ k.between)) (middle_there d) (bits.Int k.extension.to) k.between)
+            (source_makes m (λ h. among extensions h.name && is_verified m.tree h) w.middle w.inner k.sole w.first w.inner_operands k.inside.0 k.inside.1 a done ready.wellformed ready.kinded computing (λ i. ap is_some (sym k.sole.kind ∙ k.intermediate)) (middle_there d) (bits.Int k.extension.to) k.intermediate)
             (λ y b j is c f. cast_refined k.inside.0 k.kind (a w.first) y j is (both_cast y b j is c f))));
         there = λ d. after_new m.next x done m.next (omega arith) ∙ d;
       }

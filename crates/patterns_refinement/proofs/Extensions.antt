@@ -53,9 +53,9 @@ all_false n [] e = tt
 all_false n (true ∷ bs) e = absurd cc
 all_false n (false ∷ bs) e = (refl, all_false (n + 1) bs e)
 
-none_told : (t : Operation) (z : OpWithPath) (row : Row) → is_verified t (head z.here) ≡ true → op_with_path (head z.here).id t ≡ Some z → row_of (head z.here).name ≡ Some row → AllFalse (counted_rules row (surround t z))
+none_reported : (t : Operation) (z : OpWithPath) (row : Row) → is_verified t (head z.here) ≡ true → op_with_path (head z.here).id t ≡ Some z → row_of (head z.here).name ≡ Some row → AllFalse (counted_rules row (surround t z))
 unfolding is_verified
-none_told t z row e f g =
+none_reported t z row e f g =
     let s = surround t z in
     let h = head z.here in
     let verified = (and_parts (breaks_none (broken_at h.id t)) (list_all (λ (e : List ℕ × AttrTerm). is_inherent h.name e.0) h.properties) e).0 in
@@ -68,8 +68,8 @@ pub widths_right : (t : Operation) (z : OpWithPath) (row : Row) → is_verified 
 widths_right t z row e f g =
     let s = surround t z in
     let u = verified_unbroken t z row e f g in
-    let told = none_told t z row e f g in
-    spoken (is_well_shaped row s.node) (breaks_18 s) u.shaped told.1.1.1.1.1.1.1.1.1.1.1.1.1.1.1.1.1.0
+    let reported = none_reported t z row e f g in
+    spoken (is_well_shaped row s.node) (breaks_18 s) u.shaped reported.1.1.1.1.1.1.1.1.1.1.1.1.1.1.1.1.1.0
 
 -- ---- extensions
 abbrev one_integer : TypesRow

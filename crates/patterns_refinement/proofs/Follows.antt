@@ -12,7 +12,7 @@ use Rattle.ir_tree.specs.Places.{drop_op, ops_each_list, region_each_list, regio
 use Rattle.ir_tree.specs.Meaning.{Operation}
 use Rattle.op_registry.specs.declared.own.Own.{Own}
 use Rattle.op_registry.specs.Registry.{own_of}
-use Rattle.effects.specs.declared.kinds.EffectKinds.{EffectKinds}
+use Rattle.effects.specs.declared.effect_kinds.EffectKinds.{EffectKinds}
 use Rattle.effects.specs.Dead.{is_kept, may_go}
 use Rattle.effects.specs.Effects.{effects, effects_by, is_recursive, ops_effects, own_kinds, region_effects, regions_effects, union}
 use Rattle.user_patterns_data.specs.Matching.{Header}

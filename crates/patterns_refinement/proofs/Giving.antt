@@ -129,9 +129,9 @@ module _ (a : Assignment) (n x : ℕ) (done : ℕ → Bool) (made : List Operati
       (all_put (Was n (λ y. true) (λ y. true) t) insertion n made t (was_new n (λ y. true) (λ y. true) t n made (omega arith)) k.bare (was_old n (λ y. true) (λ y. true) t d (λ y l i. refl)))
 
   old_kept : (now : Assignment) → ((w : Value) → refines (c w) (now w) ≡ true) → (u : Operation) → KeepsKinds n t u → Replaces n x v t u a (done_after n x done) → Each (λ h. IsKept n t u a now (done_after n x done) h (put_values (Result x 0) v h)) t
-  old_kept now better u kinds replaces =
+  old_kept now better u value_kinds replaces =
       each_both (IsBetterWith c later (map (put_value (Result x 0) v))) (λ h. list_all (λ v. has_value v t) h.operands ≡ true) (λ h. IsKept n t u a now later h (put_values (Result x 0) v h))
-      (λ h p s. kept_put n x v t u a now later kinds replaces h (λ w i. value_below n t below w (all_each (λ v. has_value v t) h.operands s w i))
+      (λ h p s. kept_put n x v t u a now later value_kinds replaces h (λ w i. value_below n t below w (all_each (λ v. has_value v t) h.operands s w i))
       (λ i.
       all_through (map a h.operands) (map c (map (put_value (Result x 0) v) h.operands)) (map now (map (put_value (Result x 0) v) h.operands))
       (subst (λ zs. AllBetter zs (map c (map (put_value (Result x 0) v) h.operands))) (operands_same a c n x v done k.agrees t below h.operands s) (p i))
@@ -172,10 +172,10 @@ replaced_improves m n x a done insertion made v wellformed within replaceable re
       };
       shows =
           let u = rewritten insertion m.next made x v m.tree in
-          let kinds = rewritten_kinds m.next m.tree x v insertion made k.bare (kinds_themselves m.next m.tree wellformed.distinct below) in
-          let kept = old_kept a m.next x done made v k m.tree below operands within computing s.now s.better u kinds replaces in
-          let plain = free_still m.next (λ y. true) (λ y. true) m.tree u (all_plain a m.next x done made v k m.tree below operands within computing insertion wellformed.distinct) in
-          subst (Shows a s.now m later) (sym is) (replaced_shows m x v insertion made a s.now later wellformed.distinct replaceable k.bare k.numbers kept plain);
+          let value_kinds = rewritten_kinds m.next m.tree x v insertion made k.bare (kinds_themselves m.next m.tree wellformed.distinct below) in
+          let kept = old_kept a m.next x done made v k m.tree below operands within computing s.now s.better u value_kinds replaces in
+          let simple = free_still m.next (λ y. true) (λ y. true) m.tree u (all_plain a m.next x done made v k m.tree below operands within computing insertion wellformed.distinct) in
+          subst (Shows a s.now m later) (sym is) (replaced_shows m x v insertion made a s.now later wellformed.distinct replaceable k.bare k.numbers kept simple);
     }
 
 -- the operation is arithmetic

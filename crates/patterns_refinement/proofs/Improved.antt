@@ -128,9 +128,9 @@ module _ (m : Module) (x : ℕ) (a : Assignment) (done later : ℕ → Bool) (we
       let below = is_below m.next m.tree wellformed.below in
       let operands = operands_stand is_isolated m.tree wellformed.distinct wellformed.wellformed.visible in
       let u = rewritten insertion m.next made x v m.tree in
-      let kinds = rewritten_kinds m.next m.tree x v insertion made bare (kinds_themselves m.next m.tree wellformed.distinct below) in
+      let value_kinds = rewritten_kinds m.next m.tree x v insertion made bare (kinds_themselves m.next m.tree wellformed.distinct below) in
       each_both (IsBetterWith c later (map (put_value (Result x 0) v))) (λ h. list_all (λ v. has_value v m.tree) h.operands ≡ true) (λ h. IsKept m.next m.tree u a now later h (put_values (Result x 0) v h))
-      (λ h p s. kept_put m.next x v m.tree u a now later kinds (replaces_computed m.next x v m.tree u a later root) h (λ w i. value_below m.next m.tree below w (all_each (λ v. has_value v m.tree) h.operands s w i))
+      (λ h p s. kept_put m.next x v m.tree u a now later value_kinds (replaces_computed m.next x v m.tree u a later root) h (λ w i. value_below m.next m.tree below w (all_each (λ v. has_value v m.tree) h.operands s w i))
       (λ i.
       all_through (map a h.operands) (map c (map (put_value (Result x 0) v) h.operands)) (map now (map (put_value (Result x 0) v) h.operands))
       (subst (λ zs. AllBetter zs (map c (map (put_value (Result x 0) v) h.operands))) (operands_same a c m.next x v done agrees m.tree below h.operands s) (p i))

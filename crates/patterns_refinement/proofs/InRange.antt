@@ -178,4 +178,4 @@ module _ (rules : AreAccepted) (accepted : UserPatternsAreAccepted) (kept : Kept
       (r.1.0, r.0, kept_is_refined m n ready r.1)
 
 pub canon_stays_in_range : AreAccepted → OnlyListed → IsOfItsRules → CanonStaysInRange
-canon_stays_in_range accepted only own limit m n k e ready plain range i = canonicalization_kinds accepted only own (λ k. is_width (width_of k)) refl limit m n k e ready plain range i
+canon_stays_in_range accepted only own limit m n k e ready simple range i = canonicalization_kinds accepted only own (λ k. is_width (width_of k)) refl limit m n k e ready simple range i

@@ -8,7 +8,7 @@ use Rattle.ir_types.specs.declared.refusal.Refusal.TheVariants.{BadLimit}
 use Rattle.ir_event.specs.Modules.{Module}
 use Rattle.patterns_base.specs.declared.rule.Rule.{Rule}
 use Rattle.patterns_base.specs.Rewrites.{Rewrite, becomes, none, refused, rewrite_of}
-use Rattle.patterns_base.specs.Canonicalization.{Canonical, End, converged, end_of, ended, first_rule, go_on, most_rewrites, or_else, stopped}
+use Rattle.patterns_base.specs.Canonicalization.{Canonical, End, converged, end_of, ended, first_rule, go_on, most_rewrites, or_else, aborted}
 use Rattle.greedy.specs.Rewriting.{first_by, next_by, rewriting_of, rewritten_from}
 use Rattle.greedy.specs.PatternSet.{by_rules}
 use Rattle.patterns_refinement.specs.Runs.{Leads, RewritingKeeps}
@@ -41,10 +41,10 @@ Led rs m n = (k : ℕ) × Leads rs k m n
 pub ended_parts : (m n : Module) (j k : ℕ) (d e : End) → ended m j d ≡ ended n k e → m ≡ n
 ended_parts m n j k d e i = cc
 
-pub stopped_never : {A : Type 0} (r : Refusal) (n : Module) (k : ℕ) (e : End) → stopped r ≡ ended n k e → A
+pub stopped_never : {A : Type 0} (r : Refusal) (n : Module) (k : ℕ) (e : End) → aborted r ≡ ended n k e → A
 stopped_never r n k e i = absurd (never i)
   where
-    never : stopped r ≡ ended n k e → ⊥
+    never : aborted r ≡ ended n k e → ⊥
     never i = cc
 
 goes_on : (rs : List Rule) (m n : Module) (j k : ℕ) (e : End) (w : Rewrite) (more : Module → Canonical) → ((p : Module) → w ≡ becomes p → more p ≡ ended n k e → Led rs m n) → go_on w m j more ≡ ended n k e → Led rs m n
@@ -68,7 +68,7 @@ pub led : (rs : List Rule) (limit k : ℕ) (m n : Module) (e : End) → rewritin
 unfolding rewriting_of
 led rs limit k m n e i = go (nat_le 1 limit && nat_le limit most_rewrites) i
   where
-    go : (b : Bool) → (if b then rewritten_from (by_rules rs) limit 0 m else stopped BadLimit) ≡ ended n k e → Led rs m n
+    go : (b : Bool) → (if b then rewritten_from (by_rules rs) limit 0 m else aborted BadLimit) ≡ ended n k e → Led rs m n
     go true i = led_from rs limit 0 k m n e i
     go false i = stopped_never BadLimit n k e i
 

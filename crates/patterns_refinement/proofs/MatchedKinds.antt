@@ -170,8 +170,8 @@ module _ (p : PatternModel) (m : Module) (x : ℕ) (proper : IsProper p) (ready 
   written_wide (s ∷ ss) e (suc j) term k at i = written_wide ss (and_parts (has_width s) (list_all has_width ss) e).1 j term k at i
   written_wide (sort.Concrete l ∷ ss) e zero term k at i =
       let same : type_of l ≡ term = same_Some _ _ (same_Some _ _ at) in
-      let kinds : l ≡ k = same_Some _ _ (sym (kind_back l) ∙ ap kind_of same ∙ i) in
-      subst (λ k. is_width (width_of k) ≡ true) kinds (and_parts (is_width (width_of l)) (list_all has_width ss) e).0
+      let value_kinds : l ≡ k = same_Some _ _ (sym (kind_back l) ∙ ap kind_of same ∙ i) in
+      subst (λ k. is_width (width_of k) ≡ true) value_kinds (and_parts (is_width (width_of l)) (list_all has_width ss) e).0
   written_wide (sort.Variable v ∷ ss) e zero term k at i = absurd (none-some term (same_Some _ _ at))
 
   of_value : (term : TypeTerm) (k : BitsKind) → (i : ℕ) × (v : Value) × Stands i v q.here × (type_of_value v m.tree ≡ Some term) → kind_of term ≡ Some k → is_width (width_of k) ≡ true

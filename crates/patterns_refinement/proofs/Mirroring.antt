@@ -221,9 +221,9 @@ module _ (accepted : AreAccepted) where
       pub own_kind : BitsKind
       pub is : result_kind (head q.here) ≡ Some own_kind
       pub width : is_width (width_of own_kind) ≡ true
-      pub between : BitsKind
-      pub first_is : kind_in m.tree w.first ≡ Some between
-      pub second_is : kind_in m.tree w.second ≡ Some between
+      pub intermediate : BitsKind
+      pub first_is : kind_in m.tree w.first ≡ Some intermediate
+      pub second_is : kind_in m.tree w.second ≡ Some intermediate
       pub truths : same_kind (kind.Int 1) own_kind ≡ true
       pub first : has_value w.first m.tree ≡ true
       pub second : has_value w.second m.tree ≡ true
@@ -239,7 +239,7 @@ module _ (accepted : AreAccepted) where
         let stand = operands_stand is_isolated m.tree ready.wellformed.distinct ready.wellformed.wellformed.visible in
         let values = subst (λ vs. list_all (λ v. has_value v m.tree) vs ≡ true) w.operands (each_found (λ h. list_all (λ v. has_value v m.tree) h.operands ≡ true) x m.tree stand q.here q.found).0 in
         let f = and_parts (has_value w.first m.tree) (has_value w.second m.tree && true) values in
-        record { own_kind = k.kind; is = k.is; width = k.width; between = p.0; first_is = p.1; second_is = p.2; truths = p.3; first = f.0; second = (and_parts (has_value w.second m.tree) true f.1).0 }
+        record { own_kind = k.kind; is = k.is; width = k.width; intermediate = p.0; first_is = p.1; second_is = p.2; truths = p.3; first = f.0; second = (and_parts (has_value w.second m.tree) true f.1).0 }
 
     module _ (k : MirrorKinds) where
       mirror_takes : Takes (kind_in m.tree) (record (head q.here) { operands = w.second ∷ w.first ∷ []; properties = put_entry key_before (codes "predicate") (IntegerOf i64 (swapped_predicate w.number)) (head q.here).properties })
@@ -247,7 +247,7 @@ module _ (accepted : AreAccepted) where
           let js = kind_in m.tree w.second ∷ kind_in m.tree w.first ∷ [] in
           ap (λ r. takes_its r (result_kind (head q.here)) last js) w.name ∙ ap (λ k. takes_its (Some how.Compare) k last js) k.is
           ∙ and_from (is_width (width_of k.own_kind)) (compares k.own_kind (kind_in m.tree w.second) (kind_in m.tree w.first)) k.width
-          ((λ i. compares k.own_kind (k.second_is i) (k.first_is i)) ∙ and_from (same_kind k.between k.between) (same_kind (kind.Int 1) k.own_kind) (same_itself k.between) k.truths)
+          ((λ i. compares k.own_kind (k.second_is i) (k.first_is i)) ∙ and_from (same_kind k.intermediate k.intermediate) (same_kind (kind.Int 1) k.own_kind) (same_itself k.intermediate) k.truths)
 
       mirror_rises : Rises (record (head q.here) { operands = w.second ∷ w.first ∷ []; properties = put_entry key_before (codes "predicate") (IntegerOf i64 (swapped_predicate w.number)) (head q.here).properties })
       mirror_rises =
@@ -259,11 +259,11 @@ module _ (accepted : AreAccepted) where
         site : Site m a done x q.here
         site = site_of m a done x q.here ready.wellformed ready.kinded computing q.found (root_has q ready.wellformed ready.kinded refl)
 
-        first_of : (y : Known) → a w.first ≡ Some y → y.0 ≡ k.between
-        first_of y e = kind_by m a done x q.here site w.first k.between y (ap (is_kind k.between) k.first_is ∙ same_itself k.between) e
+        first_of : (y : Known) → a w.first ≡ Some y → y.0 ≡ k.intermediate
+        first_of y e = kind_by m a done x q.here site w.first k.intermediate y (ap (is_kind k.intermediate) k.first_is ∙ same_itself k.intermediate) e
 
-        second_of : (y : Known) → a w.second ≡ Some y → y.0 ≡ k.between
-        second_of y e = kind_by m a done x q.here site w.second k.between y (ap (is_kind k.between) k.second_is ∙ same_itself k.between) e
+        second_of : (y : Known) → a w.second ≡ Some y → y.0 ≡ k.intermediate
+        second_of y e = kind_by m a done x q.here site w.second k.intermediate y (ap (is_kind k.intermediate) k.second_is ∙ same_itself k.intermediate) e
 
         -- the comparison's predicate, if it is executed
         asks_one : done x ≡ true → (p : Predicate) × (slice_get predicates w.number ≡ Some p)
@@ -291,13 +291,13 @@ module _ (accepted : AreAccepted) where
               is_made =
                   makes_is last (a w.second ∷ a w.first ∷ []) how.Compare k.own_kind w.name k.is
                   ∙ ap (λ o. given o (λ p. compare_outcome p (a w.second) (a w.first))) asks_so
-                  ∙ compare_is (law.mirrored p.0) k.between (a w.second) (a w.first) second_of first_of;
+                  ∙ compare_is (law.mirrored p.0) k.intermediate (a w.second) (a w.first) second_of first_of;
               better =
                   gives_refined m a done x q.here site how.Compare (compare_out (law.mirrored p.0) (a w.second) (a w.first)) w.name r d
                   (λ z i.
                   let g = given_some (requested (property_of (codes "predicate") (head q.here).properties)) (λ p. of_two (compare_outcome p) (map a (head q.here).operands)) z i in
                   let same : g.0 ≡ p.0 = same_Some _ _ (sym (requested_number (property_of (codes "predicate") (head q.here).properties) w.number g.0 w.requested_for g.1) ∙ p.1) in
-                  turned p.0 k.between (a w.first) (a w.second) z first_of second_of
+                  turned p.0 k.intermediate (a w.first) (a w.second) z first_of second_of
                   (subst (λ p. compare_outcome p (a w.first) (a w.second) ≡ Some z) same (subst (λ vs. of_two (compare_outcome g.0) (map a vs) ≡ Some z) w.operands g.2)));
             }
 

@@ -136,7 +136,7 @@ module _ (good : BitsKind → Bool) where
       let q = ruled accepted r m n x ready.wellformed ready.sorted e in
       let s = small_of m ready narrow in
       let root = (each_found SmallHead x m.tree s.results q.here q.found).0 in
-      narrow_of n (subst (λ (n : Module). AreSmall n.tree) q.module_is (all_small (head q.here) l root q.edits m ((fine m.tree m.next q.insertion q.here).plain q.edits q.made) s))
+      narrow_of n (subst (λ (n : Module). AreSmall n.tree) q.module_is (all_small (head q.here) l root q.edits m ((fine m.tree m.next q.insertion q.here).simple q.edits q.made) s))
 
 abbrev EachFine : List Rule → Type 0
 EachFine [] = Unit {0}
@@ -155,7 +155,7 @@ pub kept_fine : (r : Rule) → In r kept_rules → IsFine r
 kept_fine r i = one_fine kept_rules each_fine r i
 
 pub rules_keep_kinds : AreAccepted → (good : BitsKind → Bool) → good (kind.Int 1) ≡ true → (r : Rule) → In r kept_rules → (m n : Module) (x : ℕ) → IsReady m → HaveKinds good m → rewrite_of r m x ≡ becomes n → HaveKinds good n
-rules_keep_kinds accepted good l r i m n x ready kinds e = fine_narrow good accepted l r (kept_fine r i) m n x ready kinds e
+rules_keep_kinds accepted good l r i m n x ready value_kinds e = fine_narrow good accepted l r (kept_fine r i) m n x ready value_kinds e
 
 pub truth_narrow : (most : ℕ) → 1 ≤ most → is_narrow most (kind.Int 1) ≡ true
 truth_narrow most l = one most l

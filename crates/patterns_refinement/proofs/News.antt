@@ -150,7 +150,7 @@ module _ (ts : BoundValues TypeTerm) (value_types : AreOfKinds ts) (p : PatternM
   made_gives : (k : ℕ) (w : NewValue) (es : List BitsKind) (env : List Outcome) (b : BoundValues Value) (o : Operation) (x : Outcome) → length p.values ≤ k → new_is_valid p k w ≡ true → is_named w ≡ true
       → OfKinds es env → new_fits ks es w ≡ true
       → made_as b ts envp w ≡ Some o → ShowsNew k env b → HasNumbers env → step_of (new_step ks w) env ≡ Some x → makes (head o) (map c (head o).operands) ≡ Some x
-  made_gives k (new.Operation q) es env b o x low st named of fit e shows numbers s =
+  made_gives k (new.Operation q) es env b o x low st named of fits_in e shows numbers s =
       let g = given_some (values_at (operands_of q.form) b) (λ vs. given (binding_at q.ty ts) (λ term. Some (made (name_of q.form) vs term (entries_by (predicate_of q.form) (name_of q.form))))) o e in
       let l = given_some (binding_at q.ty ts) (λ term. Some (made (name_of q.form) g.0 term (entries_by (predicate_of q.form) (name_of q.form)))) o g.2 in
       let places = form_places p (is_new p k) q.form (and_parts (is_type p q.ty) (form_is_valid p (is_new p k) q.form) st).1 in
@@ -158,7 +158,7 @@ module _ (ts : BoundValues TypeTerm) (value_types : AreOfKinds ts) (p : PatternM
       subst (λ (o : Operation). makes (head o) (map c (head o).operands) ≡ Some x) (same_Some _ _ l.2)
       (form_makes c env (head m) (kind_at ks q.ty) q.form named refl (kind_there q.ty l.0 l.1) (made_asks q.form)
       (operands_show (is_new p k) c env b (new_shown k env b low shows) (operands_of q.form) g.0 places (values_stand (operands_of q.form) b g.0 g.1)) ∙ s)
-  made_gives k (new.Constant i t) es env b o x low st named of fit e shows numbers s =
+  made_gives k (new.Constant i t) es env b o x low st named of fits_in e shows numbers s =
       let g = given_some (given (slice_get envp i) (λ x. x)) (λ (x : Known). given (binding_at t ts) (λ term. Some (constant term x.1))) o e in
       let h = given_some (slice_get envp i) (λ x. x) g.0 g.1 in
       let at : slice_get envp i ≡ Some (Some g.0) = h.1 ∙ ap (λ z. Some z) h.2 in
@@ -166,7 +166,7 @@ module _ (ts : BoundValues TypeTerm) (value_types : AreOfKinds ts) (p : PatternM
       let number = (and_parts (is_type p t) (is_number p (old_begins p) i) st).1 in
       let there = numbers i g.0 number at in
       let is : Some g.0 ≡ x = same_Some _ _ (sym (again_gives env i g.0 there) ∙ s) in
-      let kind = kind_there t l.0 l.1 ∙ ap (λ k. Some k) (sym (of.are i g.0 there ∙ same_kinds (kind_at es i) (kind_at ks t) fit)) in
+      let kind = kind_there t l.0 l.1 ∙ ap (λ k. Some k) (sym (of.are i g.0 there ∙ same_kinds (kind_at es i) (kind_at ks t) fits_in)) in
       subst (λ (o : Operation). makes (head o) (map c (head o).operands) ≡ Some x) (same_Some _ _ l.2) (constant_makes l.0 g.0.0 g.0.1 kind ∙ ap (λ z. Some z) is)
 
   -- the result of a new value is of its type
@@ -202,7 +202,7 @@ module _ (ts : BoundValues TypeTerm) (value_types : AreOfKinds ts) (p : PatternM
   pub news_run : (end k n : ℕ) (ws : List NewValue) (es : List BitsKind) (env whole : List Outcome) (b d : BoundValues Value) (os : List Operation) → run (map (new_step ks) ws) env ≡ Some whole → all_made ts envp n k ws b ≡ Some (os, d)
       → length env ≡ k → k + length ws ≡ end → length p.values ≤ k → news_are_valid p end ws ≡ true → list_all is_named ws ≡ true → OfKinds es env → AllOfBits env → news_fit ks es ws ≡ true
       → Later c n k whole → ShowsNew k env b → HasNumbers env → FitsEach c n os × ShowsNew (k + length ws) whole d × TypedEach c n os
-  news_run end k n [] es env whole b d os ran all l sum low st named of bits fit later shows numbers =
+  news_run end k n [] es env whole b d os ran all l sum low st named of bits fits_in later shows numbers =
       let s : ([], b) ≡ (os, d) = same_Some _ _ all in
       let w : env ≡ whole = same_Some _ _ ran in (
         subst (λ os. FitsEach c n os) (ap (λ (r : List Operation × BoundValues Value). r.0) s) tt,
@@ -212,7 +212,7 @@ module _ (ts : BoundValues TypeTerm) (value_types : AreOfKinds ts) (p : PatternM
     where
       no_more : {j : ℕ} → j < k + 0 → j < k
       no_more m = omega (arith, m)
-  news_run end k n (w ∷ ws) es env whole b d os ran all l sum low st named of bits fit later shows numbers =
+  news_run end k n (w ∷ ws) es env whole b d os ran all l sum low st named of bits fits_in later shows numbers =
       let x = given_some (step_of (new_step ks w) env) (λ x. run (map (new_step ks) ws) (env ++ (x ∷ []))) whole ran in
       let g = given_some (made_as b ts envp w) (λ o. given (bound same_value k (Result n 0) b) (λ c. option_map (λ (r : List Operation × BoundValues Value). (o ∷ r.0, r.1)) (all_made ts envp (n + 1) (k + 1) ws c))) (os, d) all in
       let h = given_some (bound same_value k (Result n 0) b) (λ c. option_map (λ (r : List Operation × BoundValues Value). (g.0 ∷ r.0, r.1)) (all_made ts envp (n + 1) (k + 1) ws c)) (os, d) g.2 in
@@ -223,7 +223,7 @@ module _ (ts : BoundValues TypeTerm) (value_types : AreOfKinds ts) (p : PatternM
       let grown = run_grows (map (new_step ks) ws) (env ++ (x.0 ∷ [])) whole x.2 in
       let there : slice_get whole k ≡ Some x.0 = grown.stays k x.0 (ap (slice_get (env ++ (x.0 ∷ []))) (sym l) ∙ push_last env x.0) in
       let is : c (Result n 0) ≡ x.0 = later k n x.0 there (omega arith) (omega arith) in
-      let typed = and_parts (new_fits ks es w) (news_fit ks (es ++ (kind_at ks (new_type w) ∷ [])) ws) fit in
+      let typed = and_parts (new_fits ks es w) (news_fit ks (es ++ (kind_at ks (new_type w) ∷ [])) ws) fits_in in
       let gives = made_gives k w es env b g.0 x.0 low (subst (λ z. new_is_valid p z w ≡ true) at parts.0) names.0 of typed.0 g.1 shows numbers x.1 in
       let its_kind = new_kind es env of ks w x.0 typed.0 x.1 in
       let its_bits = step_bits env bits (new_step ks w) x.0 x.1 in

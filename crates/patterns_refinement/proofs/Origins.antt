@@ -190,11 +190,11 @@ kept_chooses {n} {t} {u} {a} {now} {later} h k s o are c i y e =
 
 -- ---- origins in a tree after an edit
 pub origins_are : (n : ℕ) (a now : Assignment) (o : Origins) (done : ℕ → Bool) (t u : Operation) → AreOrigins n a o done t → ((v : Value) → owner v < n → is_computed t v ≡ false → is_computed u v ≡ false) → Each (Chooses now o done u) u → AreOrigins n now o done u
-origins_are n a now o done t u are plain each = record {
+origins_are n a now o done t u are simple each = record {
   chosen = each;
   computed = λ v e. elim (leb_tells n (owner v)) [
     | inl l ↦ are.unused v l.1
-    | inr l ↦ elim (bool_cases (is_computed t v)) [ inl c ↦ are.computed v c | inr c ↦ absurd (true≢false (sym e ∙ plain v l.1 c)) ]
+    | inr l ↦ elim (bool_cases (is_computed t v)) [ inl c ↦ are.computed v c | inr c ↦ absurd (true≢false (sym e ∙ simple v l.1 c)) ]
   ];
   unused = are.unused;
 }
@@ -243,14 +243,14 @@ replaces_computed n x v t u a later root = record {
   origin = λ o are. subst (λ p. IsStill p (o v)) (sym (are.computed (Result x 0) root)) tt;
 }
 
-module _ (n x : ℕ) (v : Value) (t u : Operation) (a now : Assignment) (later : ℕ → Bool) (kinds : KeepsKinds n t u) (replaces : Replaces n x v t u a later) where
+module _ (n x : ℕ) (v : Value) (t u : Operation) (a now : Assignment) (later : ℕ → Bool) (value_kinds : KeepsKinds n t u) (replaces : Replaces n x v t u a later) where
   put_first : (ws : List Value) → ((w : Value) → In w ws → owner w < n) → has_condition (map (kind_in u) (map (put_value (Result x 0) v) ws)) ≡ true → has_condition (map (kind_in t) ws) ≡ true
   put_first [] f e = e
   put_first (w ∷ ws) f e = go (same_value (Result x 0) w) refl e
     where
       go : (b : Bool) → same_value (Result x 0) w ≡ b → is_some (kind_in u (if b then v else w)) ≡ true → is_some (kind_in t w) ≡ true
       go true i e = subst (λ w. is_some (kind_in t w) ≡ true) (same_value_true (Result x 0) w i) (replaces.kind e)
-      go false i e = still_has_kind n t u kinds w (f w (inl refl)) e
+      go false i e = still_has_kind n t u value_kinds w (f w (inl refl)) e
 
   pub kept_put : (h : Header) → ((w : Value) → In w h.operands → owner w < n) → (later h.id ≡ true → AllBetter (map a h.operands) (map now (map (put_value (Result x 0) v) h.operands))) → IsKept n t u a now later h (put_values (Result x 0) v h)
   kept_put h f better = record {
@@ -277,8 +277,8 @@ module _ (n x : ℕ) (v : Value) (t : Operation) (insertion : Place) (made : Lis
   pub rewritten_origins : AllPut (λ h. is_arithmetic h ≡ true) n made → Each (λ h. IsKept n t (rewritten insertion n made x v t) a now later h (put_values (Result x 0) v h)) t
       → ((w : Value) → owner w < n → is_computed t w ≡ false → is_computed (rewritten insertion n made x v t) w ≡ false)
       → (o : Origins) → AreOrigins n a o later t → AreOrigins n now o later (rewritten insertion n made x v t)
-  rewritten_origins numbers kept plain o are =
-      origins_are n a now o later t u are plain
+  rewritten_origins numbers kept simple o are =
+      origins_are n a now o later t u are simple
       (each_without (Chooses now o later u) x (with_value_replaced (Result x 0) v (with_made insertion n made t))
       (each_changed (ChoosesNow o) (Chooses now o later u) (put_values (Result x 0) v) (λ h p. p) (with_made insertion n made t)
       (all_put (ChoosesNow o) insertion n made t (new_chooses o n made numbers) bare

@@ -49,7 +49,7 @@ use Rattle.patterns_refinement.proofs.Numbers.{Alike, given_speak, number_fixed,
 use Rattle.patterns_refinement.proofs.OfBits.{AllOfBits, IsOfBits, run_bits}
 use Rattle.patterns_refinement.proofs.OfKinds.{IsKind, OfKinds, extras_run, numbers_run}
 use Rattle.patterns_refinement.proofs.OldOutcomes.{OldsRefine, Raised, ShownAt, ShowsBetter, olds_refine}
-use Rattle.patterns_refinement.proofs.PassingKept.{constant_is, fed, its_made, its_unflagged, making_improves, making_still, passing_ready, plain, root_within, site_of, there_all, value_there}
+use Rattle.patterns_refinement.proofs.PassingKept.{constant_is, fed, its_made, its_unflagged, making_improves, making_still, passing_ready, simple, root_within, site_of, there_all, value_there}
 use Rattle.patterns_refinement.proofs.PassingMade.{old_below, news_typed}
 use Rattle.patterns_refinement.proofs.PassingMatched.{Here, defining_op_kinded, defining_op_kinds}
 use Rattle.patterns_refinement.proofs.Settling.{typed_bits}
@@ -323,7 +323,7 @@ module _ (m : Module) (p : PatternModel) (x : ℕ) (proper : IsProper p) (ready 
           agrees = agrees;
           bare = all_bare _ os _ made;
           typed = n.2;
-          ready = new_ready c (done_after m.next x done) m.next os n.0 (plain m p x proper ready os value plan q kinded none) (its_unflagged m p x proper ready os value plan q kinded);
+          ready = new_ready c (done_after m.next x done) m.next os n.0 (simple m p x proper ready os value plan q kinded none) (its_unflagged m p x proper ready os value plan q kinded);
           fed = fed m p x proper ready os value plan q kinded a done computing;
           numbers = all_numbers _ m.next os _ made;
           better = λ i. ap (λ o. refines o (c value)) (agrees (Result x 0) (root_within m p x proper ready os value plan q kinded)) ∙ better;

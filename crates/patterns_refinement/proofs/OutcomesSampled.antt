@@ -25,14 +25,14 @@ module _ (k : BitsKind) where
   same_kept (Some x) o h = subst (λ (j : BitsKind). keeps_outcomes (content_with (kind.Int 1 ∷ k ∷ []) same_choice) (Some (j, x.1) ∷ o ∷ []) ≡ true) (sym h.0) (known_choice x.1 o)
 
 same_holds : HoldsAtAllWidths same_choice
-same_holds [] wide kinds os are = absurd kinds
-same_holds (j ∷ []) wide kinds os are = absurd kinds.1
-same_holds (j ∷ k ∷ l ∷ ks) wide kinds os are = absurd kinds.1
-same_holds (j ∷ k ∷ []) wide kinds [] are = absurd are
-same_holds (j ∷ k ∷ []) wide kinds (c ∷ []) are = absurd are.2
-same_holds (j ∷ k ∷ []) wide kinds (c ∷ o ∷ u ∷ os) are = absurd are.2.2
-same_holds (j ∷ k ∷ []) wide kinds (c ∷ o ∷ []) are =
-    subst (λ j. keeps_outcomes (content_with (j ∷ k ∷ []) same_choice) (c ∷ o ∷ []) ≡ true) (sym kinds.0) (same_kept k c o (subst (λ j. IsOutcome j c) kinds.0 are.0))
+same_holds [] wide value_kinds os are = absurd value_kinds
+same_holds (j ∷ []) wide value_kinds os are = absurd value_kinds.1
+same_holds (j ∷ k ∷ l ∷ ks) wide value_kinds os are = absurd value_kinds.1
+same_holds (j ∷ k ∷ []) wide value_kinds [] are = absurd are
+same_holds (j ∷ k ∷ []) wide value_kinds (c ∷ []) are = absurd are.2
+same_holds (j ∷ k ∷ []) wide value_kinds (c ∷ o ∷ u ∷ os) are = absurd are.2.2
+same_holds (j ∷ k ∷ []) wide value_kinds (c ∷ o ∷ []) are =
+    subst (λ j. keeps_outcomes (content_with (j ∷ k ∷ []) same_choice) (c ∷ o ∷ []) ≡ true) (sym value_kinds.0) (same_kept k c o (subst (λ j. IsOutcome j c) value_kinds.0 are.0))
 
 pub sample_holds : SampleHolds
 sample_holds = (record { wellformed = refl; buildable = refl; form = refl; holds = same_holds }, refl)

@@ -132,8 +132,8 @@ module _ (m : Module) (p : PatternModel) (x : ℕ) (proper : IsProper p) (ready 
   pub its_unflagged : AreUnflagged os
   its_unflagged = all_unflagged q.types q.parts.env m.next (new_place p) p.new q.here q.parts.last os q.parts.made
 
-  pub plain : list_all makes_no_quotient p.new ≡ true → AreNoQuotients os
-  plain none = no_quotients q.types q.parts.env m.next (new_place p) p.new q.here q.parts.last os (made_parts p proper.buildable).named none q.parts.made
+  pub simple : list_all makes_no_quotient p.new ≡ true → AreNoQuotients os
+  simple none = no_quotients q.types q.parts.env m.next (new_place p) p.new q.here q.parts.last os (made_parts p proper.buildable).named none q.parts.made
 
   -- ---- bound values are computed, if the root is executed
   module _ (a : Assignment) (done : ℕ → Bool) (computing : Computing a done m.tree) where
@@ -359,7 +359,7 @@ module _ (m : Module) (p : PatternModel) (x : ℕ) (proper : IsProper p) (ready 
           agrees = extended_agrees a m.next (new_place p) r.0;
           bare = all_bare all_kinds os its_kinds its_made;
           typed = n.2;
-          ready = new_ready c later m.next os n.0 (plain (none_divided p.new defined)) its_unflagged;
+          ready = new_ready c later m.next os n.0 (simple (none_divided p.new defined)) its_unflagged;
           fed = fed;
           numbers = all_numbers all_kinds m.next os its_kinds its_made;
           better = λ i. ap (λ o. refines o (c value)) (extended_agrees a m.next (new_place p) r.0 (Result x 0) root_within ∙ none);
@@ -422,7 +422,7 @@ module _ (m : Module) (p : PatternModel) (x : ℕ) (proper : IsProper p) (ready 
             agrees = g.agrees;
             bare = all_bare all_kinds os its_kinds its_made;
             typed = g.typed;
-            ready = new_ready g.after later m.next os g.fits (plain (none_divided p.new defined)) its_unflagged;
+            ready = new_ready g.after later m.next os g.fits (simple (none_divided p.new defined)) its_unflagged;
             fed = fed;
             numbers = all_numbers all_kinds m.next os its_kinds its_made;
             better = λ i. subst (λ o. refines o (g.after value) ≡ true) (sym (g.agrees (Result x 0) root_within)) g.refined;

@@ -55,7 +55,7 @@ wellformed = record {
 }
 
 kinded : AreKinded doubled.tree
-unfolding folds.fold_of folds.rule_of folds.rules words.operations words.is_inherent words.is_listed properties.is_allowed properties.is_of_kind properties.kind_of properties.kinds registry.row_of rows.rows
+unfolding folds.fold_of folds.rule_of folds.rules words.operations words.is_inherent words.is_listed properties.is_allowed properties.is_of_kind properties.kind_of properties.property_kinds registry.row_of rows.rows
 kinded = (refl, (((refl, tt), ((refl, tt), ((refl, tt), tt))), tt))
 
 ready : IsReady doubled
@@ -67,7 +67,7 @@ one_type x h zero ty e = subst (λ ty. IsOfType ty (lost (Result x 0))) (same_So
 one_type x h (suc k) ty e = absurd (none-some ty e)
 
 computes : Computing lost all_done doubled.tree
-unfolding folds.fold_of folds.rule_of folds.rules words.operations words.is_inherent words.is_listed properties.is_allowed properties.is_of_kind properties.kind_of properties.kinds registry.row_of rows.rows
+unfolding folds.fold_of folds.rule_of folds.rules words.operations words.is_inherent words.is_listed properties.is_allowed properties.is_of_kind properties.kind_of properties.property_kinds registry.row_of rows.rows
 computes = record {
   fits = ((λ d e. absurd (true≢false (sym e))), ((((λ d e. absurd (true≢false (sym e))), tt), (((λ d e. inl (refl, refl)), tt), (((λ d e. inl (refl, refl)), tt), tt))), tt));
   typed = (
@@ -86,7 +86,7 @@ abbrev types : BoundValues TypeTerm
 types = Some i2 ∷ []
 
 found : FoundAt times_power doubled 3
-unfolding looks.is_verified folds.fold_of folds.rule_of folds.rules words.operations words.is_inherent words.is_listed words.is_table words.is_isolated properties.is_allowed properties.is_of_kind properties.kind_of properties.kinds registry.row_of rows.rows
+unfolding looks.is_verified folds.fold_of folds.rule_of folds.rules words.operations words.is_inherent words.is_listed words.is_table words.is_isolated properties.is_allowed properties.is_of_kind properties.kind_of properties.property_kinds registry.row_of rows.rows
 found = record { here = here; is_matched = refl; types = types; are_types = refl }
 
 keeps_at : KeepsAt times_power doubled 3
@@ -95,7 +95,7 @@ keeps_at at =
     subst (λ ks. (is_kinded_at ks times_power ≡ true) × AlwaysKeeps (content_with ks times_power)) (sym (one_way times_power doubled 3 at found)) (refl, keeps_all)
 
 pub sample_is_doubled : SampleIsDoubled
-unfolding planned log_of first_below user_pattern_edits user_pattern_rewrite looks.is_verified folds.fold_of folds.rule_of folds.rules words.operations words.is_inherent words.is_listed words.is_table words.is_isolated properties.is_allowed properties.is_of_kind properties.kind_of properties.kinds named.flagged registry.row_of rows.rows
+unfolding planned log_of first_below user_pattern_edits user_pattern_rewrite looks.is_verified folds.fold_of folds.rule_of folds.rules words.operations words.is_inherent words.is_listed words.is_table words.is_isolated properties.is_allowed properties.is_of_kind properties.kind_of properties.property_kinds named.flagged registry.row_of rows.rows
 sample_is_doubled = (ready, computes, refl, keeps_at)
 
 -- ---- the module is narrow

@@ -128,9 +128,9 @@ module _ (r : Rule) (m n : Module) (x : ℕ) (a : Assignment) (done : ℕ → Bo
   picked_replaces =
       let below = is_below m.next m.tree wellformed.below in
       let u = rewritten q.insertion m.next [] x k.value m.tree in
-      let kinds = rewritten_kinds m.next m.tree x k.value q.insertion [] tt (kinds_themselves m.next m.tree wellformed.distinct below) in
+      let value_kinds = rewritten_kinds m.next m.tree x k.value q.insertion [] tt (kinds_themselves m.next m.tree wellformed.distinct below) in
       record {
-        kind = λ e. ap (λ o. is_some (given o kind_of)) same ∙ still_has_kind m.next m.tree u kinds k.value (value_below m.next m.tree below k.value k.within) e;
+        kind = λ e. ap (λ o. is_some (given o kind_of)) same ∙ still_has_kind m.next m.tree u value_kinds k.value (value_below m.next m.tree below k.value k.within) e;
         origin = picked_origin;
       }
 

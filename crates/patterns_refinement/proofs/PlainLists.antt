@@ -89,24 +89,24 @@ module _ (accepted : UserPatternsAreAccepted) (p : PatternModel) (proper : IsPro
   its_match = record { here = its_site.here.here; is_matched = its_site.here.is_matched; types = its_site.here.types; are_types = its_site.here.are_types }
 
   own_plain : is_kinded_at (map bound_type its_site.here.types) p ≡ true → IsPlain m → IsPlain n
-  own_plain kinded plain =
+  own_plain kinded simple =
       let made = its_made m p x proper ready its_site.applied.made its_site.applied.value its_site.applied.plan its_site.here kinded in
       subst IsPlain its_site.applied.module_is
-      (made_plain its_site.applied.insertion its_site.applied.made x its_site.applied.value m (all_named_plain _ its_site.applied.made _ made) (all_bare _ its_site.applied.made _ made) plain)
+      (made_plain its_site.applied.insertion its_site.applied.made x its_site.applied.value m (all_named_plain _ its_site.applied.made _ made) (all_bare _ its_site.applied.made _ made) simple)
 
 -- ---- rules and patterns, and runs of them
 module _ (rewrites : AreAccepted) (accepted : UserPatternsAreAccepted) (kept : KeptAreKept) (polynomials : PolynomialsKeep) (only : OnlyListed) where
   proved_plain : (p : PatternModel) → HoldsByForm p ⊎ HoldsForOutcomes p → (m n : Module) (x : ℕ) → IsReady m → IsInRange m → user_pattern_rewrite p m x ≡ becomes n → IsPlain m → IsPlain n
-  proved_plain p (inl h) m n x ready range e plain =
+  proved_plain p (inl h) m n x ready range e simple =
       let u = refining_uniform polynomials p h.for_all_widths h.proper h.refines in
-      own_plain accepted p h.proper m n x ready e (uniform_at accepted p u h.proper m n x ready e (its_match accepted p h.proper m n x ready e)).0 plain
-  proved_plain p (inr h) m n x ready range e plain =
+      own_plain accepted p h.proper m n x ready e (uniform_at accepted p u h.proper m n x ready e (its_match accepted p h.proper m n x ready e)).0 simple
+  proved_plain p (inr h) m n x ready range e simple =
       let f = sound_parts p h.form in
       let proper : IsProper p = record { wellformed = h.wellformed; buildable = h.buildable; named = f.named } in
       let s = site_of accepted p proper m n x ready e in
       let r = s.applied in
       let widths = widths_there p m x proper ready range r.made r.value r.plan s.here f.widths in
-      own_plain accepted p proper m n x ready e (kinded_there p m x proper ready range r.made r.value r.plan s.here widths f.uses f.kinded) plain
+      own_plain accepted p proper m n x ready e (kinded_there p m x proper ready range r.made r.value r.plan s.here widths f.uses f.kinded) simple
 
   step : (t : RuleOrPatternModel) → IsProvedOrCanonical t → (m n : Module) (x : ℕ) → IsPlain m × IsInRange m → IsReady m → rewrite_by_entry t m x ≡ becomes n → (IsPlain n × IsInRange n) × KeptAt m n x
   step (OfRule r) (inl i) m n x s ready e =
@@ -121,7 +121,7 @@ module _ (rewrites : AreAccepted) (accepted : UserPatternsAreAccepted) (kept : K
       ((proved_plain p h m n x ready s.1 own s.0, k.0), k.1)
 
   pub canon_lists_refine : CanonListsRefine
-  canon_lists_refine ts are limit m n k e ready plain range i =
+  canon_lists_refine ts are limit m n k e ready simple range i =
       let l = led ts limit k m n e i in
-      let r = runs_under (λ m. IsPlain m × IsInRange m) ts (λ t j m n x s ready e. step t (are t j) m n x s ready e) l.0 m n (plain, range) ready l.1 in
+      let r = runs_under (λ m. IsPlain m × IsInRange m) ts (λ t j m n x s ready e. step t (are t j) m n x s ready e) l.0 m n (simple, range) ready l.1 in
       (r.1.0, r.0.0, r.0.1, kept_is_refined m n ready r.1)

@@ -59,26 +59,26 @@ abbrev pub AllPlain : Header → List Edit → Type 0
 AllPlain h [] = Unit {0}
 AllPlain h (e ∷ es) = MakesPlain h e × AllPlain h es
 
-abbrev Plain : Header → Type 0
-Plain h = is_plain h.name ≡ true
+abbrev Simple : Header → Type 0
+Simple h = is_plain h.name ≡ true
 
-changed_at : (x : ℕ) (f : Header → Header) → ((h : Header) → Plain h → Plain (f h)) → (h : Header) → Plain h → Plain (at x f h)
+changed_at : (x : ℕ) (f : Header → Header) → ((h : Header) → Simple h → Simple (f h)) → (h : Header) → Simple h → Simple (at x f h)
 changed_at x f keeps h p = go (eqb h.id x)
   where
-    go : (b : Bool) → Plain (if b then f h else h)
+    go : (b : Bool) → Simple (if b then f h else h)
     go true = keeps h p
     go false = p
 
-changed_part : (part : Part) (f : List (List ℕ × AttrTerm) → List (List ℕ × AttrTerm)) (h : Header) → Plain h → Plain (change_part part f h)
+changed_part : (part : Part) (f : List (List ℕ × AttrTerm) → List (List ℕ × AttrTerm)) (h : Header) → Simple h → Simple (change_part part f h)
 changed_part Props f h p = p
 changed_part Attrs f h p = p
 
 one_plain : (h : Header) (e : Edit) (m : Module) → MakesPlain h e → IsPlain m → IsPlain (edited e m)
-one_plain h (Make place o) m p s = all_put Plain place m.next (o ∷ []) m.tree (p.0, tt) (p.1, tt) s
-one_plain h (Erase x) m p s = each_without Plain x m.tree s
-one_plain h (SetOperand x k v) m p s = each_changed Plain Plain (at x (put_operand k v)) (changed_at x (put_operand k v) (λ h q. q)) m.tree s
-one_plain h (Replace old new) m p s = each_changed Plain Plain (put_values old new) (λ h q. q) m.tree s
-one_plain h (SetAttr x k a) m p s = each_changed Plain Plain _ (changed_at x _ (changed_part _ _)) m.tree s
+one_plain h (Make place o) m p s = all_put Simple place m.next (o ∷ []) m.tree (p.0, tt) (p.1, tt) s
+one_plain h (Erase x) m p s = each_without Simple x m.tree s
+one_plain h (SetOperand x k v) m p s = each_changed Simple Simple (at x (put_operand k v)) (changed_at x (put_operand k v) (λ h q. q)) m.tree s
+one_plain h (Replace old new) m p s = each_changed Simple Simple (put_values old new) (λ h q. q) m.tree s
+one_plain h (SetAttr x k a) m p s = each_changed Simple Simple _ (changed_at x _ (changed_part _ _)) m.tree s
 one_plain h (Insert place o) m p s = absurd p
 one_plain h (Move x place) m p s = absurd p
 one_plain h (DropAttr x k) m p s = absurd p
@@ -89,13 +89,13 @@ all_plain h (e ∷ es) m p s = all_plain h es (edited e m) p.1 (one_plain h e m 
 
 -- ---- the results of a rule
 pub record Fine (h : Header) (r : Option (List Edit)) : Type 0 where
-  pub plain : (es : List Edit) → r ≡ Some es → AllPlain h es
+  pub simple : (es : List Edit) → r ≡ Some es → AllPlain h es
 
 fine_none : {h : Header} → Fine h None
-fine_none = record { plain = λ es e. absurd (none-some es e) }
+fine_none = record { simple = λ es e. absurd (none-some es e) }
 
 fine_some : {h : Header} (es : List Edit) → AllPlain h es → Fine h (Some es)
-fine_some {h} es p = record { plain = λ fs e. subst (AllPlain h) (same_Some _ _ e) p }
+fine_some {h} es p = record { simple = λ fs e. subst (AllPlain h) (same_Some _ _ e) p }
 
 fine_when : {h : Header} (b : Bool) (r : Option (List Edit)) → (b ≡ true → Fine h r) → Fine h (when b r)
 fine_when true r f = f refl

@@ -68,19 +68,19 @@ wellformed = record {
 }
 
 in_range : Each (λ h. is_in_range h ≡ true) before.tree
-unfolding folds.fold_of folds.rule_of folds.rules words.operations words.is_inherent words.is_listed properties.is_allowed properties.is_of_kind properties.kind_of properties.kinds registry.row_of rows.rows
+unfolding folds.fold_of folds.rule_of folds.rules words.operations words.is_inherent words.is_listed properties.is_allowed properties.is_of_kind properties.kind_of properties.property_kinds registry.row_of rows.rows
 in_range = (refl, (((refl, (tt, tt)), ((refl, (((refl, tt), ((refl, tt), ((refl, tt), ((refl, tt), ((refl, tt), tt))))), tt)), tt)), tt))
 
 within : Each (λ h. is_within before.tree h ≡ true) before.tree
 unfolding folds.rule_of folds.rules registry.row_of rows.rows
 within = (refl, (((refl, (tt, tt)), ((refl, (((refl, tt), ((refl, tt), ((refl, tt), ((refl, tt), ((refl, tt), tt))))), tt)), tt)), tt))
 
-silent : diagnostics_of before.tree ≡ []
-unfolding words.operations words.is_inherent words.is_listed words.is_isolated words.is_table properties.is_allowed properties.is_of_kind properties.kind_of properties.kinds registry.row_of rows.rows
-silent = refl
+reports_nothing : diagnostics_of before.tree ≡ []
+unfolding words.operations words.is_inherent words.is_listed words.is_isolated words.is_table properties.is_allowed properties.is_of_kind properties.kind_of properties.property_kinds registry.row_of rows.rows
+reports_nothing = refl
 
 verified : IsVerified before
-verified = record { wellformed = wellformed; sorted = refl; in_range = in_range; within = within; silent = silent }
+verified = record { wellformed = wellformed; sorted = refl; in_range = in_range; within = within; reports_nothing = reports_nothing }
 
 -- ---- the module computes
 no_result : (x k : ℕ) (ty : TypeTerm) → slice_get [] k ≡ Some ty → IsOfType ty (five (Result x k))
@@ -96,7 +96,7 @@ arguments_typed (suc zero) ty e = tt
 arguments_typed (suc (suc k)) ty e = absurd (none-some ty e)
 
 computes : Computing five all_done before.tree
-unfolding folds.fold_of folds.rule_of folds.rules words.operations words.is_inherent words.is_listed properties.is_allowed properties.is_of_kind properties.kind_of properties.kinds registry.row_of rows.rows sum_of
+unfolding folds.fold_of folds.rule_of folds.rules words.operations words.is_inherent words.is_listed properties.is_allowed properties.is_of_kind properties.kind_of properties.property_kinds registry.row_of rows.rows sum_of
 computes = record {
   fits = (
     (λ d e. absurd (true≢false (sym e))),
@@ -143,11 +143,11 @@ origins = record {
 
 -- ---- the rule applies
 applies : rewrite_of DropZero before 4 ≡ becomes after
-unfolding rewrites.rewrite_of rewrites.edits_of rewrites.eligible rule_table.rule rule_table.rules_for rule_table.table looks.is_verified looks.known lists.with_zero_as_right_identity folds.fold_of folds.rule_of folds.rules words.operations words.is_inherent words.is_listed words.is_table words.is_isolated properties.is_allowed properties.is_of_kind properties.kind_of properties.kinds registry.row_of rows.rows
+unfolding rewrites.rewrite_of rewrites.edits_of rewrites.eligible rule_table.rule rule_table.rules_for rule_table.table looks.is_verified looks.known lists.with_zero_as_right_identity folds.fold_of folds.rule_of folds.rules words.operations words.is_inherent words.is_listed words.is_table words.is_isolated properties.is_allowed properties.is_of_kind properties.kind_of properties.property_kinds registry.row_of rows.rows
 applies = refl
 
 canonicalizes : canonicalization_of 10 before ≡ ended canonical 2 converged
-unfolding canons.canonicalization_of canons.canonical_from canons.most_rewrites canons.first_rule canons.first_among rewrites.rewrite_of rewrites.edits_of rewrites.eligible rule_table.rule rule_table.rules_for rule_table.table rule_names.all_rules looks.is_verified looks.is_in_order looks.is_erasable looks.known lists.commutative lists.with_zero_as_right_identity lists.with_one_as_right_identity lists.self_inverse lists.idempotent lists.remainders lists.associative lists.extensions lists.index_casts lists.arithmetic lists.index_users lists.flagged lists.predicate_of_min_max lists.division_of_remainder casting.resizing folds.fold_of folds.rule_of folds.rules words.operations words.is_inherent words.is_listed words.is_table words.is_isolated properties.is_allowed properties.is_of_kind properties.kind_of properties.kinds registry.row_of rows.rows sum_of absorbs
+unfolding canons.canonicalization_of canons.canonical_from canons.most_rewrites canons.first_rule canons.first_among rewrites.rewrite_of rewrites.edits_of rewrites.eligible rule_table.rule rule_table.rules_for rule_table.table rule_names.all_rules looks.is_verified looks.is_in_order looks.is_erasable looks.known lists.commutative lists.with_zero_as_right_identity lists.with_one_as_right_identity lists.self_inverse lists.idempotent lists.remainders lists.associative lists.extensions lists.index_casts lists.arithmetic lists.index_users lists.flagged lists.predicate_of_min_max lists.division_of_remainder casting.resizing folds.fold_of folds.rule_of folds.rules words.operations words.is_inherent words.is_listed words.is_table words.is_isolated properties.is_allowed properties.is_of_kind properties.kind_of properties.property_kinds registry.row_of rows.rows sum_of absorbs
 canonicalizes = refl
 
 -- ---- observations
@@ -163,16 +163,16 @@ observed_canonical : observed five (arguments_of 2) all_done canonical.tree ≡ 
 unfolding folds.rule_of folds.rules registry.row_of rows.rows
 observed_canonical = refl
 
-plain : IsPlain before
+simple : IsPlain before
 unfolding rule_table.rules_for rule_table.table
-plain = (refl, (((refl, (tt, tt)), ((refl, (((refl, tt), ((refl, tt), ((refl, tt), ((refl, tt), ((refl, tt), tt))))), tt)), tt)), tt))
+simple = (refl, (((refl, (tt, tt)), ((refl, (((refl, tt), ((refl, tt), ((refl, tt), ((refl, tt), ((refl, tt), tt))))), tt)), tt)), tt))
 
 refined : ObservationsRefine (observed five (arguments_of 2) all_done before.tree) (observed five (arguments_of 2) all_done after.tree)
 unfolding folds.rule_of folds.rules registry.row_of rows.rows
 refined = (refl, tt, (refl, tt, (refl, (tt, refl, (refl, refl, tt)), (refl, (tt, refl, tt), (refl, (tt, refl, tt), tt)))))
 
 pub sample_is_refined : SampleIsRefined
-sample_is_refined = record { verified = verified; computing = computes; origins = origins; applies = applies; plain = plain; canonicalizes = canonicalizes; observed_canonical = observed_canonical; observed_before = observed_before; observed_after = observed_after; refined = refined }
+sample_is_refined = record { verified = verified; computing = computes; origins = origins; applies = applies; simple = simple; canonicalizes = canonicalizes; observed_canonical = observed_canonical; observed_before = observed_before; observed_after = observed_after; refined = refined }
 
 -- ---- modules that are no refinements
 abbrev AllDone : (ℕ → Bool) → List Header → Type 0

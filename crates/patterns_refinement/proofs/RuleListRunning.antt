@@ -7,7 +7,7 @@ use Rattle.ir_tree_laws.specs.Members.{In}
 use Rattle.ir_event.specs.Modules.{Module}
 use Rattle.patterns_base.specs.declared.rule.Rule.{Rule}
 use Rattle.patterns_base.specs.Rewrites.{Rewrite, becomes, none, refused}
-use Rattle.patterns_base.specs.Canonicalization.{Canonical, End, converged, end_of, ended, go_on, most_rewrites, stopped}
+use Rattle.patterns_base.specs.Canonicalization.{Canonical, End, converged, end_of, ended, go_on, most_rewrites, aborted}
 use Rattle.greedy.specs.Rewriting.{first_by, next_by, rewriting_of, rewritten_from}
 use Rattle.greedy.specs.PatternSet.{RuleOrPatternModel, OfUserPattern, OfRule, rewrite_by_entry, pattern_set_from, first_applicable_rewrite}
 use Rattle.patterns_refinement.specs.Keeping.{IsReady}
@@ -67,7 +67,7 @@ pub led : (ts : List RuleOrPatternModel) (limit k : ℕ) (m n : Module) (e : End
 unfolding rewriting_of
 led ts limit k m n e i = go (nat_le 1 limit && nat_le limit most_rewrites) i
   where
-    go : (b : Bool) → (if b then rewritten_from (pattern_set_from ts) limit 0 m else stopped BadLimit) ≡ ended n k e → Led ts m n
+    go : (b : Bool) → (if b then rewritten_from (pattern_set_from ts) limit 0 m else aborted BadLimit) ≡ ended n k e → Led ts m n
     go true i = led_from ts limit 0 k m n e i
     go false i = stopped_never BadLimit n k e i
 

@@ -19,4 +19,4 @@ pub rewrite_refines : ShownAreKept → RewriteRefines
 rewrite_refines shown ts are limit m n k e ready i = kept_is_refined m n ready (rule_list_rewriting_keeps ts (shown ts are) limit m n k e ready i)
 
 pub canon_refines : CanonicalizationKeeps → CanonRefines
-canon_refines keeps limit m n k e ready plain i = let w = keeps limit m n k e ready plain i in kept_is_refined m n ready (w.0, w.2, w.3)
+canon_refines keeps limit m n k e ready simple i = let w = keeps limit m n k e ready simple i in kept_is_refined m n ready (w.0, w.2, w.3)

@@ -63,7 +63,7 @@ one_type x n h zero ty e = subst (λ ty. IsOfType ty (outcomes (Result x 0))) (s
 one_type x n h (suc k) ty e = absurd (none-some ty e)
 
 computes : Computes outcomes all_done 4 tree
-unfolding product_of folds.fold_of folds.rule_of folds.rules words.operations words.is_inherent words.is_listed properties.is_allowed properties.is_of_kind properties.kind_of properties.kinds registry.row_of rows.rows
+unfolding product_of folds.fold_of folds.rule_of folds.rules words.operations words.is_inherent words.is_listed properties.is_allowed properties.is_of_kind properties.kind_of properties.property_kinds registry.row_of rows.rows
 computes = record {
   below = (omega arith, (((omega arith, tt), ((omega arith, tt), ((omega arith, tt), tt))), tt));
   fits = ((λ d e. absurd (true≢false (sym e))), ((((λ d e. absurd (true≢false (sym e))), tt), (((λ d e. inl (refl, refl)), tt), (((λ d e. inl (refl, refl)), tt), tt))), tt));
@@ -111,5 +111,5 @@ keeps_all ((suc (suc (suc zero))) ∷ w ∷ z ∷ vs) l = absurd l.1.1
 keeps_all ((suc (suc (suc (suc v)))) ∷ vs) l = absurd (four v l.0)
 
 pub sample_is_kept : SampleIsKept
-unfolding found planned log_of first_below folds.fold_of folds.rule_of folds.rules words.operations words.is_inherent words.is_listed properties.is_allowed properties.is_of_kind properties.kind_of properties.kinds named.flagged registry.row_of rows.rows
+unfolding found planned log_of first_below folds.fold_of folds.rule_of folds.rules words.operations words.is_inherent words.is_listed properties.is_allowed properties.is_of_kind properties.kind_of properties.property_kinds named.flagged registry.row_of rows.rows
 sample_is_kept = (record { wellformed = refl; buildable = refl; named = refl }, computes, (found, refl, keeps_all), refl)

@@ -248,7 +248,7 @@ module _ (b : Places) (start : length b.variables ≤ b.given) (p : Pattern) whe
   conditions_side e r qs f g h old x u =
       let wide = x.0.0.sound.wide in
       let m1 = x.0.1.0 in
-      let m2 = new_rest b g h u.kinds.grown u.rest in
+      let m2 = new_rest b g h u.value_kinds.grown u.rest in
       let sound = sound_unified n (kind_of e.slot g.value_types) (kind_of r.slot g.value_types) g h x.0.0.sound u (wide_at g.value_types e.slot wide) (wide_at g.value_types r.slot wide) in
       let same : h.new ≡ g.new = ap (λ (r : Rest). r.new) u.rest in
       let good = news.good_same b g h m2 same sound x.0.0 in

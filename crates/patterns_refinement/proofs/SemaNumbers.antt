@@ -186,8 +186,8 @@ module _ (b : Places) (s : ℕ) (start : length b.variables ≤ b.given) where
   -- a step that unifies types
   pub numbered_united : (x y : PatternType) (f h : Sema) → Same x y f h → (IsFreeOrCovered (length b.variables) s f → IsFreeOrCovered (length b.variables) s h) → (AllWide f.value_types → AllWide h.value_types) → Numbered b s f h
   numbered_united x y f h u free wide = record {
-    grown = u.kinds.grown;
-    long = u.kinds.long;
+    grown = u.value_kinds.grown;
+    long = u.value_kinds.long;
     wide = wide;
     rest = ap but_given u.rest;
     stays = λ i t e. subst (λ (r : Rest). place_slot b (slots b r.given) i ≡ Some t) (sym u.rest) e;
@@ -255,9 +255,9 @@ module _ (b : Places) (s : ℕ) (start : length b.variables ≤ b.given) where
       holds_then (Same (kind_of s f.value_types) one f) (Worded name f) (unite_with s (bits.Int 1) at f) (λ g. Ok (and_number b (literal_number false v s) g)) (unite_with_holds s (bits.Int 1) at f)
       (λ g u.
       let c = literal_number false v s in
-      let at_s : kind_of s g.value_types ≡ ty.Concrete (bits.Int 1) = u.kinds.grown.at s h.0 ∙ u.kinds.same ∙ u.kinds.grown.concrete (bits.Int 1) in
-      let united = numbered_united (kind_of s f.value_types) one f g u (λ l. inr (inl (bits.Int 1, at_s))) (λ w. u.kinds.wide w (wide_at f.value_types s w) refl) in
-      let long = u.kinds.long in
+      let at_s : kind_of s g.value_types ≡ ty.Concrete (bits.Int 1) = u.value_kinds.grown.at s h.0 ∙ u.value_kinds.same ∙ u.value_kinds.grown.concrete (bits.Int 1) in
+      let united = numbered_united (kind_of s f.value_types) one f g u (λ l. inr (inl (bits.Int 1, at_s))) (λ w. u.value_kinds.wide w (wide_at f.value_types s w) refl) in
+      let long = u.value_kinds.long in
       let within : s < length g.value_types = omega (arith, h.0, long) in
       let l = longer_by c g in
       let same = ap length (given_same f g u.rest) in
@@ -273,11 +273,11 @@ module _ (b : Places) (s : ℕ) (start : length b.variables ≤ b.given) where
           let within = place_within false name b.variables i e in
           holds_then (Same (kind_of s f.value_types) (kind_of i f.value_types) f) (Worded name f) (unite s i at f) (λ g. Ok (i, g)) (unite_holds s i at f)
           (λ g u.
-          let long = u.kinds.long in
+          let long = u.value_kinds.long in
           let there : i < length f.value_types = omega (arith, within, h.1) in
           let after : i < length g.value_types = omega (arith, there, long) in
-          let same : kind_of s g.value_types ≡ kind_of i g.value_types = u.kinds.grown.at s h.0 ∙ u.kinds.same ∙ sym (u.kinds.grown.at i there) in
-          let x = numbered_united (kind_of s f.value_types) (kind_of i f.value_types) f g u (λ l. inr (inr (i, inl within, after, same))) (λ w. u.kinds.wide w (wide_at f.value_types s w) (wide_at f.value_types i w)) in
+          let same : kind_of s g.value_types ≡ kind_of i g.value_types = u.value_kinds.grown.at s h.0 ∙ u.value_kinds.same ∙ sym (u.value_kinds.grown.at i there) in
+          let x = numbered_united (kind_of s f.value_types) (kind_of i f.value_types) f g u (λ l. inr (inr (i, inl within, after, same))) (λ w. u.value_kinds.wide w (wide_at f.value_types s w) (wide_at f.value_types i w)) in
           let count = ap length (given_same f g u.rest) in
           (x, omega (arith, count), (i, ap (λ t. if t then Some i else computed_slot b (slots b g.given) i) (lt-ltb i (length b.variables) within), after, sym same)))
 

@@ -501,7 +501,7 @@ module _ (b : Places) where
       (λ h u.
       let ex = ap (λ (r : Rest). length r.extra) u.rest in
       let vi = ap (λ (r : Rest). length r.visited) u.rest in
-      let grown = u.kinds.grown in (
+      let grown = u.value_kinds.grown in (
         (
           record {
             sound = sound_unified n (kind_of (next_type f) g.value_types) one g h x.0.0.sound u (wide_at g.value_types (next_type f) x.0.0.sound.wide) refl;

@@ -120,7 +120,7 @@ module _ (n : ℕ) (Q : ℕ → ℕ → Type 0) where
   form_step_unified : (a b : PatternType) (f h : Sema) → Sound n f → has_width a ≡ true → has_width b ≡ true → Same a b f h → FormStep n f h
   form_step_unified a b f h s wa wb u = record {
     sound = sound_unified n a b f h s u wa wb;
-    grown = u.kinds.grown;
+    grown = u.value_kinds.grown;
     rest = ap but_constraints u.rest;
     more = λ c i. subst (λ (r : Rest). At r.type_constraints c) (sym u.rest) i;
   }
@@ -131,7 +131,7 @@ module _ (n : ℕ) (Q : ℕ → ℕ → Type 0) where
       holds_more (Same (kind_of i f.value_types) (kind_of j f.value_types) f) (λ h. FormStep n f h × (kind_of i h.value_types ≡ kind_of j h.value_types)) (unite i j at f) (unite_holds i j at f)
       (λ h u. (
         form_step_unified (kind_of i f.value_types) (kind_of j f.value_types) f h s (wide_at f.value_types i s.wide) (wide_at f.value_types j s.wide) u,
-        u.kinds.grown.at i li ∙ u.kinds.same ∙ sym (u.kinds.grown.at j lj),
+        u.value_kinds.grown.at i li ∙ u.value_kinds.same ∙ sym (u.value_kinds.grown.at j lj),
       ))
 
   is_truth : (i at : ℕ) (f : Sema) → Sound n f → i < length f.value_types → Holds (λ h. FormStep n f h × (kind_of i h.value_types ≡ ty.Concrete (bits.Int 1))) (unite_with i (bits.Int 1) at f)
@@ -140,7 +140,7 @@ module _ (n : ℕ) (Q : ℕ → ℕ → Type 0) where
       holds_more (Same (kind_of i f.value_types) one f) (λ h. FormStep n f h × (kind_of i h.value_types ≡ one)) (unite_with i (bits.Int 1) at f) (unite_with_holds i (bits.Int 1) at f)
       (λ h u. (
         form_step_unified (kind_of i f.value_types) one f h s (wide_at f.value_types i s.wide) refl u,
-        u.kinds.grown.at i l ∙ u.kinds.same ∙ u.kinds.grown.concrete (bits.Int 1),
+        u.value_kinds.grown.at i l ∙ u.value_kinds.same ∙ u.value_kinds.grown.concrete (bits.Int 1),
       ))
 
   -- an operand has the type that its place has

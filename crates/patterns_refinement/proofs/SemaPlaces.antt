@@ -161,8 +161,8 @@ module _ (b : Places) (p : Pattern) (root result : ℕ) (f : Sema) (a : Analyzed
   -- the number of an equal type
   pub number_same : (s t : ℕ) → s < length f.value_types → t < length f.value_types → kind_of s f.value_types ≡ kind_of t f.value_types → number_in vt s ≡ number_in vt t
   number_same s t ls lt e =
-      let kinds : kind_in vt s ≡ kind_in vt t = vt_at s ls ∙ ap (sema.numbered fd) e ∙ sym (vt_at t lt) in
-      have_one_number vt s t (within s ls) (within t lt) (subst (λ k. is_same (kind_in vt s) k ≡ true) kinds (same_type_itself (kind_in vt s)))
+      let value_kinds : kind_in vt s ≡ kind_in vt t = vt_at s ls ∙ ap (sema.numbered fd) e ∙ sym (vt_at t lt) in
+      have_one_number vt s t (within s ls) (within t lt) (subst (λ k. is_same (kind_in vt s) k ≡ true) value_kinds (same_type_itself (kind_in vt s)))
 
   pub number_within : (t : ℕ) → t < length f.value_types → number_in vt t < length vt
   number_within t l = (numbers_the_same vt t (within t l)).0

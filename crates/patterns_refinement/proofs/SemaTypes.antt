@@ -177,11 +177,11 @@ rest_of f =
     }
 
 pub record Same (i j : PatternType) (f h : Sema) : Type 0 where
-  pub kinds : Unified i j f.value_types h.value_types
+  pub value_kinds : Unified i j f.value_types h.value_types
   pub rest : rest_of h ≡ rest_of f
 
 unfolded : (a b : PatternType) (f : Sema) (o : Outcome (List PatternType)) → Holds (Unified a b f.value_types) o → Holds (Same a b f) (with_kinds f o)
-unfolded a b f (Ok ls) h = record { kinds = h; rest = refl }
+unfolded a b f (Ok ls) h = record { value_kinds = h; rest = refl }
 unfolded a b f (Err e) h = tt
 
 pub unite_holds : (i j at : ℕ) (f : Sema) → Holds (Same (kind_of i f.value_types) (kind_of j f.value_types) f) (unite i j at f)
@@ -222,13 +222,13 @@ still_begun n r u e j b = subst (λ r. Begun n r j) (sym e) b
 -- types that are unified stay sound
 pub sound_unified : (n : ℕ) (a b : PatternType) (f h : Sema) → Sound n f → Same a b f h → has_width a ≡ true → has_width b ≡ true → Sound n h
 sound_unified n a b f h s u wa wb =
-    let long : length h.value_types ≡ length f.value_types = u.kinds.long in
+    let long : length h.value_types ≡ length f.value_types = u.value_kinds.long in
     record {
-      wide = u.kinds.wide s.wide wa wb;
+      wide = u.value_kinds.wide s.wide wa wb;
       long = omega (arith, s.long, long);
       covered = λ i l.
           let w : i < length f.value_types = omega (arith, l, long) in
-          covered_grown n f.value_types h.value_types (rest_of f) (rest_of h) u.kinds.grown (still_begun n (rest_of f) (rest_of h) u.rest) i w (s.covered i w);
+          covered_grown n f.value_types h.value_types (rest_of f) (rest_of h) u.value_kinds.grown (still_begun n (rest_of f) (rest_of h) u.rest) i w (s.covered i w);
     }
 
 -- ---- a written type
@@ -332,21 +332,21 @@ typed_as_holds n slot at w f s within =
     let other = (written_at w f).0 in
     holds_more (Same (kind_of slot g.value_types) (kind_of other g.value_types) g) (λ h. Sound n h × Grown f.value_types h.value_types × (rest_of h ≡ rest_of f)) (unite slot other at g) (unite_holds slot other at g)
     (λ h u.
-    let grown = grown_through f.value_types g.value_types h.value_types r.grown u.kinds.grown in
-    let long : length h.value_types ≡ length g.value_types = u.kinds.long in
+    let grown = grown_through f.value_types g.value_types h.value_types r.grown u.value_kinds.grown in
+    let long : length h.value_types ≡ length g.value_types = u.value_kinds.long in
     let slot_there : slot < length g.value_types = omega (arith, within, r.grown.longer) in
     let wide : AllWide g.value_types = r.wide s.wide in
     let more : (j : ℕ) → Begun n (rest_of f) j → Begun n (rest_of h) j = still_begun n (rest_of f) (rest_of h) u.rest in
     let first : Covered n h.value_types (rest_of h) slot = covered_grown n f.value_types h.value_types (rest_of f) (rest_of h) grown more slot within (s.covered slot within) in (
       record {
-        wide = u.kinds.wide wide (wide_at g.value_types slot wide) (wide_at g.value_types other wide);
+        wide = u.value_kinds.wide wide (wide_at g.value_types slot wide) (wide_at g.value_types other wide);
         long = omega (arith, s.long, grown.longer);
         covered = λ i l. elim (r.earlier i (omega (arith, l, long))) [
           | inl e ↦ covered_grown n f.value_types h.value_types (rest_of f) (rest_of h) grown more i e (s.covered i e)
           | inr e ↦
               let at_other : other < length g.value_types = subst (λ z. z < length g.value_types) e (omega (arith, l, long)) in
               covered_same n h.value_types (rest_of h) i slot
-              (ap (λ z. kind_of z h.value_types) e ∙ u.kinds.grown.at other at_other ∙ sym u.kinds.same ∙ sym (u.kinds.grown.at slot slot_there)) first
+              (ap (λ z. kind_of z h.value_types) e ∙ u.value_kinds.grown.at other at_other ∙ sym u.value_kinds.same ∙ sym (u.value_kinds.grown.at slot slot_there)) first
         ];
       },
       grown,

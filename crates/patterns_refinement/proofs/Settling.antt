@@ -300,19 +300,19 @@ module _ (done : ℕ → Bool) (t : Operation) (d : HasDistinctIds t) (kinded : 
     pub better : (v : Value) → refines (a v) (last v) ≡ true
     pub stays : (v : Value) → gives done t v ≡ false → last v ≡ a v
     pub rising : Rising last
-    pub fit : AllFit last (ids t)
+    pub fits_in : AllFit last (ids t)
 
   step : (fuel : ℕ) → ((b : Assignment) → poisons b (ids t) ≤ fuel → Rising b → Rose b) → (a : Assignment) → poisons a (ids t) ≤ fuel + 1 → Rising a → AllFit a (ids t) ⊎ SomeUnsettled a (ids t) → Rose a
-  step fuel more a l s (inl f) = record { last = a; better = λ v. itself (a v); stays = λ v e. refl; rising = s; fit = f }
+  step fuel more a l s (inl f) = record { last = a; better = λ v. itself (a v); stays = λ v e. refl; rising = s; fits_in = f }
   step fuel more a l s (inr u) =
       let b = better a s u.0 u.2 in
       let c = raised u.0 u.2.value a in
       let less = poisons_less a c b u.0 u.2.value u.2.was (now a s u.0 u.2) (ids t) u.1 in
       let r = more c (omega (arith, less, l)) (rises a s u.0 u.2) in
-      record { last = r.last; better = λ v. through (a v) (c v) (r.last v) (b v) (r.better v); stays = λ v e. r.stays v e ∙ stays a s u.0 u.2 v e; rising = r.rising; fit = r.fit }
+      record { last = r.last; better = λ v. through (a v) (c v) (r.last v) (b v) (r.better v); stays = λ v e. r.stays v e ∙ stays a s u.0 u.2 v e; rising = r.rising; fits_in = r.fits_in }
 
   none_left : (a : Assignment) → poisons a (ids t) ≤ 0 → Rising a → AllFit a (ids t) ⊎ SomeUnsettled a (ids t) → Rose a
-  none_left a l s (inl f) = record { last = a; better = λ v. itself (a v); stays = λ v e. refl; rising = s; fit = f }
+  none_left a l s (inl f) = record { last = a; better = λ v. itself (a v); stays = λ v e. refl; rising = s; fits_in = f }
   none_left a l s (inr u) =
       let less = poisons_less a (raised u.0 u.2.value a) (better a s u.0 u.2) u.0 u.2.value u.2.was (now a s u.0 u.2) (ids t) u.1 in
       absurd (omega (arith, less, l))
@@ -352,7 +352,7 @@ settles a done t d kinded typed sure under =
       now = r.last;
       better = r.better;
       stays = r.stays;
-      fits = each_by_found (FitsDone r.last done) t d (λ o e i j. fit_in done t d value_types r.last (ids t) r.fit (head o).id (in_ids done t d value_types (head o).id o e) o e i j);
+      fits = each_by_found (FitsDone r.last done) t d (λ o e i j. fit_in done t d value_types r.last (ids t) r.fits_in (head o).id (in_ids done t d value_types (head o).id o e) o e i j);
       typed = (
         each_by_found (ResultsOfTypes r.last) t d (λ o e k ty i. r.rising.typed (Result (head o).id k) ty (ap (option_and_then (λ (o : Operation). slice_get (head o).results k)) e ∙ i)),
         r.rising.blocks,

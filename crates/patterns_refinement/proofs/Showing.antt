@@ -224,15 +224,15 @@ pub replaced_shows : (m : Module) (x : ℕ) (v : Value) (insertion : Place) (mad
     → Each (λ h. IsKept m.next m.tree (rewritten insertion m.next made x v m.tree) a now later h (put_values (Result x 0) v h)) m.tree
     → ((w : Value) → owner w < m.next → is_computed m.tree w ≡ false → is_computed (rewritten insertion m.next made x v m.tree) w ≡ false)
     → Shows a now m later (rewritten insertion m.next made x v m.tree)
-replaced_shows m x v insertion made a now later distinct replaceable bare numbers kept plain =
+replaced_shows m x v insertion made a now later distinct replaceable bare numbers kept simple =
     let u = rewritten insertion m.next made x v m.tree in
     let stays : Each (λ h. Stays m.next m.tree u a now later h (put_values (Result x 0) v h)) m.tree =
     each_both (λ h. IsKept m.next m.tree u a now later h (put_values (Result x 0) v h)) (λ h. Unit {0}) (λ h. Stays m.next m.tree u a now later h (put_values (Result x 0) v h)) (λ h s q. kept_stays h (put_values (Result x 0) v h) s) m.tree kept (units m.tree) in
     record {
       root = λ i. subst (Stays m.next m.tree u a now later (head m.tree)) (sym (rewritten_head x v m.tree insertion m.next made)) (at_root (λ h. Stays m.next m.tree u a now later h (put_values (Result x 0) v h)) m.tree stays);
       follows = rewritten_follows x v m.tree (Stays m.next m.tree u a now later) insertion m.next made numbers stays distinct replaceable;
-      plain = plain;
-      origins = rewritten_origins m.next x v m.tree insertion made a now later bare numbers kept plain;
+      simple = simple;
+      origins = rewritten_origins m.next x v m.tree insertion made a now later bare numbers kept simple;
     }
 
 -- ---- an operation erased
@@ -278,15 +278,15 @@ shows_through a b c m p t before later wellformed grows same s r =
       follows =
           follows_through (λ h. h.id < m.next) (Stays m.next m.tree p.tree a b before) (Stays p.next p.tree t b c later) (Stays m.next m.tree t a c later) (λ h k s. ap (λ (h : Header). h.name) s.same) through
           (shown_regions (regions m.tree)) (shown_regions (regions p.tree)) (shown_regions (regions t)) (each_shown (λ h. h.id < m.next) (regions m.tree) (inside (λ h. h.id < m.next) m.tree old)) s.follows r.follows;
-      plain = λ v l e. r.plain v (omega (arith, l, grows)) (s.plain v l e);
+      simple = λ v l e. r.simple v (omega (arith, l, grows)) (s.simple v l e);
       origins = λ o are. let last = r.origins o (origins_between a b c m.tree p.tree t m.next p.next before later grows less s.origins o are) in record { chosen = last.chosen; computed = last.computed; unused = are.unused };
     }
 
 -- operations that don't change choose what they chose
 pub same_origins : (n : ℕ) (t u : Operation) (a now : Assignment) (later : ℕ → Bool) → Each (λ h. IsKept n t u a now later h h) t → ((P : Header → Type 0) → Each P t → Each P u)
     → ((v : Value) → owner v < n → is_computed t v ≡ false → is_computed u v ≡ false) → (o : Origins) → AreOrigins n a o later t → AreOrigins n now o later u
-same_origins n t u a now later kept carry plain o are =
-    origins_are n a now o later t u are plain
+same_origins n t u a now later kept carry simple o are =
+    origins_are n a now o later t u are simple
     (carry (Chooses now o later u)
     (each_both (λ h. IsKept n t u a now later h h) (Chooses a o later t) (Chooses now o later u) (λ h s c. kept_chooses h h s o are c) t kept are.chosen))
 
@@ -295,7 +295,7 @@ pub shows_itself : (a now : Assignment) (m : Module) (later : ℕ → Bool) → 
 shows_itself a now m later f = record {
   root = λ e. stays_so m.next m.tree m.tree a now later f (head m.tree) (λ e. e);
   follows = follows_so m.next m.tree m.tree a now later f (each_alike (Alike m.tree m.tree) (λ h e. e));
-  plain = λ v l e. e;
+  simple = λ v l e. e;
   origins = same_origins m.next m.tree m.tree a now later (each_alike (λ h. IsKept m.next m.tree m.tree a now later h h) (λ h. kept_so m.next m.tree m.tree a now later f h (λ e. e))) (λ P s. s) (λ v l e. e);
 }
   where
@@ -335,10 +335,10 @@ unseen_through x t u w p q = record {
 
 pub unseen_shows : (a now : Assignment) (m : Module) (later : ℕ → Bool) (x : ℕ) (u : Operation) → IsUnseen x m.tree u → ((v : Value) → refines (a v) (now v) ≡ true) → Each (Alike m.tree u) m.tree
     → ((v : Value) → owner v < m.next → is_computed m.tree v ≡ false → is_computed u v ≡ false) → ((o : Origins) → AreOrigins m.next a o later m.tree → AreOrigins m.next now o later u) → Shows a now m later u
-unseen_shows a now m later x u s f alike plain origins = record {
+unseen_shows a now m later x u s f alike simple origins = record {
   root = λ e. subst (Stays m.next m.tree u a now later (head m.tree)) (sym (s.root e)) (stays_so m.next m.tree u a now later f (head m.tree) (at_root (Alike m.tree u) m.tree alike));
   follows = subst (RegionsFollow (Stays m.next m.tree u a now later) (shown_regions (regions m.tree))) (sym s.shown) (follows_so m.next m.tree u a now later f alike);
-  plain = plain;
+  simple = simple;
   origins = origins;
 }
 

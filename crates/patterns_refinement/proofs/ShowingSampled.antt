@@ -128,7 +128,7 @@ erased_unknown_breaks a done later i =
 
 -- the constant has its number
 constant_is : (now : Assignment) → Fits now 5 (head (plain_op 5 (codes "arith.constant") [] (i8 ∷ []) ((codes "value", IntegerOf i8 42) ∷ []))) → now (Result 5 0) ≡ Some (kind.Int 8, 42)
-unfolding folds.fold_of folds.rule_of folds.rules words.operations words.is_inherent words.is_listed properties.is_allowed properties.is_of_kind properties.kind_of properties.kinds registry.row_of rows.rows
+unfolding folds.fold_of folds.rule_of folds.rules words.operations words.is_inherent words.is_listed properties.is_allowed properties.is_of_kind properties.kind_of properties.property_kinds registry.row_of rows.rows
 constant_is now e = sym (same_Some _ _ (sym constant_makes ∙ e))
   where
     constant_makes : makes (head (plain_op 5 (codes "arith.constant") [] (i8 ∷ []) ((codes "value", IntegerOf i8 42) ∷ []))) [] ≡ Some (Some (kind.Int 8, 42))

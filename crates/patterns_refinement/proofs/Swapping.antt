@@ -403,20 +403,20 @@ module _ (accepted : AreAccepted) where
             let t = each_head (at x first) m.tree in
             let two = at_unseen x second (λ h. refl) t one.numbers in
             let unseen : IsUnseen x m.tree n.tree = subst (IsUnseen x m.tree) tree (unseen_through x m.tree t (each_head (at x second) t) one two) in
-            let plain : (v : Value) → owner v < m.next → is_computed m.tree v ≡ false → is_computed n.tree v ≡ false =
+            let simple : (v : Value) → owner v < m.next → is_computed m.tree v ≡ false → is_computed n.tree v ≡ false =
             free_still m.next (λ y. true) (λ y. true) m.tree n.tree
             (subst (λ t. Each (Was m.next (λ y. true) (λ y. true) m.tree) t) tree
             (swapped_each x w.first w.second q.here w.operands own (Was m.next (λ y. true) (λ y. true) m.tree) (Was m.next (λ y. true) (λ y. true) m.tree) (λ h p. p) (λ p. p) m.tree it (was_old m.next (λ y. true) (λ y. true) m.tree ready.wellformed.distinct (λ y l i. refl)))) in
             let old = kinds_themselves m.next m.tree ready.wellformed.distinct below in
-            let kinds : KeepsKinds m.next m.tree n.tree =
+            let value_kinds : KeepsKinds m.next m.tree n.tree =
             subst (KeepsKinds m.next m.tree) tree
             (record {
               results = swapped_each x w.first w.second q.here w.operands own (ResultsAre (IsOldKind m.next m.tree)) (ResultsAre (IsOldKind m.next m.tree)) (λ h p. p) (λ p. p) m.tree it old.results;
               arguments = swapped_blocks x w.first w.second q.here w.operands own (ArgumentsAre (IsOldKind m.next m.tree)) m.tree old.arguments;
             }) in
-            let alike = all_alike m.next m.tree n.tree kinds below (operands_stand is_isolated m.tree ready.wellformed.distinct ready.wellformed.wellformed.visible) in
-            unseen_shows a a m later x n.tree unseen (λ v. itself (a v)) alike plain
-            (λ o are. origins_are m.next a a o later m.tree n.tree are plain
+            let alike = all_alike m.next m.tree n.tree value_kinds below (operands_stand is_isolated m.tree ready.wellformed.distinct ready.wellformed.wellformed.visible) in
+            unseen_shows a a m later x n.tree unseen (λ v. itself (a v)) alike simple
+            (λ o are. origins_are m.next a a o later m.tree n.tree are simple
             (subst (λ t. Each (Chooses a o later n.tree) t) tree
             (swapped_each x w.first w.second q.here w.operands own (λ h. Alike m.tree n.tree h × Chooses a o later m.tree h) (Chooses a o later n.tree)
             (λ h p. kept_chooses h h (kept_so m.next m.tree n.tree a a later (λ v. itself (a v)) h p.0) o are p.1)

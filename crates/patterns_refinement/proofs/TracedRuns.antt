@@ -6,7 +6,7 @@ use Rattle.ir_tree.specs.Ids.{ids}
 use Rattle.ir_event.specs.Modules.{Module}
 use Rattle.patterns.specs.FirstMatching.{first_matching_rule, rule_or}
 use Rattle.patterns_base.specs.declared.rule.Rule.{Rule}
-use Rattle.patterns_base.specs.Canonicalization.{End, converged, end_of, ended, first_rule, go_on, greedy_rules, most_rewrites, or_else, stopped}
+use Rattle.patterns_base.specs.Canonicalization.{End, converged, end_of, ended, first_rule, go_on, greedy_rules, most_rewrites, or_else, aborted}
 use Rattle.patterns_base.specs.Rewrites.{Rewrite, becomes, none, refused, rewrite_of}
 use Rattle.patterns_soundness.specs.Accepted.{AreAccepted}
 use Rattle.greedy.specs.declared.applied_rewrite.AppliedPattern.TheVariants as by
@@ -85,15 +85,15 @@ module _ (rs candidates : List Rule) where
       go (refused q) f i all more = stopped_never q n k e i
       go (becomes p) f i all more =
           let t = is_reported candidates (ids m.tree) m p f in
-          let told_is = subst (λ s. AllBy rs (trace_on (becomes p) (trace_step (becomes p) s m) (trace_of (by_rules candidates) left))) t.site all in
-          let ih = more p i told_is.1 in
-          (suc ih.0, (t.rule, told_is.0, t.op, p, t.becomes_it, ih.1))
+          let reported_is = subst (λ s. AllBy rs (trace_on (becomes p) (trace_step (becomes p) s m) (trace_of (by_rules candidates) left))) t.site all in
+          let ih = more p i reported_is.1 in
+          (suc ih.0, (t.rule, reported_is.0, t.op, p, t.becomes_it, ih.1))
 
   led : (limit k : ℕ) (m n : Module) (e : End) → rewriting_of (by_rules candidates) limit m ≡ ended n k e → AllBy rs (trace_of (by_rules candidates) limit m) → Led m n
   unfolding rewriting_of
   led limit k m n e i all = go (nat_le 1 limit && nat_le limit most_rewrites) i
     where
-      go : (b : Bool) → (if b then rewritten_from (by_rules candidates) limit 0 m else stopped BadLimit) ≡ ended n k e → Led m n
+      go : (b : Bool) → (if b then rewritten_from (by_rules candidates) limit 0 m else aborted BadLimit) ≡ ended n k e → Led m n
       go true i = led_from limit 0 k m n e i all
       go false i = stopped_never BadLimit n k e i
 

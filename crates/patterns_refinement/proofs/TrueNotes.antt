@@ -34,7 +34,7 @@ use Rattle.patterns_refinement.proofs.StrictLaws.{registered_proper}
 -- ---- the patterns of a registry
 -- the note `holds` is true, and the pattern's names and types pass the tests of the laws
 abbrev IsTrue : Kept → Type 0
-IsTrue k = (k.said ≡ Some summary.AllWidths → IsFoundToHold k) × SoundTypes k.shape
+IsTrue k = (k.said ≡ Some summary.AllWidths → IsFoundToHold k) × SoundTypes k.rewrite_pattern
 
 abbrev AllTrue : RegistryModel → Type 0
 AllTrue ks = AllByRecursion IsTrue ks
@@ -60,7 +60,7 @@ record Fresh (b new : RegistryModel) : Type 0 where
   pub last : Kept
   pub is : b ++ (last ∷ []) ≡ new
   pub unsaid : last.said ≡ None
-  pub sound : SoundTypes last.shape
+  pub sound : SoundTypes last.rewrite_pattern
 
 -- the entry of a parsed pattern has no summary
 kept_unsaid : (p : parts.Pattern) (k : Kept) → kept_of p ≡ Ok k → k.said ≡ None
@@ -81,12 +81,12 @@ model_sound p q h =
     let s = bound_ok (wellformed p) (λ s. made_ready (ready s)) q h in
     ready_sound p s.0 q s.1 (made_ready_is (ready s.0) q s.2)
 
-kept_sound : (p : parts.Pattern) (k : Kept) → kept_of p ≡ Ok k → SoundTypes k.shape
+kept_sound : (p : parts.Pattern) (k : Kept) → kept_of p ≡ Ok k → SoundTypes k.rewrite_pattern
 unfolding kept_of
 kept_sound p k h =
     let vs = bound_ok (variables_of p) (λ vs. model_of_parts p >>= λ t. Ok (kept_as p vs t)) k h in
     let t = bound_ok (model_of_parts p) (λ t. Ok (kept_as p vs.0 t)) k vs.2 in
-    subst (λ (k : Kept). SoundTypes k.shape) (ok_same (kept_as p vs.0 t.0) k (Ok (kept_as p vs.0 t.0)) (Ok k) refl refl t.2) (model_sound p t.0 t.1)
+    subst (λ (k : Kept). SoundTypes k.rewrite_pattern) (ok_same (kept_as p vs.0 t.0) k (Ok (kept_as p vs.0 t.0)) (Ok k) refl refl t.2) (model_sound p t.0 t.1)
 
 defined_fresh : (b new : RegistryModel) (text : List ℕ) → defined b text ≡ Ok new → Fresh b new
 unfolding defined
@@ -102,10 +102,10 @@ defined_fresh b new text h =
     }
 
 -- without a summary, the note isn't `holds`
-unsaid_true : (k : Kept) → k.said ≡ None → SoundTypes k.shape → IsTrue k
+unsaid_true : (k : Kept) → k.said ≡ None → SoundTypes k.rewrite_pattern → IsTrue k
 unsaid_true k e sound = ((λ f. absurd (none-some summary.AllWidths (sym e ∙ f))), sound)
 
-added_true : (ks : RegistryModel) (k : Kept) → AllTrue ks → k.said ≡ None → SoundTypes k.shape → AllTrue (ks ++ (k ∷ []))
+added_true : (ks : RegistryModel) (k : Kept) → AllTrue ks → k.said ≡ None → SoundTypes k.rewrite_pattern → AllTrue (ks ++ (k ∷ []))
 added_true [] k all e sound = (unsaid_true k e sound, tt)
 added_true (j ∷ ks) k all e sound = (all.0, added_true ks k all.1 e sound)
 
@@ -148,7 +148,7 @@ forgotten_true name (k ∷ ks) all = go (not (is_named name k)) (forgotten_true 
     go false more = more
 
 -- ---- a replaced pattern
-set_true : (ks : RegistryModel) (i : ℕ) (k : Kept) → AllTrue ks → k.said ≡ None → SoundTypes k.shape → AllTrue (slice_set ks i k)
+set_true : (ks : RegistryModel) (i : ℕ) (k : Kept) → AllTrue ks → k.said ≡ None → SoundTypes k.rewrite_pattern → AllTrue (slice_set ks i k)
 set_true [] i k all e sound = tt
 set_true (j ∷ ks) zero k all e sound = (unsaid_true k e sound, all.1)
 set_true (j ∷ ks) (suc i) k all e sound = (all.0, set_true ks i k all.1 e sound)
@@ -192,17 +192,17 @@ module _ (stays : StaysARegistry) (noting : NotingKeepsARegistry) (forgetting : 
   forms_are_sound empty b reached name k e none =
       let g = all_good reached.0 [] b (empty, tt) reached.1 in
       let s = (found_is IsTrue b g.1 name k e).1 in
-      let p = k.shape in
+      let p = k.rewrite_pattern in
       and_from (all_named p) (is_without_quotients p && (has_widths p && (uses_only (is_had p) p && is_kinded_by_form (numbered p)))) s.named
       (and_from (is_without_quotients p) (has_widths p && (uses_only (is_had p) p && is_kinded_by_form (numbered p))) none
       (and_from (has_widths p) (uses_only (is_had p) p && is_kinded_by_form (numbered p)) s.widths (and_from (uses_only (is_had p) p) (is_kinded_by_form (numbered p)) s.uses s.kinded)))
 
 -- ---- the premises of the laws of proved patterns
 -- a pattern holds by the form of both sides, or for all outcomes
-proved_pattern : PolynomialsKeep → FormsAreSound → (b : RegistryModel) → IsReached b → (name : List ℕ) (k : Kept) → found name b ≡ Some k → IsTrulyNoted k → is_without_quotients k.shape ≡ true
-    → HoldsByForm k.shape ⊎ HoldsForOutcomes k.shape
+proved_pattern : PolynomialsKeep → FormsAreSound → (b : RegistryModel) → IsReached b → (name : List ℕ) (k : Kept) → found name b ≡ Some k → IsTrulyNoted k → is_without_quotients k.rewrite_pattern ≡ true
+    → HoldsByForm k.rewrite_pattern ⊎ HoldsForOutcomes k.rewrite_pattern
 proved_pattern polynomials forms b reached name k e h none = elim h.checked.3 [
-  | inl f ↦ inl (record { proper = registered_proper polynomials k.shape (IsReady.stands h.applies) (IsReady.buildable h.applies) f.0; for_all_widths = f.0; refines = f.1 })
+  | inl f ↦ inl (record { proper = registered_proper polynomials k.rewrite_pattern (IsReady.stands h.applies) (IsReady.buildable h.applies) f.0; for_all_widths = f.0; refines = f.1 })
   | inr o ↦ inr (record { wellformed = IsReady.stands h.applies; buildable = IsReady.buildable h.applies; form = forms b reached name k e none; holds = o })
 ]
 
@@ -210,8 +210,8 @@ pub noted_are_proved : PolynomialsKeep → NotesAreTrue → FormsAreSound → No
 noted_are_proved polynomials notes forms b reached (OfRule r) is = is
 noted_are_proved polynomials notes forms b reached (OfUserPattern p) is =
     let k = is.1 in
-    let same : k.shape ≡ p = is.4 in
-    let none : is_without_quotients k.shape ≡ true = ap is_without_quotients same ∙ is.5 in
+    let same : k.rewrite_pattern ≡ p = is.4 in
+    let none : is_without_quotients k.rewrite_pattern ≡ true = ap is_without_quotients same ∙ is.5 in
     subst (λ (p : PatternModel). HoldsByForm p ⊎ HoldsForOutcomes p) same (proved_pattern polynomials forms b reached is.0 k is.2 (notes b reached is.0 k is.2 is.3) none)
 
 pub noted_apply_refines : NotedAreProved → ProvedApplyRefines → NotedApplyRefines
@@ -225,8 +225,8 @@ noted_or_canonical proved b reached (OfRule r) is = is
 noted_or_canonical proved b reached (OfUserPattern p) is = proved b reached (OfUserPattern p) is
 
 pub noted_canon_lists_refine : NotedAreProved → CanonListsRefine → NotedCanonListsRefine
-noted_canon_lists_refine proved refines b reached ts are limit m n k e ready plain range i =
-    refines ts (λ t j. noted_or_canonical proved b reached t (are t j)) limit m n k e ready plain range i
+noted_canon_lists_refine proved refines b reached ts are limit m n k e ready simple range i =
+    refines ts (λ t j. noted_or_canonical proved b reached t (are t j)) limit m n k e ready simple range i
 
 -- a pattern that poison refutes doesn't hold by its form, since its matched operation is a `select`
 pub never_noted : NotesAreTrue → PoisonRefutes → WrongIsNeverNoted

@@ -81,8 +81,8 @@ module _ (m n : Module) (x : ℕ) (o : Operation) (w : Turns m n x o) (ready : I
     all_were : (before after : ℕ → Bool) → ((y : ℕ) → y < m.next → after y ≡ true → before y ≡ true) → Each (Was m.next before after m.tree) n.tree
     all_were before after f = each_turned (Was m.next before after m.tree) (Was m.next before after m.tree) (λ h p. p) (λ p i l j. no_number j) (was_old m.next before after m.tree ready.wellformed.distinct f)
 
-    plain : (v : Value) → owner v < m.next → is_computed m.tree v ≡ false → is_computed n.tree v ≡ false
-    plain = free_still m.next (λ y. true) (λ y. true) m.tree n.tree (all_were (λ y. true) (λ y. true) (λ y l i. refl))
+    simple : (v : Value) → owner v < m.next → is_computed m.tree v ≡ false → is_computed n.tree v ≡ false
+    simple = free_still m.next (λ y. true) (λ y. true) m.tree n.tree (all_were (λ y. true) (λ y. true) (λ y l i. refl))
 
     alike : Each (Alike m.tree n.tree) m.tree
     alike = all_alike m.next m.tree n.tree (turned_kinds m n x o w ready) below operands
@@ -111,7 +111,7 @@ module _ (m n : Module) (x : ℕ) (o : Operation) (w : Turns m n x o) (ready : I
 
     chooses_still : (origin : Origins) → AreOrigins m.next a origin (done_after m.next x done) m.tree → AreOrigins m.next a origin (done_after m.next x done) n.tree
     chooses_still origin are =
-        origins_are m.next a a origin later m.tree n.tree are plain
+        origins_are m.next a a origin later m.tree n.tree are simple
         (each_turned (λ h. Low m (Alike m.tree n.tree) h × Chooses a origin later m.tree h) (Chooses a origin later n.tree)
         (λ h p. kept_chooses h h (kept_so m.next m.tree n.tree a a later (λ v. itself (a v)) h p.0.0) origin are p.1)
         (λ p i y e. let g = p.1 k.choice y e in (g.0, k.chooses origin y (its_done p.0.1 g.0) g.1))
@@ -146,7 +146,7 @@ module _ (m n : Module) (x : ℕ) (o : Operation) (w : Turns m n x o) (ready : I
       follows =
           subst (RegionsFollow (Stays m.next m.tree n.tree a a later) (shown_regions (regions m.tree))) (sym turned_shown)
           (follows_turned (Stays m.next m.tree n.tree a a later) (at x w.first) (at x w.second) (at x w.third) (shown_regions (regions m.tree)) (each_shown Moves (regions m.tree) (inside Moves m.tree moves)));
-      plain = plain;
+      simple = simple;
       origins = chooses_still;
     }
 

@@ -42,6 +42,6 @@ found = record {
 }
 
 pub sample_is_checked : SampleIsChecked
-unfolding found planned log_of first_below folds.fold_of folds.rule_of folds.rules words.operations words.is_inherent words.is_listed properties.is_allowed properties.is_of_kind properties.kind_of properties.kinds named.flagged registry.row_of rows.rows
+unfolding found planned log_of first_below folds.fold_of folds.rule_of folds.rules words.operations words.is_inherent words.is_listed properties.is_allowed properties.is_of_kind properties.kind_of properties.property_kinds named.flagged registry.row_of rows.rows
 sample_is_checked =
     (record { wellformed = refl; buildable = refl; named = refl }, holds_narrow.holds, (omega arith, omega arith, tt), (found, refl, refl, refl), refl)

@@ -80,9 +80,9 @@ silent_found q (e ∷ es) s rs f =
     go true f none later = sym (same_Some _ _ f) ∙ none
     go false f none later = later f
 
-none_told : (t : Operation) → diagnostics_of t ≡ [] → (x : ℕ) (s : OpWithPath) → op_with_path x t ≡ Some s → reported (surround t s) ≡ []
-none_told t silent x s e =
-    silent_found x (sorted_facts reported t) silent (reported (surround t s)) (found reported t x (stands [] t) ∙ ap (λ o. option_map reported (option_map (surround t) o)) e)
+none_reported : (t : Operation) → diagnostics_of t ≡ [] → (x : ℕ) (s : OpWithPath) → op_with_path x t ≡ Some s → reported (surround t s) ≡ []
+none_reported t reports_nothing x s e =
+    silent_found x (sorted_facts reported t) reports_nothing (reported (surround t s)) (found reported t x (stands [] t) ∙ ap (λ o. option_map reported (option_map (surround t) o)) e)
 
 -- an operation that the operation table knows breaks only the constraints that the diagnostics report
 all_kept : (rs : List ℕ) → filter (λ r. true) rs ≡ rs
@@ -511,10 +511,10 @@ module _ (t : Operation) (distinct : HasDistinctIds t) (s : OpWithPath) (here : 
       ap is_by_truth (kinds_are t h.operands) ∙ selects_by_truth h (map (λ v. type_of_value v t) h.operands) h.results h.name (form_verified how.Select e (verified_none verified))
 
   -- an operation without diagnostics has operands of the kinds that it needs
-  module _ (silent : diagnostics_of t ≡ []) where
+  module _ (reports_nothing : diagnostics_of t ≡ []) where
     none_here : is_covered beyond ≡ true → broken around ≡ []
     none_here within =
-        none_broken around (same_Some _ _ (sym beyond_is ∙ covered beyond within)) (none_told t silent h.id s (stand_of_member t distinct s here))
+        none_broken around (same_Some _ _ (sym beyond_is ∙ covered beyond within)) (none_reported t reports_nothing h.id s (stand_of_member t distinct s here))
 
     takes_within : (r : How) → rule_of h.name ≡ Some r → Takes r h (map (λ v. type_of_value v t) h.operands) h.results → list_all (λ ty. has_width (kind_of ty)) h.results ≡ true → takes_its (rule_of h.name) (result_kind h) h (map (kind_in t) h.operands) ≡ true
     takes_within r e w right =
@@ -597,7 +597,7 @@ verified_is_ready m v = record {
   sorted = v.sorted;
   kinded = each_stands (λ h. is_kinded m.tree h ≡ true) [] m.tree (λ s here.
       let found_here = stand_found m.tree v.wellformed.distinct s here in
-      operation_kinded m.tree v.wellformed.distinct s here v.silent
+      operation_kinded m.tree v.wellformed.distinct s here v.reports_nothing
       (each_found (λ h. is_in_range h ≡ true) (op_with_path_id s) m.tree v.in_range s.here found_here).0
       (each_found (λ h. is_within m.tree h ≡ true) (op_with_path_id s) m.tree v.within s.here found_here).0);
 }

@@ -2,7 +2,7 @@
 -- values, and is refused: it is wrong if a variable is poison. It is the best-known wrong rewrite of `select`.
 use Rattle.std.specs.Prelude.{◌≡◌, [], ◌∷◌, false, true}
 use Rattle.ir_types.specs.declared.bits.BitsKind.TheVariants as kind
-use Rattle.dialects_int.specs.declared.operations.Arithmetic.TheVariants as way
+use Rattle.dialects_int.specs.declared.operations.Arithmetic.TheVariants as operator
 use Rattle.user_patterns_check.specs.Checks.{AlwaysKeeps}
 use Rattle.user_patterns_data.specs.declared.pattern.Expression.TheVariants as form
 use Rattle.user_patterns_data.specs.declared.pattern.ExtraConstant.TheVariants as extra
@@ -46,7 +46,7 @@ choice_as_and =
       given = [];
       old = record { form = form.Select 0 1 2; bare = false; ty = 0 } ∷ [];
       root = 3;
-      new = new.Operation (record { form = form.Binary way.And 0 1; bare = false; ty = 0 }) ∷ [];
+      new = new.Operation (record { form = form.Binary operator.And 0 1; bare = false; ty = 0 }) ∷ [];
       result = 4;
     }
 

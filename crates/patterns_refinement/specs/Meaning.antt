@@ -12,7 +12,7 @@ use Rattle.ir_tree.specs.declared.value.Value.TheVariants.{Result, Arg}
 use Rattle.ir_tree.specs.Tree.{RegionsOf, RegionOf, OpsOf, op, no_regions, region, empty, block, no_ops, next, head}
 use Rattle.ir_tree.specs.Meaning.{Operation}
 use Rattle.dialects_int.specs.declared.operations.Arithmetic.{Arithmetic}
-use Rattle.dialects_int.specs.declared.operations.Arithmetic.TheVariants as way
+use Rattle.dialects_int.specs.declared.operations.Arithmetic.TheVariants as operator
 use Rattle.dialects_int.specs.declared.operations.Cast.TheVariants as cast
 use Rattle.dialects_int.specs.declared.operations.Rule.{Rule}
 use Rattle.dialects_int.specs.declared.operations.Rule.TheVariants as rule
@@ -107,26 +107,26 @@ has_flags h = has_flags_by h.properties
 -- Returns whether an operation on two numbers of w bits overflows if they are signed: the signed reading of its
 -- result isn't the sum, the difference, the product or the shifted value of their signed readings.
 abbrev pub overflows_signed : Arithmetic → ℕ → ℕ → ℕ → Bool
-overflows_signed way.Add w a b = not (int_eq (signed_of w (sum_of w a b)) (signed_of w a +ℤ signed_of w b))
-overflows_signed way.Subtract w a b = not (int_eq (signed_of w (difference_of w a b)) (signed_of w a -ℤ signed_of w b))
-overflows_signed way.Multiply w a b = not (int_eq (signed_of w (product_of w a b)) (signed_of w a *ℤ signed_of w b))
-overflows_signed way.ShiftLeft w a n = not (int_eq (signed_of w (product_of w a (2 ^ n))) (signed_of w a *ℤ pos (2 ^ n)))
+overflows_signed operator.Add w a b = not (int_eq (signed_of w (sum_of w a b)) (signed_of w a +ℤ signed_of w b))
+overflows_signed operator.Subtract w a b = not (int_eq (signed_of w (difference_of w a b)) (signed_of w a -ℤ signed_of w b))
+overflows_signed operator.Multiply w a b = not (int_eq (signed_of w (product_of w a b)) (signed_of w a *ℤ signed_of w b))
+overflows_signed operator.ShiftLeft w a n = not (int_eq (signed_of w (product_of w a (2 ^ n))) (signed_of w a *ℤ pos (2 ^ n)))
 overflows_signed o w a b = false
 
 -- Returns whether the operation overflows if the numbers are unsigned.
 abbrev pub overflows_unsigned : Arithmetic → ℕ → ℕ → ℕ → Bool
-overflows_unsigned way.Add w a b = not (sum_of w a b == a + b)
-overflows_unsigned way.Subtract w a b = nat_lt a b
-overflows_unsigned way.Multiply w a b = not (product_of w a b == a * b)
-overflows_unsigned way.ShiftLeft w a n = not (product_of w a (2 ^ n) == a * 2 ^ n)
+overflows_unsigned operator.Add w a b = not (sum_of w a b == a + b)
+overflows_unsigned operator.Subtract w a b = nat_lt a b
+overflows_unsigned operator.Multiply w a b = not (product_of w a b == a * b)
+overflows_unsigned operator.ShiftLeft w a n = not (product_of w a (2 ^ n) == a * 2 ^ n)
 overflows_unsigned o w a b = false
 
 -- Returns whether a division or a right shift is inexact: the result times the divisor isn't the dividend.
 abbrev pub is_inexact : Arithmetic → ℕ → ℕ → ℕ → Bool
-is_inexact way.DivideSigned w a b = not (int_eq (int_div (signed_of w a) (signed_of w b) *ℤ signed_of w b) (signed_of w a))
-is_inexact way.DivideUnsigned w a b = not ((a / b) * b == a)
-is_inexact way.ShiftRightSigned w a n = not (int_eq (int_shr (signed_of w a) n *ℤ pos (2 ^ n)) (signed_of w a))
-is_inexact way.ShiftRightUnsigned w a n = not ((a / 2 ^ n) * 2 ^ n == a)
+is_inexact operator.DivideSigned w a b = not (int_eq (int_div (signed_of w a) (signed_of w b) *ℤ signed_of w b) (signed_of w a))
+is_inexact operator.DivideUnsigned w a b = not ((a / b) * b == a)
+is_inexact operator.ShiftRightSigned w a n = not (int_eq (int_shr (signed_of w a) n *ℤ pos (2 ^ n)) (signed_of w a))
+is_inexact operator.ShiftRightUnsigned w a n = not ((a / 2 ^ n) * 2 ^ n == a)
 is_inexact o w a b = false
 
 -- Returns whether known operands break the flags of an operation: `nsw` and `nuw` of `addi`, `subi`, `muli` and

@@ -31,8 +31,8 @@ NotesAreTrue = (b : RegistryModel) → IsReached b → (name : List ℕ) (k : Ke
 -- the form of each pattern whose new side makes no `divsi` passes the tests of the laws
 abbrev pub FormsAreSound : Type 0
 FormsAreSound =
-    (b : RegistryModel) → IsReached b → (name : List ℕ) (k : Kept) → found name b ≡ Some k → is_without_quotients k.shape ≡ true
-    → is_sound_form k.shape ≡ true
+    (b : RegistryModel) → IsReached b → (name : List ℕ) (k : Kept) → found name b ≡ Some k → is_without_quotients k.rewrite_pattern ≡ true
+    → is_sound_form k.rewrite_pattern ≡ true
 
 -- ---- rules and patterns of a command
 
@@ -41,7 +41,7 @@ FormsAreSound =
 abbrev pub IsNotedIn : RegistryModel → RuleOrPatternModel → Type 0
 IsNotedIn b (OfRule r) = In r kept_rules
 IsNotedIn b (OfUserPattern p) =
-    (name : List ℕ) × (k : Kept) × (found name b ≡ Some k) × (k.said ≡ Some summary.AllWidths) × (k.shape ≡ p) × (is_without_quotients p ≡ true)
+    (name : List ℕ) × (k : Kept) × (found name b ≡ Some k) × (k.said ≡ Some summary.AllWidths) × (k.rewrite_pattern ≡ p) × (is_without_quotients p ≡ true)
 
 abbrev pub NotedAreProved : Type 0
 NotedAreProved = (b : RegistryModel) → IsReached b → (t : RuleOrPatternModel) → IsNotedIn b t → IsProved t
@@ -65,5 +65,5 @@ NotedRewriteRefines =
 -- `select(c, a, false) => andi(c, a)`, which is wrong if `a` is poison, is never noted as `holds` without a width
 abbrev pub WrongIsNeverNoted : Type 0
 WrongIsNeverNoted =
-    (b : RegistryModel) → IsReached b → (name : List ℕ) (k : Kept) → found name b ≡ Some k → k.shape ≡ choice_as_and
+    (b : RegistryModel) → IsReached b → (name : List ℕ) (k : Kept) → found name b ≡ Some k → k.rewrite_pattern ≡ choice_as_and
     → k.said ≡ Some summary.AllWidths → ⊥

@@ -94,7 +94,7 @@ pub record Stays (n : ℕ) (t u : Operation) (a now : Assignment) (later : ℕ �
 pub record Shows (a now : Assignment) (m : Module) (later : ℕ → Bool) (t : Operation) : Type 0 where
   pub root : is_arithmetic (head m.tree) ≡ false → Stays m.next m.tree t a now later (head m.tree) (head t)
   pub follows : RegionsFollow (Stays m.next m.tree t a now later) (shown_regions (regions m.tree)) (shown_regions (regions t))
-  pub plain : (v : Value) → owner v < m.next → is_computed m.tree v ≡ false → is_computed t v ≡ false
+  pub simple : (v : Value) → owner v < m.next → is_computed m.tree v ≡ false → is_computed t v ≡ false
   pub origins : (o : Origins) → AreOrigins m.next a o later m.tree → AreOrigins m.next now o later t
 
 -- ---- a corollary

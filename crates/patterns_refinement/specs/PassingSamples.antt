@@ -6,7 +6,7 @@ use Rattle.ir_types.specs.Terms.{IntegerOf}
 use Rattle.ir_tree.specs.declared.value.Value.TheVariants.{Arg, Result}
 use Rattle.ir_tree.specs.Tree.{block, next, no_ops, no_regions, op, region}
 use Rattle.ir_event.specs.Modules.{Module}
-use Rattle.dialects_int.specs.declared.operations.Arithmetic.TheVariants as way
+use Rattle.dialects_int.specs.declared.operations.Arithmetic.TheVariants as operator
 use Rattle.dialects_int.specs.declared.operations.Cast.TheVariants as cast
 use Rattle.patterns_base.specs.Rewrites.{becomes}
 use Rattle.user_patterns_data.specs.declared.pattern.TypeConstraint.TheVariants as requested
@@ -37,12 +37,12 @@ cut_sum =
       extra = [];
       type_constraints = requested.Narrower 1 0 ∷ [];
       given = [];
-      old = record { form = form.Binary way.Add 0 1; bare = false; ty = 0 } ∷ record { form = form.IntegerCast cast.Truncate 2; bare = false; ty = 1 } ∷ [];
+      old = record { form = form.Binary operator.Add 0 1; bare = false; ty = 0 } ∷ record { form = form.IntegerCast cast.Truncate 2; bare = false; ty = 1 } ∷ [];
       root = 3;
       new =
           new.Operation (record { form = form.IntegerCast cast.Truncate 0; bare = false; ty = 1 })
           ∷ new.Operation (record { form = form.IntegerCast cast.Truncate 1; bare = false; ty = 1 })
-          ∷ new.Operation (record { form = form.Binary way.Add 4 5; bare = false; ty = 1 }) ∷ [];
+          ∷ new.Operation (record { form = form.Binary operator.Add 4 5; bare = false; ty = 1 }) ∷ [];
       result = 6;
     }
 

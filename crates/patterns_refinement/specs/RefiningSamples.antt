@@ -111,7 +111,7 @@ pub record SampleIsRefined : Type 0 where
   pub computing : Computing five all_done before.tree
   pub origins : AreOrigins before.next five (arguments_of 2) all_done before.tree
   pub applies : rewrite_of DropZero before 4 ≡ becomes after
-  pub plain : IsPlain before
+  pub simple : IsPlain before
   pub canonicalizes : canonicalization_of 10 before ≡ ended canonical 2 converged
   pub observed_before : observed five (arguments_of 2) all_done before.tree ≡ functions_observed (ending_observed (record { value = None; outcome = Some (kind.Int 8, 5) }))
   pub observed_after : observed five (arguments_of 2) all_done after.tree ≡ functions_observed (ending_observed (record { value = Some (Arg 2 0 0); outcome = Some (kind.Int 8, 5) }))

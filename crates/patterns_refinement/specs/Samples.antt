@@ -8,7 +8,7 @@ use Rattle.ir_tree.specs.declared.value.Value.{Value}
 use Rattle.ir_tree.specs.declared.value.Value.TheVariants.{Result, Arg}
 use Rattle.ir_tree.specs.Tree.{op, no_regions, region, block, next, no_ops}
 use Rattle.ir_tree.specs.Meaning.{Operation}
-use Rattle.dialects_int.specs.declared.operations.Arithmetic.TheVariants as way
+use Rattle.dialects_int.specs.declared.operations.Arithmetic.TheVariants as operator
 use Rattle.patterns_laws.specs.Made.{Entries, binary, constant}
 use Rattle.user_patterns_check.specs.declared.verdict.Verdict.TheVariants as verdict
 use Rattle.user_patterns_check.specs.Checks.{AlwaysKeeps}
@@ -73,9 +73,9 @@ twice =
       extra = [];
       type_constraints = [];
       given = number.Log2 1 ∷ [];
-      old = record { form = form.Binary way.Multiply 0 1; bare = false; ty = 1 } ∷ [];
+      old = record { form = form.Binary operator.Multiply 0 1; bare = false; ty = 1 } ∷ [];
       root = 3;
-      new = new.Constant 2 1 ∷ new.Operation (record { form = form.Binary way.ShiftLeft 0 4; bare = false; ty = 0 }) ∷ [];
+      new = new.Constant 2 1 ∷ new.Operation (record { form = form.Binary operator.ShiftLeft 0 4; bare = false; ty = 0 }) ∷ [];
       result = 5;
     }
 

@@ -6,7 +6,7 @@ use Rattle.ir_tree.specs.declared.value.Value.TheVariants.{Arg, Result}
 use Rattle.ir_tree.specs.Tree.{block, next, no_ops, no_regions, op, region}
 use Rattle.ir_event.specs.Modules.{Module}
 use Rattle.dialects_int.specs.declared.operations.Arithmetic.{Arithmetic}
-use Rattle.dialects_int.specs.declared.operations.Arithmetic.TheVariants as way
+use Rattle.dialects_int.specs.declared.operations.Arithmetic.TheVariants as operator
 use Rattle.patterns_base.specs.Rewrites.{becomes}
 use Rattle.user_patterns_data.specs.declared.pattern.Expression.TheVariants as form
 use Rattle.user_patterns_data.specs.declared.pattern.PatternType.TheVariants as ty
@@ -40,8 +40,8 @@ undone there back =
 -- differences undo sums, by polynomials; exclusive or undoes itself, bit by bit
 abbrev pub SamplesAreStrict : Type 0
 SamplesAreStrict =
-    (IsProper (undone way.Add way.Subtract) × (is_strict (undone way.Add way.Subtract) ≡ true) × (is_one_polynomial (undone way.Add way.Subtract) ≡ true))
-    × (IsProper (undone way.ExclusiveOr way.ExclusiveOr) × (is_strict (undone way.ExclusiveOr way.ExclusiveOr) ≡ true) × (is_bit_by_bit (undone way.ExclusiveOr way.ExclusiveOr) ≡ true))
+    (IsProper (undone operator.Add operator.Subtract) × (is_strict (undone operator.Add operator.Subtract) ≡ true) × (is_one_polynomial (undone operator.Add operator.Subtract) ≡ true))
+    × (IsProper (undone operator.ExclusiveOr operator.ExclusiveOr) × (is_strict (undone operator.ExclusiveOr operator.ExclusiveOr) ≡ true) × (is_bit_by_bit (undone operator.ExclusiveOr operator.ExclusiveOr) ≡ true))
 
 -- ---- a module
 abbrev pub crossed : Module
@@ -82,4 +82,4 @@ poisoned (Arg x r k) = None
 
 -- the module is ready and computes with these outcomes, and the pattern applies
 abbrev pub SampleIsReady : Type 0
-SampleIsReady = IsReady crossed × Computing poisoned all_done crossed.tree × (user_pattern_rewrite (undone way.ExclusiveOr way.ExclusiveOr) crossed 4 ≡ becomes uncrossed)
+SampleIsReady = IsReady crossed × Computing poisoned all_done crossed.tree × (user_pattern_rewrite (undone operator.ExclusiveOr operator.ExclusiveOr) crossed 4 ≡ becomes uncrossed)

@@ -56,7 +56,7 @@ pub record IsVerified (m : Module) : Type 0 where
   pub sorted : IsSorted m
   pub in_range : Each (λ h. is_in_range h ≡ true) m.tree
   pub within : Each (λ h. is_within m.tree h ≡ true) m.tree
-  pub silent : diagnostics_of m.tree ≡ []
+  pub reports_nothing : diagnostics_of m.tree ≡ []
 
 -- Such a module is ready.
 abbrev pub VerifiedIsReady : Type 0

@@ -19,7 +19,7 @@ use Rattle.ir_event.proofs.of_tree_laws.Members.{HasAround, has_around, itself, 
 use Rattle.ir_event.proofs.of_tree_laws.Around.{around_there, gone_within, present_stand, stand_present}
 use Rattle.ir_event.proofs.of_tree_laws.Put.{child}
 use Rattle.ir_event.proofs.of_tree_laws.DominatedBy.{visible_there}
-use Rattle.ir_event.proofs.of_tree_laws.Values.{shape}
+use Rattle.ir_event.proofs.of_tree_laws.Values.{shaped_as}
 use Rattle.patterns_base.proofs.Preceding.{cut_at, stands_before, joined_cut}
 use Rattle.patterns_base.proofs.Inner.{seen_outside}
 use Rattle.patterns_base.proofs.Moved.{deeper}
@@ -77,7 +77,7 @@ module _ {N T A : Type 0} where
           let steps : g.step_in ≡ e.step_in = cc in
           let l = ap (λ (s : StepOf N T A). length s.preceding) steps in
           let n = ap length g.preceding in
-          let m = long g.step_in.preceding e.first g.between in
+          let m = long g.step_in.preceding e.first g.intermediate in
           absurd (omega (arith, l, n, m)))
     ]
       where
@@ -124,15 +124,15 @@ module _ {N T A : Type 0} where
             let same = same_stand t d (stand f.0 (g.step_in ∷ q)) (stand z (step xo r args us (joined_ops vs no_ops) ∷ xp)) g.there (one_stands us vs z parts) (sym id) in
             let paths : g.step_in ∷ q ≡ step xo r args us (joined_ops vs no_ops) ∷ xp = ap (λ (s : OpWithPathOf N T A). s.path) same in
             let steps : g.step_in ≡ step xo r args us (joined_ops vs no_ops) = cc in
-            let its : a.preceding ≡ us ++ z ∷ g.between = g.preceding ∙ (λ i. (steps i).preceding ++ (same i).here ∷ g.between) in
+            let its : a.preceding ≡ us ++ z ∷ g.intermediate = g.preceding ∙ (λ i. (steps i).preceding ++ (same i).here ∷ g.intermediate) in
             let blocks : Some (block a.args (joined_ops a.preceding (next w a.rest))) ≡ Some (block args (joined_ops all no_ops)) =
-            sym (shape t w a q h) ∙ (λ i. region_at ((sym g.region ∙ ap (λ (s : StepOf N T A). s.region) steps) i) (regions ((sym g.parent ∙ ap (λ (s : StepOf N T A). s.parent) steps) i))) ∙ is in
+            sym (shaped_as t w a q h) ∙ (λ i. region_at ((sym g.region ∙ ap (λ (s : StepOf N T A). s.region) steps) i) (regions ((sym g.parent ∙ ap (λ (s : StepOf N T A). s.parent) steps) i))) ∙ is in
             let lists : joined_ops a.preceding (next w a.rest) ≡ joined_ops all no_ops = cc in
-            let whole : us ++ (z ∷ g.between ++ w ∷ listed a.rest) ≡ us ++ z ∷ vs =
-            sym (append_assoc us (z ∷ g.between) (w ∷ listed a.rest)) ∙ ap (λ l. l ++ w ∷ listed a.rest) (sym its) ∙ sym (listed_next a.preceding w a.rest) ∙ ap listed lists ∙ listed_all all ∙ parts in
-            let rest : z ∷ g.between ++ w ∷ listed a.rest ≡ z ∷ vs = cancelled us (z ∷ g.between ++ w ∷ listed a.rest) (z ∷ vs) whole in
-            let trailing : g.between ++ w ∷ listed a.rest ≡ vs = cc in
-            (w, subst (In w) trailing (in_right w g.between (w ∷ listed a.rest) (inl refl)), own_id w))
+            let whole : us ++ (z ∷ g.intermediate ++ w ∷ listed a.rest) ≡ us ++ z ∷ vs =
+            sym (append_assoc us (z ∷ g.intermediate) (w ∷ listed a.rest)) ∙ ap (λ l. l ++ w ∷ listed a.rest) (sym its) ∙ sym (listed_next a.preceding w a.rest) ∙ ap listed lists ∙ listed_all all ∙ parts in
+            let rest : z ∷ g.intermediate ++ w ∷ listed a.rest ≡ z ∷ vs = cancelled us (z ∷ g.intermediate ++ w ∷ listed a.rest) (z ∷ vs) whole in
+            let trailing : g.intermediate ++ w ∷ listed a.rest ≡ vs = cc in
+            (w, subst (In w) trailing (in_right w g.intermediate (w ∷ listed a.rest) (inl refl)), own_id w))
         | inr m ↦ (let b = both (not (isolated (head a.parent).name)) (dominated_by isolated q (Result (head z).id k)) m in
             let r = users_after isolated us vs z parts a.parent q (around_there t w a q h).1 k b.1 in
             let c = cut_at r.0 vs r.1 in
@@ -151,7 +151,7 @@ module _ {N T A : Type 0} where
               let id = eqb-true (head xo).id (head a.parent).id c.0 in
               let re = eqb-true r a.region (both (eqb r a.region) _ c.1).0 in
               let same = same_stand t d (stand xo xp) (stand a.parent q) up (around_there t w a q h).1 id in
-              let blocks : Some (block a.args (joined_ops a.preceding (next w a.rest))) ≡ Some (block args (joined_ops all no_ops)) = sym (shape t w a q h) ∙ (λ i. region_at (sym re i) (regions (sym same i).here)) ∙ is in
+              let blocks : Some (block a.args (joined_ops a.preceding (next w a.rest))) ≡ Some (block args (joined_ops all no_ops)) = sym (shaped_as t w a q h) ∙ (λ i. region_at (sym re i) (regions (sym same i).here)) ∙ is in
               let lists : joined_ops a.preceding (next w a.rest) ≡ joined_ops all no_ops = cc in
               let whole : a.preceding ++ w ∷ listed a.rest ≡ all = sym (listed_next a.preceding w a.rest) ∙ ap listed lists ∙ listed_all all in
               (w, subst (In w) whole (in_right w a.preceding (w ∷ listed a.rest) (inl refl)), own_id w))

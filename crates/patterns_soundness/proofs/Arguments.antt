@@ -153,7 +153,7 @@ pub record Taking (x : ℕ) (insertion : Place) (args : List TypeTerm) (held : L
   pub is : region_at 0 (regions located.at.here) ≡ Some (block args list)
   pub ids : list_ids list ≡ held
   pub opened : is_isolated (head located.at.here).name ≡ false
-  pub plain : is_table (head located.at.here).name ≡ false
+  pub simple : is_table (head located.at.here).name ≡ false
 
 module _ (x : ℕ) (insertion : Place) (args : List TypeTerm) (held : List ℕ) where
   -- the types of the arguments
@@ -201,7 +201,7 @@ module _ (x : ℕ) (insertion : Place) (args : List TypeTerm) (held : List ℕ) 
       is = each_region f h.located.at.here 0 ∙ ap (option_map (region_each_head f)) h.is;
       ids = each_ids f h.list (λ g. refl) ∙ h.ids;
       opened = ap is_isolated (same_name h.located.at.here) ∙ h.opened;
-      plain = ap is_table (same_name h.located.at.here) ∙ h.plain;
+      simple = ap is_table (same_name h.located.at.here) ∙ h.simple;
     }
 
     dominated_by_after : (w : Value) → dominated_by x w (edited (Replace (Arg x 0 n) v) m) ≡ dominated_by x w m

@@ -135,7 +135,7 @@ pub joined_ids : (fs : List Operation) (l : Operation) → list_ids (joined_ops 
 joined_ids [] l = refl
 joined_ids (f ∷ fs) l = ap (λ is. (head f).id ∷ is) (joined_ids fs l)
 
-module _ (m : Module) (o : Operation) (insertion : Place) (s : Point m o insertion) (r : ℕ) (e : Ended) (n : Ending m.tree o r e) (opened : is_isolated (head o).name ≡ false) (plain : is_table (head o).name ≡ false) (spared : (k : ℕ) → uses_of (Arg (head o).id r k) m.tree ≡ []) where
+module _ (m : Module) (o : Operation) (insertion : Place) (s : Point m o insertion) (r : ℕ) (e : Ended) (n : Ending m.tree o r e) (opened : is_isolated (head o).name ≡ false) (simple : is_table (head o).name ≡ false) (spared : (k : ℕ) → uses_of (Arg (head o).id r k) m.tree ≡ []) where
   pub has_first : HasFirst (head o).id r insertion (e.before ++ e.last.id ∷ []) m
   has_first = record {
     located = stands_there m o insertion s;
@@ -144,6 +144,6 @@ module _ (m : Module) (o : Operation) (insertion : Place) (s : Point m o inserti
     is = ap (λ z. region_at r (regions z)) (here_is m o insertion s) ∙ n.block;
     ids = joined_ids n.preceding n.last ∙ λ i. sym n.before i ++ (sym n.is i).id ∷ [];
     opened = ap (λ z. is_isolated (head z).name) (here_is m o insertion s) ∙ opened;
-    plain = ap (λ z. is_table (head z).name) (here_is m o insertion s) ∙ plain;
+    simple = ap (λ z. is_table (head z).name) (here_is m o insertion s) ∙ simple;
     spared = spared;
   }

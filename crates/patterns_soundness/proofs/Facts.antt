@@ -21,37 +21,37 @@ use Rattle.patterns_soundness.proofs.Blocks.{open_branch_facts, open_loop_facts,
 use Rattle.patterns_soundness.proofs.Expanding.{expand_min_max_facts, expand_difference_facts, expand_remainder_facts}
 use Rattle.patterns_soundness.proofs.Lowering.{lower_index_facts, lower_loop_facts, lower_choice_facts}
 
-pub facts : (r : Rule) → Soundness r
-facts EraseDead = erase_dead_facts
-facts FoldToConstant = fold_to_constant_facts
-facts SwapConstant = swap_constant_facts
-facts DropZero = drop_zero_facts
-facts DropOne = drop_one_facts
-facts DropAllOnes = drop_all_ones_facts
-facts CancelItself = cancel_itself_facts
-facts KeepItself = keep_itself_facts
-facts ZeroRemainder = zero_remainder_facts
-facts RegroupConstants = regroup_constants_facts
-facts AddNegative = add_negative_facts
-facts CompareItself = compare_itself_facts
-facts MirrorComparison = mirror_comparison_facts
-facts CompareZero = compare_zero_facts
-facts ChooseSame = choose_same_facts
-facts ChooseKnown = choose_known_facts
-facts ChooseTruth = choose_truth_facts
-facts ChooseOpposite = choose_opposite_facts
-facts ExtendExtension = extend_extension_facts
-facts CutCast = cut_cast_facts
-facts CastBack = cast_back_facts
-facts OpenBranch = open_branch_facts
-facts OpenLoop = open_loop_facts
-facts StopLoop = stop_loop_facts
-facts ExpandMinMax = expand_min_max_facts
-facts ExpandDifference = expand_difference_facts
-facts ExpandRemainder = expand_remainder_facts
-facts LowerIndex = lower_index_facts
-facts LowerLoop = lower_loop_facts
-facts LowerChoice = lower_choice_facts
+pub soundness : (r : Rule) → Soundness r
+soundness EraseDead = erase_dead_facts
+soundness FoldToConstant = fold_to_constant_facts
+soundness SwapConstant = swap_constant_facts
+soundness DropZero = drop_zero_facts
+soundness DropOne = drop_one_facts
+soundness DropAllOnes = drop_all_ones_facts
+soundness CancelItself = cancel_itself_facts
+soundness KeepItself = keep_itself_facts
+soundness ZeroRemainder = zero_remainder_facts
+soundness RegroupConstants = regroup_constants_facts
+soundness AddNegative = add_negative_facts
+soundness CompareItself = compare_itself_facts
+soundness MirrorComparison = mirror_comparison_facts
+soundness CompareZero = compare_zero_facts
+soundness ChooseSame = choose_same_facts
+soundness ChooseKnown = choose_known_facts
+soundness ChooseTruth = choose_truth_facts
+soundness ChooseOpposite = choose_opposite_facts
+soundness ExtendExtension = extend_extension_facts
+soundness CutCast = cut_cast_facts
+soundness CastBack = cast_back_facts
+soundness OpenBranch = open_branch_facts
+soundness OpenLoop = open_loop_facts
+soundness StopLoop = stop_loop_facts
+soundness ExpandMinMax = expand_min_max_facts
+soundness ExpandDifference = expand_difference_facts
+soundness ExpandRemainder = expand_remainder_facts
+soundness LowerIndex = lower_index_facts
+soundness LowerLoop = lower_loop_facts
+soundness LowerChoice = lower_choice_facts
 
 -- a rule of canonicalization isn't a lowering rule
 pub lowers_not : (r : Rule) → is_canonical r ≡ true → is_lowering r ≡ false

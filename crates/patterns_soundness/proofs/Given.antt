@@ -29,7 +29,7 @@ use Rattle.patterns_soundness.specs.base.Casting.{cast_back, through_index, unre
 use Rattle.patterns_soundness.specs.base.Folding.{is_all_ones, drop_zero, drop_one, drop_all_ones, keep_itself, choose_same, choose_known, choose_truth}
 use Rattle.patterns_soundness.proofs.Typed.{ChoiceTypes, a_choice, among_each, choice_is, choices_are, conjunction_is, ignoring_one_are, ignoring_zero_are, keeping_are, named_is, number_is, two_numbers, typed, types_at}
 use Rattle.patterns_soundness.proofs.Points.{DefiningOp, Point, here_is, dominated_by_after, dominated_by_operand, stands_there}
-use Rattle.patterns_soundness.proofs.Limits as fit
+use Rattle.patterns_soundness.proofs.Limits as fits_in
 use Rattle.patterns_soundness.proofs.Limits.{IsWithinLimits}
 use Rattle.patterns_soundness.proofs.Shapes.{one_is, source_is, three_is, two_is}
 use Rattle.patterns_laws.proofs.KnownFolds.{given_some}
@@ -63,7 +63,7 @@ module _ (m : Module) (o : Operation) (insertion : Place) (s : Point m o inserti
       → HasHeadroom m es → Free es m
   gives es v ty one is seen u of same headroom =
       subst (λ z. HasHeadroom m z → Free z m) (same_Some (give x v) es is)
-      (λ (r : HasHeadroom m (give x v)). fit.given x insertion ty 0 m (fits ty one 0 r.0 r.1) v seen u of same) headroom
+      (λ (r : HasHeadroom m (give x v)). fits_in.given x insertion ty 0 m (fits ty one 0 r.0 r.1) v seen u of same) headroom
 
   -- the first of two numbers
   gives_number : (es : List Edit) (a b : Value) (ty : TypeTerm) → types_at (head o).name ≡ Some two_numbers → (head o).operands ≡ a ∷ b ∷ [] → (head o).results ≡ ty ∷ [] → Some (give (head o).id a) ≡ Some es → HasHeadroom m es → Free es m

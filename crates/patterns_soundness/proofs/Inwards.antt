@@ -64,7 +64,7 @@ IsFirst (p ∷ vs) t = (o : Operation) → In o vs → Before (head p).id (head 
 
 module _ (x y r : ℕ) (insertion : Place) (hx hy : Header) (deep : ℕ) (y_opened : is_isolated hy.name ≡ false) (y_plain : is_table hy.name ≡ false)
     (m : Module) (s : Across x y insertion hx hy deep m) (into : HasBlock y r m.tree) (z : Operation) (before : Before (head z).id y m.tree) (at : find (head z).id m.tree ≡ Some z) (vs : List Operation) (came : (o : Operation) → In o vs → Came y r m.tree o) (first : IsFirst vs m.tree)
-    (fit : IsWithinLimits x y insertion hx hy deep z) (fits : (o : Operation) → In o vs → IsWithinLimits x y insertion hx hy deep o) (lacks : (o : Operation) → In o vs → Lack z o) (users : UsedBy z vs m.tree) where
+    (fits_in : IsWithinLimits x y insertion hx hy deep z) (fits : (o : Operation) → In o vs → IsWithinLimits x y insertion hx hy deep o) (lacks : (o : Operation) → In o vs → Lack z o) (users : UsedBy z vs m.tree) where
   abbrev t : Operation
   t = m.tree
 
@@ -105,8 +105,8 @@ module _ (x y r : ℕ) (insertion : Place) (hx hy : Header) (deep : ℕ) (y_open
   outside = go vs lacks
     where
       go : (vs : List Operation) → ((o : Operation) → In o vs → Lack z o) → leads_inside (record { parent = y; region = r; before = first_came vs }) (Some z) ≡ false
-      go [] l = λ i. fit.y_out i || false
-      go (p ∷ vs) l = λ i. fit.y_out i || (l p (inl refl)).0 i
+      go [] l = λ i. fits_in.y_out i || false
+      go (p ∷ vs) l = λ i. fits_in.y_out i || (l p (inl refl)).0 i
 
   abbrev after : Operation
   after = put (record { parent = y; region = r; before = first_came vs }) z (without (head z).id m.tree)
@@ -160,29 +160,29 @@ module _ (x y r : ℕ) (insertion : Place) (hx hy : Header) (deep : ℕ) (y_open
   more v u e =
       let by_z : visible is_isolated t zi v ≡ true = visible_there is_isolated t d (stand z z_path.0) z_path.1 v ∙ e in
       let by_y = later_dominated_by is_isolated t d zi y before v by_z in
-      let yn = there_of (find y after) hy (moving.head_same is_isolated is_table m s.located.wellformed z place_of_it found root point outside y y_there fit.y_out ∙ s.y_is) in
+      let yn = there_of (find y after) hy (moving.head_same is_isolated is_table m s.located.wellformed z place_of_it found root point outside y y_there fits_in.y_out ∙ s.y_is) in
       inner_dominated_by is_isolated after d' y r zi now_inside yn.0 yn.1 (ap (λ (h : Header). is_isolated h.name) yn.2 ∙ y_opened) v
-      (moving.dominance is_isolated is_table m s.located.wellformed z place_of_it found root point outside y y_there fit.y_out v (not_its (eqb (owner_of v).0 zi) refl) ∙ by_y)
+      (moving.dominance is_isolated is_table m s.located.wellformed z place_of_it found root point outside y y_there fits_in.y_out v (not_its (eqb (owner_of v).0 zi) refl) ∙ by_y)
     where
       not_its : (b : Bool) → eqb (owner_of v).0 (head z).id ≡ b → eqb (owner_of v).0 (head z).id ≡ false
       not_its false k = k
       not_its true k = absurd (not_own is_isolated t d (stand z z_path.0) z_path.1 v e (eqb-true (owner_of v).0 zi k))
 
   users_ok : (k : ℕ) → k < length (head z).results → list_all (λ u. visible is_isolated (put (record { parent = y; region = r; before = first_came vs }) z (without (head z).id m.tree)) u.0 (Result (head z).id k)) (uses_of (Result (head z).id k) m.tree) ≡ true
-  users_ok k l = users_moved x y insertion hx hy deep m s z place_of_it found root point outside fit vs users (λ o i. (came o i).1) lacks (λ o i. (fits o i).y_out)
+  users_ok k l = users_moved x y insertion hx hy deep m s z place_of_it found root point outside fits_in vs users (λ o i. (came o i).1) lacks (λ o i. (fits o i).y_out)
       (λ o i j n. later_shows is_isolated after d' zi (head o).id (now_first o i) z now_found j (lt-ltb j (length (head z).results) n)) k l
 
   y_now : (o : Operation) × (find y (put (record { parent = y; region = r; before = first_came vs }) z (without (head z).id m.tree)) ≡ Some o) × (head o ≡ hy)
-  y_now = there_of (find y after) hy (moving.head_same is_isolated is_table m s.located.wellformed z place_of_it found root point outside y y_there fit.y_out ∙ s.y_is)
+  y_now = there_of (find y after) hy (moving.head_same is_isolated is_table m s.located.wellformed z place_of_it found root point outside y y_there fits_in.y_out ∙ s.y_is)
 
   tables : table_of is_table (head z).id m.tree ≡ table_of is_table (head z).id (put (record { parent = y; region = r; before = first_came vs }) z (without (head z).id m.tree))
   tables =
       later_table is_table t d zi y before
-      ∙ sym (moving.table_same is_isolated is_table m s.located.wellformed z place_of_it found root point outside y y_there fit.y_out)
+      ∙ sym (moving.table_same is_isolated is_table m s.located.wellformed z place_of_it found root point outside y y_there fits_in.y_out)
       ∙ sym (inner_table is_table after d' y r zi now_inside y_now.0 y_now.1 (ap (λ (h : Header). is_table h.name) y_now.2 ∙ y_plain))
 
   levels : fits_around (depth z) (around y m.tree) ≡ true
-  levels = (let few = fit.levels in ap (fits_around (depth z)) (later_around t d y x s.before ∙ s.depths) ∙ le-leb (deep + 1 + depth z) most_around few)
+  levels = (let few = fits_in.levels in ap (fits_around (depth z)) (later_around t d y x s.before ∙ s.depths) ∙ le-leb (deep + 1 + depth z) most_around few)
 
   -- the move isn't refused
   pub in_reason : edit_reason (Move (head z).id (record { parent = y; region = r; before = first_came vs })) m ≡ None
@@ -199,10 +199,10 @@ module _ (x y r : ℕ) (insertion : Place) (hx hy : Header) (deep : ℕ) (y_open
 
   -- x and y stay as they were
   pub in_across : Across x y insertion hx hy deep (record m { tree = put (record { parent = y; region = r; before = first_came vs }) z (without (head z).id m.tree) })
-  in_across = across_moved x y insertion hx hy deep m s z place_of_it found root point outside fit in_wellformed (λ v own e n.
+  in_across = across_moved x y insertion hx hy deep m s z place_of_it found root point outside fits_in in_wellformed (λ v own e n.
       absurd (inner_unseen is_isolated after d' y r x zi
-      (moving.before_same is_isolated is_table m s.located.wellformed z place_of_it found root point outside x x_there fit.x_out y
-      (kept.apart is_isolated is_table m s.located.wellformed z place_of_it found root point outside (λ b. ⊥) (λ b h. absurd h) (λ b h. absurd h) y fit.y_out) s.before) now_inside v own n e))
+      (moving.before_same is_isolated is_table m s.located.wellformed z place_of_it found root point outside x x_there fits_in.x_out y
+      (kept.apart is_isolated is_table m s.located.wellformed z place_of_it found root point outside (λ b. ⊥) (λ b h. absurd h) (λ b h. absurd h) y fits_in.y_out) s.before) now_inside v own n e))
 
   pub in_block : (p q : ℕ) → has_id p z ≡ false → HasBlock p q m.tree → HasBlock p q (put (record { parent = y; region = r; before = first_came vs }) z (without (head z).id m.tree))
   in_block p q out b = moving.block_same is_isolated is_table m s.located.wellformed z place_of_it found root point outside p q out b
@@ -217,7 +217,7 @@ module _ (x y r : ℕ) (insertion : Place) (hx hy : Header) (deep : ℕ) (y_open
   pub in_moved : (o : Operation) → Lack z o → has_id y o ≡ false → Before (head o).id y m.tree → find (head o).id m.tree ≡ Some o
       → Before (head o).id y (put (record { parent = y; region = r; before = first_came vs }) z (without (head z).id m.tree)) × (find (head o).id (put (record { parent = y; region = r; before = first_came vs }) z (without (head z).id m.tree)) ≡ Some o)
   in_moved o lack far b at_o = (
-    moving.before_same is_isolated is_table m s.located.wellformed z place_of_it found root point outside y y_there fit.y_out (head o).id
+    moving.before_same is_isolated is_table m s.located.wellformed z place_of_it found root point outside y y_there fits_in.y_out (head o).id
         (kept.apart is_isolated is_table m s.located.wellformed z place_of_it found root point outside (λ b. ⊥) (λ b h. absurd h) (λ b h. absurd h) (head o).id lack.0) b,
     moving.literal is_isolated is_table m s.located.wellformed z place_of_it found root point outside o at_o lack.0 lack.1 far,
   )
@@ -237,10 +237,10 @@ module _ (x y r : ℕ) (insertion : Place) (hx hy : Header) (deep : ℕ) (y_open
 
   pub in_side : (q : ℕ) (targs : List TypeTerm) (ws : List Operation) → ((o : Operation) → In o ws → (has_id (head z).id o ≡ false) × (has_id y o ≡ false)) → region_at q (regions s.located.at.here) ≡ Some (block targs (joined_ops ws no_ops))
       → region_at q (regions in_across.located.at.here) ≡ Some (block targs (joined_ops ws no_ops))
-  in_side q targs ws lacks side = side_moved x y insertion hx hy deep m s z place_of_it found root point outside fit in_across.located q targs ws lacks (λ i. two_apart x y insertion hx hy deep m s i && eqb q r) side
+  in_side q targs ws lacks side = side_moved x y insertion hx hy deep m s z place_of_it found root point outside fits_in in_across.located q targs ws lacks (λ i. two_apart x y insertion hx hy deep m s i && eqb q r) side
 
   pub in_count : op_count (put (record { parent = y; region = r; before = first_came vs }) z (without (head z).id m.tree)) ≡ op_count m.tree
-  in_count = count_moved x y insertion hx hy deep m s z place_of_it found root point outside fit
+  in_count = count_moved x y insertion hx hy deep m s z place_of_it found root point outside fits_in
 
   -- if none moved earlier, the operations in the block come before z
   pub in_last : vs ≡ [] → (c : ℕ) → Inside y r c (put (record { parent = y; region = r; before = first_came vs }) z (without (head z).id m.tree)) → eqb c (head z).id ≡ false → Before c (head z).id (put (record { parent = y; region = r; before = first_came vs }) z (without (head z).id m.tree))

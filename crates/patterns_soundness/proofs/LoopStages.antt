@@ -66,7 +66,7 @@ use Rattle.patterns_soundness.proofs.Moving.{HasBlock}
 use Rattle.patterns_soundness.proofs.NearAccepted.{result_type, results_in, there_by, there_is as there_by_results}
 use Rattle.patterns_soundness.proofs.Opened.{last_there}
 use Rattle.patterns_soundness.proofs.Ordered.{Before, inner_shows, later_shows, put_after}
-use Rattle.patterns_soundness.proofs.PairsAccepted.{AllHeld, AllNew, PlaceholderProperties, by_case, holds, holds_other, in_pairs, less_apart, more_apart, pairs, pairs_apart, told}
+use Rattle.patterns_soundness.proofs.PairsAccepted.{AllHeld, AllNew, PlaceholderProperties, by_case, holds, holds_other, in_pairs, less_apart, more_apart, pairs, pairs_apart, reported}
 use Rattle.patterns_soundness.proofs.Erased.{ErasedAll, Held, erase_edits, erased_all}
 use Rattle.patterns_soundness.proofs.Replacing.{Fresh, Holder, Near, Pair, ReplacedAll, pair_edits, replaced_all}
 use Rattle.patterns_soundness.proofs.Phases.{Out, id_of}
@@ -197,7 +197,7 @@ module _ (m : Module) (o : Operation) (preceding : Place) (s : Point m o precedi
     is = has2;
     ids = refl;
     opened = ap (λ (h : Header). is_isolated h.name) x_header2 ∙ ap is_isolated name_is ∙ for_opened;
-    plain = ap (λ (h : Header). is_table h.name) x_header2 ∙ ap is_table name_is ∙ for_plain;
+    simple = ap (λ (h : Header). is_table h.name) x_header2 ∙ ap is_table name_is ∙ for_plain;
   }
 
   -- ---- the placeholders replace the arguments
@@ -334,7 +334,7 @@ module _ (m : Module) (o : Operation) (preceding : Place) (s : Point m o precedi
   new_each (b ∷ ms) k c (ty ∷ tys) a = (a.0, new_each ms (k + 1) (cond b (c + 1) c) tys a.1)
 
   pub counted_rules : (p : Pair) → In p ps → PlaceholderProperties m3.next IsHeld IsNew m1.next (m1.next + length args) m4.next p
-  counted_rules p i = told m3.next IsHeld IsNew (indices args) m1.next 0 m4.next args refl (held_each m1.next args p2.held) (new_each (indices args) 0 m4.next args lo.made) p i
+  counted_rules p i = reported m3.next IsHeld IsNew (indices args) m1.next 0 m4.next args refl (held_each m1.next args p2.held) (new_each (indices args) 0 m4.next args lo.made) p i
 
   pub apart_id : (b : ℕ) (z : Operation) → has_id b z ≡ false → eqb b (head z).id ≡ false
   apart_id b z h = go (eqb b (head z).id) refl

@@ -247,7 +247,7 @@ condition_types m o insertion s name e k =
         let v = verified_unbroken m.tree inner found.0 n.verified inner_located (ap row_of y ∙ found.1) in
         let named_so : is_named z.node (codes "scf.condition") ≡ true = ap (λ h. bytes_eq h.name (codes "scf.condition")) (head_shown n.last) ∙ ap (λ m. bytes_eq m (codes "scf.condition")) y in
         let outside : ended_of z ≡ Some (node_of o) = ap (if_well_shaped (node_of o)) (ap (λ h. row_of h.name) (head_shown o) ∙ listed) ∙ ap (λ b. if◌then◌else◌ b (Some (node_of o)) None) u.shaped in
-        let told = spoken (is_named z.node (codes "scf.condition")) (differ (option_and_then passed (ended_of z)) (drop 1 z.types)) named_so v.passes in
+        let reported = spoken (is_named z.node (codes "scf.condition")) (differ (option_and_then passed (ended_of z)) (drop 1 z.types)) named_so v.passes in
         ap (λ h. same_types (there (head o).results) (drop 1 (map (λ v. type_of_value v m.tree) h.operands))) n.is
         ∙ ap (λ h. same_types (there h.results) (drop 1 z.types)) (sym (head_shown o))
-        ∙ not-false (same_types (there (node_of o).head.results) (drop 1 z.types)) (sym (ap (λ p. differ (option_and_then passed p) (drop 1 z.types)) outside ∙ ap (λ p. differ p (drop 1 z.types)) (while_passes (node_of o) node_name)) ∙ told)
+        ∙ not-false (same_types (there (node_of o).head.results) (drop 1 z.types)) (sym (ap (λ p. differ (option_and_then passed p) (drop 1 z.types)) outside ∙ ap (λ p. differ p (drop 1 z.types)) (while_passes (node_of o) node_name)) ∙ reported)

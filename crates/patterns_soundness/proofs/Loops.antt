@@ -53,7 +53,7 @@ module _ (m : Module) (o : Operation) (insertion : Place) (s : Point m o inserti
 
   -- the first block is inserted before x, with values for its arguments, and its terminator's operands replace the
   -- results
-  module _ (e : Ended) (ends : body m.tree o 0 ≡ Some e) (opens : is_isolated (head o).name ≡ false) (plain : is_table (head o).name ≡ false) (vs : List Value) where
+  module _ (e : Ended) (ends : body m.tree o 0 ≡ Some e) (opens : is_isolated (head o).name ≡ false) (simple : is_table (head o).name ≡ false) (vs : List Value) where
     abbrev n : Ending m.tree o 0 e
     n = ending m.tree o 0 e ends
 
@@ -64,7 +64,7 @@ module _ (m : Module) (o : Operation) (insertion : Place) (s : Point m o inserti
       is = ap (λ z. region_at 0 (regions z)) (here_is m o insertion s) ∙ n.block;
       ids = joined_ids n.preceding n.last ∙ λ i. sym n.before i ++ (sym n.is i).id ∷ [];
       opened = ap (λ z. is_isolated (head z).name) (here_is m o insertion s) ∙ opens;
-      plain = ap (λ z. is_table (head z).name) (here_is m o insertion s) ∙ plain;
+      simple = ap (λ z. is_table (head z).name) (here_is m o insertion s) ∙ simple;
     }
 
     module _ (given : AreGiven (head o).id insertion vs (ending m.tree o 0 e ends).args m) where
@@ -89,7 +89,7 @@ module _ (m : Module) (o : Operation) (insertion : Place) (s : Point m o inserti
         is = came.taking.is;
         ids = came.taking.ids;
         opened = came.taking.opened;
-        plain = came.taking.plain;
+        simple = came.taking.simple;
         spared = came.unused;
       }
 

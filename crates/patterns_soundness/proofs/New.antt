@@ -32,7 +32,7 @@ use Rattle.patterns_soundness.specs.base.Makes.{give, give_constant, give_new}
 use Rattle.patterns_soundness.specs.base.Casting.{resizing, extend_extension, cut_cast}
 use Rattle.patterns_soundness.specs.base.Folding.{folded_to, may_read, fold_to_constant, cancel_itself, zero_remainder, regroup_constants, add_negative, compare_itself, compare_zero, expand_min_max, expand_difference, expand_remainder}
 use Rattle.patterns_soundness.proofs.Points.{DefiningOp, Point, dominated_by_after, dominated_by_operand}
-use Rattle.patterns_soundness.proofs.Limits as fit
+use Rattle.patterns_soundness.proofs.Limits as fits_in
 use Rattle.patterns_soundness.proofs.Limits.{IsWithinLimits}
 use Rattle.patterns_soundness.proofs.Shapes.{one_is, source_among_is, source_is, two_is}
 use Rattle.patterns_soundness.proofs.Given.{HasHeadroom, fits, gives_after}
@@ -51,7 +51,7 @@ module _ (x : ℕ) (insertion : Place) (ty : TypeTerm) where
   -- the result of a new operation replaces the result of x
   pub by_new : (m : Module) (f : IsWithinLimits x insertion ty 1 m) (n : ℕ) → n ≡ m.next → (name : List ℕ) (operands : List Value) (properties : Entries) → items_fit operands ≡ true → items_fit properties ≡ true
       → list_all (visible is_isolated m.tree x) operands ≡ true → Free (give_new insertion n x (made name operands ty properties)) m
-  by_new m f n e name operands properties few short seen = fit.new_given x insertion ty 0 m f name operands ty properties few short seen n e (type_refl ty)
+  by_new m f n e name operands properties few short seen = fits_in.new_given x insertion ty 0 m f name operands ty properties few short seen n e (type_refl ty)
 
   -- a constant replaces it
   pub by_constant : (m : Module) → IsWithinLimits x insertion ty 1 m → (n : ℕ) → n ≡ m.next → (bits : ℕ) → Free (give_constant insertion n x ty bits) m
@@ -69,9 +69,9 @@ module _ (x : ℕ) (insertion : Place) (ty : TypeTerm) where
 
     pub make_then : GoesOn → Free (Make insertion (made name operands new properties) ∷ es) m
     make_then go =
-        fit.make_first x insertion ty k m f name operands new properties few short seen es
-        (go (edited (Make insertion (made name operands new properties)) m) (fit.made_fit x insertion ty k m f name operands new properties few short seen) (fit.dominated_by_still x insertion ty k m f name operands new properties few short seen)
-        (fit.dominated_by_new x insertion ty k m f name operands new properties few short seen) refl)
+        fits_in.make_first x insertion ty k m f name operands new properties few short seen es
+        (go (edited (Make insertion (made name operands new properties)) m) (fits_in.made_fit x insertion ty k m f name operands new properties few short seen) (fits_in.dominated_by_still x insertion ty k m f name operands new properties few short seen)
+        (fits_in.dominated_by_new x insertion ty k m f name operands new properties few short seen) refl)
 
   constant_then : (k : ℕ) (m : Module) (f : IsWithinLimits x insertion ty (suc k) m) (bits : ℕ) (es : List Edit) → GoesOn k m f (codes "arith.constant") [] ty (value_entry ty bits) refl refl refl es → Free (Make insertion (constant ty bits) ∷ es) m
   constant_then k m f bits es = make_then k m f (codes "arith.constant") [] ty (value_entry ty bits) refl refl refl es

@@ -26,7 +26,7 @@ use Rattle.ir_event.proofs.of_tree_laws.Heads.{Alike, each_id, each_stands}
 use Rattle.ir_event.proofs.of_tree_laws.Put.{Landed, child}
 use Rattle.ir_event.proofs.of_tree_laws.PutForm as put_form
 use Rattle.ir_event.proofs.of_tree_laws.DominatedBy.{visible_there}
-use Rattle.ir_event.proofs.of_tree_laws.Values.{shape}
+use Rattle.ir_event.proofs.of_tree_laws.Values.{shaped_as}
 use Rattle.ir_event.proofs.of_tree_laws.Without.{left_member, member_left, same_head}
 use Rattle.patterns_base.proofs.Preceding.{stands_before}
 
@@ -187,7 +187,7 @@ module _ {N T A : Type 0} where
         there = f.there;
         id = f.id;
         first = e.first;
-        among = subst (λ l. In e.first l) (sym g.preceding) (in_left e.first g.step_in.preceding (f.first ∷ g.between) (subst (λ (s : StepOf N T A). In e.first s.preceding) steps e.among));
+        among = subst (λ l. In e.first l) (sym g.preceding) (in_left e.first g.step_in.preceding (f.first ∷ g.intermediate) (subst (λ (s : StepOf N T A). In e.first s.preceding) steps e.among));
         is = e.is;
       }
 
@@ -207,7 +207,7 @@ module _ {N T A : Type 0} where
     later_dominated_by a b e v s =
         let g = stands_before t e.here e.first e.step_in e.path e.there e.among in
         ap (λ i. visible isolated t i v) (sym e.id) ∙ visible_there isolated t d (stand e.here (e.step_in ∷ e.path)) e.there v
-        ∙ seen_later v e.step_in g.step_in e.path g.between e.first g.parent g.region g.args g.preceding (sym (visible_there isolated t d (stand e.first (g.step_in ∷ e.path)) g.there v) ∙ ap (λ i. visible isolated t i v) e.is ∙ s)
+        ∙ seen_later v e.step_in g.step_in e.path g.intermediate e.first g.parent g.region g.args g.preceding (sym (visible_there isolated t d (stand e.first (g.step_in ∷ e.path)) g.there v) ∙ ap (λ i. visible isolated t i v) e.is ∙ s)
 
     -- and so do the results of the earlier one
     pub later_shows : (a b : ℕ) → Before a b t → (o : OpOf N T A) → find a t ≡ Some o → (k : ℕ) → nat_lt k (length (head o).results) ≡ true → visible isolated t b (Result a k) ≡ true
@@ -235,7 +235,7 @@ module _ {N T A : Type 0} where
 
       pub inner_shows : (args : List T) (os : OpsOf N T A) → region_at r (regions o) ≡ Some (block args os) → (k : ℕ) → nat_lt k (length args) ≡ true → visible isolated t b (Arg p r k) ≡ true
       inner_shows args os is k l =
-          let one : Some (block e.step_in.args (joined_ops e.step_in.preceding (next e.here e.step_in.rest))) ≡ Some (block args os) = sym (shape t e.here e.step_in e.path e.there) ∙ (λ i. region_at (e.region i) (regions (parent_is i))) ∙ is in
+          let one : Some (block e.step_in.args (joined_ops e.step_in.preceding (next e.here e.step_in.rest))) ≡ Some (block args os) = sym (shaped_as t e.here e.step_in e.path e.there) ∙ (λ i. region_at (e.region i) (regions (parent_is i))) ∙ is in
           let same : e.step_in.args ≡ args = cc in
           ap (λ i. visible isolated t i (Arg p r k)) (sym e.id) ∙ visible_there isolated t d (stand e.here (e.step_in ∷ e.path)) e.there (Arg p r k)
           ∙ or_right (list_any (λ f. shows (Arg p r k) (results_of f)) e.step_in.preceding) _ (or_left _ _
@@ -254,12 +254,12 @@ module _ {N T A : Type 0} where
         ∙ sym (ap (λ i. table_of is_table i t) (sym e.id) ∙ table_at (stand e.here (e.step_in ∷ e.path)) e.there)
 
     pub inner_table : (p r b : ℕ) (e : Inside p r b t) (o : OpOf N T A) → find p t ≡ Some o → is_table (head o).name ≡ false → table_of is_table b t ≡ table_of is_table p t
-    inner_table p r b e o found plain =
+    inner_table p r b e o found simple =
         let up = (around_there t e.here e.step_in e.path e.there).1 in
         let one : Some e.step_in.parent ≡ Some o = sym (ap (λ i. find i t) (sym e.parent) ∙ stand_found t d (stand e.step_in.parent e.path) up) ∙ found in
         let is : e.step_in.parent ≡ o = cc in
         ap (λ i. table_of is_table i t) (sym e.id) ∙ table_at (stand e.here (e.step_in ∷ e.path)) e.there
-        ∙ ap (λ b. Some (cond b (Some (head e.step_in.parent).id) (table_in is_table e.path))) (ap (λ (z : OpOf N T A). is_table (head z).name) is ∙ plain)
+        ∙ ap (λ b. Some (cond b (Some (head e.step_in.parent).id) (table_in is_table e.path))) (ap (λ (z : OpOf N T A). is_table (head z).name) is ∙ simple)
         ∙ sym (ap (λ i. table_of is_table i t) (sym e.parent) ∙ table_at (stand e.step_in.parent e.path) up)
 
   module _ (t : OpOf N T A) (d : HasDistinctIds t) where
@@ -299,7 +299,7 @@ module _ {N T A : Type 0} where
               here = q;
               step_in = new;
               path = l.path;
-              there = within l.step_in.parent l.path (stand q (new ∷ l.path)) (child l.step_in.parent l.path l.step_in.region l.step_in.args (joined_ops l.step_in.preceding (next o l.step_in.rest)) (stand q (new ∷ l.path)) (shape after o l.step_in l.path l.there)
+              there = within l.step_in.parent l.path (stand q (new ∷ l.path)) (child l.step_in.parent l.path l.step_in.region l.step_in.args (joined_ops l.step_in.preceding (next o l.step_in.rest)) (stand q (new ∷ l.path)) (shaped_as after o l.step_in l.path l.there)
                   (subst (λ z. In (stand q (new ∷ l.path)) (ops_stands l.step_in.parent l.path l.step_in.region l.step_in.args [] z)) (sym list) (ops_child l.step_in.parent l.path l.step_in.region l.step_in.args [] (l.step_in.preceding ++ o ∷ []) q os))) [] after l.around;
               id = id;
               first = o;
@@ -328,7 +328,7 @@ module _ {N T A : Type 0} where
         go (next q os) f g = absurd cc
         go no_ops f g =
             let blocks : Some (block i.step_in.args (joined_ops i.step_in.preceding (next i.here i.step_in.rest))) ≡ Some (block l.step_in.args (joined_ops l.step_in.preceding (next o l.step_in.rest))) =
-            sym (shape after i.here i.step_in i.path i.there) ∙ (λ j. region_at ((i.region ∙ sym l.region) j) (regions (same j).here)) ∙ shape after o l.step_in l.path l.there in
+            sym (shaped_as after i.here i.step_in i.path i.there) ∙ (λ j. region_at ((i.region ∙ sym l.region) j) (regions (same j).here)) ∙ shaped_as after o l.step_in l.path l.there in
             let lists : joined_ops i.step_in.preceding (next i.here i.step_in.rest) ≡ joined_ops l.step_in.preceding (next o l.step_in.rest) = cc in
             let all : i.step_in.preceding ++ i.here ∷ listed i.step_in.rest ≡ l.step_in.preceding ++ o ∷ [] =
             sym (listed_joined i.step_in.preceding (next i.here i.step_in.rest)) ∙ ap listed lists ∙ listed_joined l.step_in.preceding (next o l.step_in.rest) ∙ ap (λ z. l.step_in.preceding ++ o ∷ listed z) f in
@@ -353,7 +353,7 @@ module _ {N T A : Type 0} where
             let id : (head r).id ≡ b = cc in
             let new = step l.step_in.parent l.step_in.region l.step_in.args (l.step_in.preceding ++ o ∷ []) os in
             let list : joined_ops l.step_in.preceding (next o l.step_in.rest) ≡ joined_ops (l.step_in.preceding ++ o ∷ []) (next r os) = ap (λ z. joined_ops l.step_in.preceding (next o z)) p ∙ sym (joined_more l.step_in.preceding o (next r os)) in
-            let there : In (stand r (new ∷ l.path)) (stands [] (put place o t)) = within l.step_in.parent l.path (stand r (new ∷ l.path)) (child l.step_in.parent l.path l.step_in.region l.step_in.args (joined_ops l.step_in.preceding (next o l.step_in.rest)) (stand r (new ∷ l.path)) (shape after o l.step_in l.path l.there)
+            let there : In (stand r (new ∷ l.path)) (stands [] (put place o t)) = within l.step_in.parent l.path (stand r (new ∷ l.path)) (child l.step_in.parent l.path l.step_in.region l.step_in.args (joined_ops l.step_in.preceding (next o l.step_in.rest)) (stand r (new ∷ l.path)) (shaped_as after o l.step_in l.path l.there)
             (subst (λ z. In (stand r (new ∷ l.path)) (ops_stands l.step_in.parent l.path l.step_in.region l.step_in.args [] z)) (sym list) (ops_child l.step_in.parent l.path l.step_in.region l.step_in.args [] (l.step_in.preceding ++ o ∷ []) r os))) [] after l.around in
             let same = same_stand after distinct (stand f.here (f.step_in ∷ f.path)) (stand r (new ∷ l.path)) f.there there (f.id ∙ sym id) in
             let paths : f.step_in ∷ f.path ≡ new ∷ l.path = ap (λ (z : OpWithPathOf N T A). z.path) same in

@@ -58,7 +58,7 @@ OpWithPath = OpWithPathOf (List ℕ) TypeTerm AttrTerm
 
 module _ (x y r : ℕ) (insertion : Place) (hx hy : Header) (deep : ℕ) (x_opened : is_isolated hx.name ≡ false) (x_plain : is_table hx.name ≡ false)
     (m : Module) (s : Across x y insertion hx hy deep m) (z : Operation) (vs : List Operation) (args : List TypeTerm) (is : region_at r (regions s.located.at.here) ≡ Some (block args (joined_ops (z ∷ vs) no_ops)))
-    (spared : (k : ℕ) → uses_of (Arg x r k) m.tree ≡ []) (fit : IsWithinLimits x y insertion hx hy deep z) (fits : (o : Operation) → In o vs → IsWithinLimits x y insertion hx hy deep o) (lacks : (o : Operation) → In o vs → Lack z o) (users : UsedBy z vs m.tree) where
+    (spared : (k : ℕ) → uses_of (Arg x r k) m.tree ≡ []) (fits_in : IsWithinLimits x y insertion hx hy deep z) (fits : (o : Operation) → In o vs → IsWithinLimits x y insertion hx hy deep o) (lacks : (o : Operation) → In o vs → Lack z o) (users : UsedBy z vs m.tree) where
   abbrev t : Operation
   t = m.tree
 
@@ -102,7 +102,7 @@ module _ (x y r : ℕ) (insertion : Place) (hx hy : Header) (deep : ℕ) (x_open
   point = placed.point y place t d y_after
 
   outside : leads_inside (next_to insertion y) (Some z) ≡ false
-  outside = λ i. fit.parent_out i || fit.y_out i
+  outside = λ i. fits_in.parent_out i || fits_in.y_out i
 
   abbrev after : Operation
   after = put (next_to insertion y) z (without (head z).id m.tree)
@@ -127,11 +127,11 @@ module _ (x y r : ℕ) (insertion : Place) (hx hy : Header) (deep : ℕ) (x_open
   now_found = moving.itself_found is_isolated is_table m s.located.wellformed z (next_to insertion y) found root point outside
 
   y_apart : eqb y (head z).id ≡ false
-  y_apart = kept.apart is_isolated is_table m s.located.wellformed z (next_to insertion y) found root point outside (λ b. ⊥) (λ b h. absurd h) (λ b h. absurd h) y fit.y_out
+  y_apart = kept.apart is_isolated is_table m s.located.wellformed z (next_to insertion y) found root point outside (λ b. ⊥) (λ b h. absurd h) (λ b h. absurd h) y fits_in.y_out
 
   -- its results still dominate x
   x_before : Before y x (put (next_to insertion y) z (without (head z).id m.tree))
-  x_before = moving.before_same is_isolated is_table m s.located.wellformed z (next_to insertion y) found root point outside x x_there fit.x_out y y_apart s.before
+  x_before = moving.before_same is_isolated is_table m s.located.wellformed z (next_to insertion y) found root point outside x x_there fits_in.x_out y y_apart s.before
 
   y_dominated_by_new : (k : ℕ) → k < length (head z).results → visible is_isolated (put (next_to insertion y) z (without (head z).id m.tree)) y (Result (head z).id k) ≡ true
   y_dominated_by_new k l = later_shows is_isolated after d' zi y now_before z now_found k (lt-ltb k (length (head z).results) l)
@@ -178,7 +178,7 @@ module _ (x y r : ℕ) (insertion : Place) (hx hy : Header) (deep : ℕ) (x_open
     | inr k ↦ (let around = (both (not (is_isolated (head xo).name)) (dominated_by_from is_isolated xp v) k).1 in
         let by_x : visible is_isolated t x v ≡ true = ap (λ i. visible is_isolated t i v) (sym s.located.at.id) ∙ visible_there is_isolated t d (stand xo xp) s.located.at.there v ∙ around in
         let by_y = s.near v by_x (not_of_y v u around) in
-        let left = there_left t z d found y y_there fit.y_out in
+        let left = there_left t z d found y y_there fits_in.y_out in
         let u_after : Following y (next_to insertion y) (without zi t) = inside_after y place (without zi t) refl (inside_left zi insertion.parent insertion.region y t d left (after_inside y place t y_after)) in
         placed.new_dominated_by y (next_to insertion y) (without zi t) (left_distinct zi t d) u_after z (moving.may is_isolated is_table m s.located.wellformed z (next_to insertion y) found root point outside) is_isolated v
         (dominance_stays zi t d y left is_isolated v (not_its v e) ∙ by_y))
@@ -192,7 +192,7 @@ module _ (x y r : ℕ) (insertion : Place) (hx hy : Header) (deep : ℕ) (x_open
           go true k = absurd (not_own is_isolated t d (stand z zp) z_there v e (eqb-true (owner_of v).0 zi k))
 
   pub x_head_after : option_map head (find x (put (next_to insertion y) z (without (head z).id m.tree))) ≡ Some hx
-  x_head_after = moving.head_same is_isolated is_table m s.located.wellformed z (next_to insertion y) found root point outside x x_there fit.x_out ∙ s.x_is
+  x_head_after = moving.head_same is_isolated is_table m s.located.wellformed z (next_to insertion y) found root point outside x x_there fits_in.x_out ∙ s.x_is
 
   -- the other operations of the block
   module _ (o : Operation) (i : In o vs) where
@@ -215,14 +215,14 @@ module _ (x y r : ℕ) (insertion : Place) (hx hy : Header) (deep : ℕ) (x_open
         inner_dominated_by is_isolated after d' x r (head o).id inside xn.0 xn.1 (ap (λ (h : Header). is_isolated h.name) xn.2 ∙ x_opened) (Result zi k) (x_dominated_by_new k l)
 
   users_ok : (k : ℕ) → k < length (head z).results → list_all (λ u. visible is_isolated (put (next_to insertion y) z (without (head z).id m.tree)) u.0 (Result (head z).id k)) (uses_of (Result (head z).id k) m.tree) ≡ true
-  users_ok k l = users_moved x y insertion hx hy deep m s z (next_to insertion y) found root point outside fit vs users other_found lacks (λ o i. (fits o i).parent_out) other_dominated_by k l
+  users_ok k l = users_moved x y insertion hx hy deep m s z (next_to insertion y) found root point outside fits_in vs users other_found lacks (λ o i. (fits o i).parent_out) other_dominated_by k l
 
   tables : table_of is_table (head z).id m.tree ≡ table_of is_table (head z).id (put (next_to insertion y) z (without (head z).id m.tree))
   tables =
       let inside : Inside x r zi t = record { here = z; step_in = step xo r args [] (joined_ops vs no_ops); path = xp; there = z_there; id = refl; parent = s.located.at.id; region = refl } in
       inner_table is_table t d x r zi inside xo x_found (ap (λ (h : Header). is_table h.name) x_head ∙ x_plain)
       ∙ sym (later_table is_table t d y x s.before)
-      ∙ sym (moving.table_same is_isolated is_table m s.located.wellformed z (next_to insertion y) found root point outside y y_there fit.y_out)
+      ∙ sym (moving.table_same is_isolated is_table m s.located.wellformed z (next_to insertion y) found root point outside y y_there fits_in.y_out)
       ∙ sym (later_table is_table after d' zi y now_before)
 
   levels : fits_around (depth z) (around (next_to insertion y).parent m.tree) ≡ true
@@ -231,7 +231,7 @@ module _ (x y r : ℕ) (insertion : Place) (hx hy : Header) (deep : ℕ) (x_open
       let a = ap (λ i. around i t) (sym y_after.id) ∙ around_at t d (stand y_after.here (y_after.step_in ∷ y_after.path)) y_after.there in
       let same : Some deep ≡ Some (length (y_after.step_in ∷ y_after.path)) = sym s.depths ∙ sym (later_around t d y x s.before) ∙ a in
       let is : deep ≡ length (y_after.step_in ∷ y_after.path) = cc in
-      let few = fit.levels in
+      let few = fits_in.levels in
       ap (fits_around (depth z)) n ∙ le-leb (length y_after.path + 1 + depth z) most_around (omega (arith, few, is))
 
   parent : has_id (next_to insertion y).parent m.tree ≡ true
@@ -249,7 +249,7 @@ module _ (x y r : ℕ) (insertion : Place) (hx hy : Header) (deep : ℕ) (x_open
 
   -- x and y stay as they were
   pub out_across : Across x y insertion hx hy deep (record m { tree = put (next_to insertion y) z (without (head z).id m.tree) })
-  out_across = across_moved x y insertion hx hy deep m s z (next_to insertion y) found root point outside fit out_wellformed seen
+  out_across = across_moved x y insertion hx hy deep m s z (next_to insertion y) found root point outside fits_in out_wellformed seen
     where
       seen : (v : Value) → (owner_of v).0 ≡ (head z).id → visible is_isolated (put (next_to insertion y) z (without (head z).id m.tree)) x v ≡ true → eqb (owner_of v).0 y ≡ false → visible is_isolated (put (next_to insertion y) z (without (head z).id m.tree)) y v ≡ true
       seen (Result i k) own e n = subst (λ j. visible is_isolated (put (next_to insertion y) z (without (head z).id m.tree)) x (Result j k) ≡ true → visible is_isolated (put (next_to insertion y) z (without (head z).id m.tree)) y (Result j k) ≡ true) (sym own) (by_number k) e
@@ -268,7 +268,7 @@ module _ (x y r : ℕ) (insertion : Place) (hx hy : Header) (deep : ℕ) (x_open
           let zn = found_stands zi after z now_found in
           let z_now : In (stand z zn.0.path) (stands [] after) = subst (λ (o : Operation). In (stand o zn.0.path) (stands [] after)) zn.3 zn.1 in
           let dominance : dominated_by_from is_isolated w.0.path (Arg zi q k) ≡ true = ap (λ j. dominated_by_from is_isolated w.0.path (Arg j q k)) (sym own) ∙ sym (visible_there is_isolated after d' w.0 w.1 (Arg i q k)) ∙ ap (λ j. visible is_isolated after j (Arg i q k)) w.2 ∙ e in
-          absurd (true≢false (sym (ap (λ j. has_id j z) (sym w.2) ∙ argument_within after d' z zn.0.path z_now is_isolated w.0.here w.0.path w.1 q k dominance) ∙ fit.x_out))
+          absurd (true≢false (sym (ap (λ j. has_id j z) (sym w.2) ∙ argument_within after d' z zn.0.path z_now is_isolated w.0.here w.0.path w.1 q k dominance) ∙ fits_in.x_out))
 
   pub out_block : (p q : ℕ) → has_id p z ≡ false → HasBlock p q m.tree → HasBlock p q (put (next_to insertion y) z (without (head z).id m.tree))
   out_block p q out b = moving.block_same is_isolated is_table m s.located.wellformed z (next_to insertion y) found root point outside p q out b
@@ -283,7 +283,7 @@ module _ (x y r : ℕ) (insertion : Place) (hx hy : Header) (deep : ℕ) (x_open
   pub out_moved : (o : Operation) → Lack z o → has_id insertion.parent o ≡ false → Before (head o).id y m.tree → find (head o).id m.tree ≡ Some o
       → Before (head o).id y (put (next_to insertion y) z (without (head z).id m.tree)) × (find (head o).id (put (next_to insertion y) z (without (head z).id m.tree)) ≡ Some o)
   out_moved o lack far before at = (
-    moving.before_same is_isolated is_table m s.located.wellformed z (next_to insertion y) found root point outside y y_there fit.y_out (head o).id
+    moving.before_same is_isolated is_table m s.located.wellformed z (next_to insertion y) found root point outside y y_there fits_in.y_out (head o).id
         (kept.apart is_isolated is_table m s.located.wellformed z (next_to insertion y) found root point outside (λ b. ⊥) (λ b h. absurd h) (λ b h. absurd h) (head o).id lack.0) before,
     moving.literal is_isolated is_table m s.located.wellformed z (next_to insertion y) found root point outside o at lack.0 lack.1 far,
   )
@@ -293,8 +293,8 @@ module _ (x y r : ℕ) (insertion : Place) (hx hy : Header) (deep : ℕ) (x_open
   out_list =
       let rest = joined_ops vs no_ops in
       let id : (head xo).id ≡ x = s.located.at.id in
-      let left = located_left t z xo d found (ap (λ i. find i t) id ∙ x_found) (ap (λ i. has_id i z) id ∙ fit.x_out) in
-      let now : find x after ≡ Some (put place z (each_list (dropping zi) xo)) = put_find place z x (absent_find x z fit.x_out) (without zi t) ∙ ap (option_map (put place z)) (ap (λ i. find i (without zi t)) (sym id) ∙ left) in
+      let left = located_left t z xo d found (ap (λ i. find i t) id ∙ x_found) (ap (λ i. has_id i z) id ∙ fits_in.x_out) in
+      let now : find x after ≡ Some (put place z (each_list (dropping zi) xo)) = put_find place z x (absent_find x z fits_in.x_out) (without zi t) ∙ ap (option_map (put place z)) (ap (λ i. find i (without zi t)) (sym id) ∙ left) in
       let same : Some out_across.located.at.here ≡ Some (put place z (each_list (dropping zi) xo)) = sym (found_there is_isolated x insertion (record m { tree = after }) out_across.located) ∙ now in
       let here : out_across.located.at.here ≡ put place z (each_list (dropping zi) xo) = cc in
       let one = each_at (dropping zi) r xo args (next z rest) is in
@@ -312,7 +312,7 @@ module _ (x y r : ℕ) (insertion : Place) (hx hy : Header) (deep : ℕ) (x_open
 
   pub out_side : (q : ℕ) (targs : List TypeTerm) (ws : List Operation) → ((o : Operation) → In o ws → (has_id (head z).id o ≡ false) × (has_id insertion.parent o ≡ false)) → region_at q (regions s.located.at.here) ≡ Some (block targs (joined_ops ws no_ops))
       → region_at q (regions out_across.located.at.here) ≡ Some (block targs (joined_ops ws no_ops))
-  out_side q targs ws lacks side = side_moved x y insertion hx hy deep m s z (next_to insertion y) found root point outside fit out_across.located q targs ws lacks (λ i. not_parent x insertion t d s.located.at i && eqb q insertion.region) side
+  out_side q targs ws lacks side = side_moved x y insertion hx hy deep m s z (next_to insertion y) found root point outside fits_in out_across.located q targs ws lacks (λ i. not_parent x insertion t d s.located.at i && eqb q insertion.region) side
 
   pub out_count : op_count (put (next_to insertion y) z (without (head z).id m.tree)) ≡ op_count m.tree
-  out_count = count_moved x y insertion hx hy deep m s z (next_to insertion y) found root point outside fit
+  out_count = count_moved x y insertion hx hy deep m s z (next_to insertion y) found root point outside fits_in

@@ -88,27 +88,27 @@ module _ (y : ℕ) where
   AllNew V (b ∷ ms) k c (ty ∷ tys) = V b k c ty × AllNew V ms (k + 1) (cond b (c + 1) c) tys
   AllNew V _ k c _ = Unit {0}
 
-  pub told : (H : ℕ → TypeTerm → Type 0) (V : Bool → ℕ → ℕ → TypeTerm → Type 0) (ms : List Bool) (h k c : ℕ) (tys : List TypeTerm) → ms ≡ indices tys → AllHeld H h tys → AllNew V ms k c tys → (p : Pair) → In p (pairs ms h k c tys) → PlaceholderProperties H V h (h + length tys) c p
+  pub reported : (H : ℕ → TypeTerm → Type 0) (V : Bool → ℕ → ℕ → TypeTerm → Type 0) (ms : List Bool) (h k c : ℕ) (tys : List TypeTerm) → ms ≡ indices tys → AllHeld H h tys → AllNew V ms k c tys → (p : Pair) → In p (pairs ms h k c tys) → PlaceholderProperties H V h (h + length tys) c p
   unfolding pairs
-  told H V [] h k c tys e a n p i = absurd i
-  told H V (true ∷ ms) h k c [] e a n p i = absurd i
-  told H V (false ∷ ms) h k c [] e a n p i = absurd i
-  told H V (true ∷ ms) h k c (ty ∷ tys) e a n p (inl q) =
+  reported H V [] h k c tys e a n p i = absurd i
+  reported H V (true ∷ ms) h k c [] e a n p i = absurd i
+  reported H V (false ∷ ms) h k c [] e a n p i = absurd i
+  reported H V (true ∷ ms) h k c (ty ∷ tys) e a n p (inl q) =
       let same : true ≡ is_index ty = cc in
       subst (PlaceholderProperties H V h (h + length (ty ∷ tys)) c) (sym q) (record { low = omega arith; high = omega arith; held = a.0; mark = true; number = k; cast = c; later = omega arith; value = refl; news = n.0; index = sym same })
-  told H V (true ∷ ms) h k c (ty ∷ tys) e a n p (inr i) =
+  reported H V (true ∷ ms) h k c (ty ∷ tys) e a n p (inr i) =
       let rest : ms ≡ indices tys = cc in
-      let r = told H V ms (h + 1) (k + 1) (c + 1) tys rest a.1 n.1 p i in
+      let r = reported H V ms (h + 1) (k + 1) (c + 1) tys rest a.1 n.1 p i in
       let l = r.low in
       let m = r.high in
       let j = r.later in
       record { low = omega (arith, l); high = omega (arith, m); held = r.held; mark = r.mark; number = r.number; cast = r.cast; later = omega (arith, j); value = r.value; news = r.news; index = r.index }
-  told H V (false ∷ ms) h k c (ty ∷ tys) e a n p (inl q) =
+  reported H V (false ∷ ms) h k c (ty ∷ tys) e a n p (inl q) =
       let same : false ≡ is_index ty = cc in
       subst (PlaceholderProperties H V h (h + length (ty ∷ tys)) c) (sym q) (record { low = omega arith; high = omega arith; held = a.0; mark = false; number = k; cast = c; later = omega arith; value = refl; news = n.0; index = sym same })
-  told H V (false ∷ ms) h k c (ty ∷ tys) e a n p (inr i) =
+  reported H V (false ∷ ms) h k c (ty ∷ tys) e a n p (inr i) =
       let rest : ms ≡ indices tys = cc in
-      let r = told H V ms (h + 1) (k + 1) c tys rest a.1 n.1 p i in
+      let r = reported H V ms (h + 1) (k + 1) c tys rest a.1 n.1 p i in
       let l = r.low in
       let m = r.high in
       record { low = omega (arith, l); high = omega (arith, m); held = r.held; mark = r.mark; number = r.number; cast = r.cast; later = r.later; value = r.value; news = r.news; index = r.index }

@@ -111,8 +111,8 @@ module _ (x y r : ℕ) (insertion : Place) (hx hy : Header) (deep : ℕ) (x_open
     pub sides : (q : ℕ) (targs : List TypeTerm) (ws : List Operation) → ((o : Operation) → In o ws → IsWithinLimits x y insertion hx hy deep o) → ((z o : Operation) → In z vs → In o ws → has_id (head z).id o ≡ false) → Side q targs ws m s → Side q targs ws (all_edited (moving (next_to insertion y) (map (λ o. id_of o) vs)) m) out.across
 
   module _ (rs : List Operation) (z : Operation) (vs : List Operation) (m : Module) (o : Out rs (z ∷ vs) m) where
-    abbrev fit : IsWithinLimits x y insertion hx hy deep z
-    fit = o.fits z (inl refl)
+    abbrev fits_in : IsWithinLimits x y insertion hx hy deep z
+    fits_in = o.fits z (inl refl)
 
     abbrev fits : (p : Operation) → In p vs → IsWithinLimits x y insertion hx hy deep p
     fits = λ p i. o.fits p (inr i)
@@ -121,14 +121,14 @@ module _ (x y r : ℕ) (insertion : Place) (hx hy : Header) (deep : ℕ) (x_open
     next_one = record m { tree = put (next_to insertion y) z (without (head z).id m.tree) }
 
     none_more : NoneMore m.tree next_one.tree
-    none_more = outwards.out_used x y r insertion hx hy deep x_opened x_plain m o.across z vs args o.is o.spared fit fits o.rel.0.1 o.rel.0.0
+    none_more = outwards.out_used x y r insertion hx hy deep x_opened x_plain m o.across z vs args o.is o.spared fits_in fits o.rel.0.1 o.rel.0.0
 
     -- after the first step
     pub step_out : Out (z ∷ rs) vs (record m { tree = put (next_to insertion y) z (without (head z).id m.tree) })
     step_out = record {
-      across = outwards.out_across x y r insertion hx hy deep x_opened x_plain m o.across z vs args o.is o.spared fit fits o.rel.0.1 o.rel.0.0;
-      into = outwards.out_block x y r insertion hx hy deep x_opened x_plain m o.across z vs args o.is o.spared fit fits o.rel.0.1 o.rel.0.0 y r fit.y_out o.into;
-      is = outwards.out_list x y r insertion hx hy deep x_opened x_plain m o.across z vs args o.is o.spared fit fits o.rel.0.1 o.rel.0.0;
+      across = outwards.out_across x y r insertion hx hy deep x_opened x_plain m o.across z vs args o.is o.spared fits_in fits o.rel.0.1 o.rel.0.0;
+      into = outwards.out_block x y r insertion hx hy deep x_opened x_plain m o.across z vs args o.is o.spared fits_in fits o.rel.0.1 o.rel.0.0 y r fits_in.y_out o.into;
+      is = outwards.out_list x y r insertion hx hy deep x_opened x_plain m o.across z vs args o.is o.spared fits_in fits o.rel.0.1 o.rel.0.0;
       spared = λ k. nothing (uses_of (Arg x r k) next_one.tree) (λ u i. subst (In u) (o.spared k) (none_more (Arg x r k) u i));
       moved = moved_now;
       fits = fits;
@@ -138,35 +138,35 @@ module _ (x y r : ℕ) (insertion : Place) (hx hy : Header) (deep : ℕ) (x_open
     }
       where
         fits_now : (p : Operation) → In p (z ∷ rs) → IsWithinLimits x y insertion hx hy deep p
-        fits_now p (inl e) = subst (λ q. IsWithinLimits x y insertion hx hy deep q) (sym e) fit
+        fits_now p (inl e) = subst (λ q. IsWithinLimits x y insertion hx hy deep q) (sym e) fits_in
         fits_now p (inr i) = o.moved_fits p i
 
         moved_now : (p : Operation) → In p (z ∷ rs) → Before (head p).id y next_one.tree × (find (head p).id next_one.tree ≡ Some p)
         moved_now p (inl e) = subst (λ (q : Operation). Before (head q).id y next_one.tree × (find (head q).id next_one.tree ≡ Some q)) (sym e)
-            (outwards.now_before x y r insertion hx hy deep x_opened x_plain m o.across z vs args o.is o.spared fit fits o.rel.0.1 o.rel.0.0, outwards.now_found x y r insertion hx hy deep x_opened x_plain m o.across z vs args o.is o.spared fit fits o.rel.0.1 o.rel.0.0)
-        moved_now p (inr i) = outwards.out_moved x y r insertion hx hy deep x_opened x_plain m o.across z vs args o.is o.spared fit fits o.rel.0.1 o.rel.0.0 p (turned_lack p z (lack_turned m.tree rs (z ∷ vs) o.turned p z i (inl refl))) (o.moved_fits p i).parent_out (o.moved p i).0 (o.moved p i).1
+            (outwards.now_before x y r insertion hx hy deep x_opened x_plain m o.across z vs args o.is o.spared fits_in fits o.rel.0.1 o.rel.0.0, outwards.now_found x y r insertion hx hy deep x_opened x_plain m o.across z vs args o.is o.spared fits_in fits o.rel.0.1 o.rel.0.0)
+        moved_now p (inr i) = outwards.out_moved x y r insertion hx hy deep x_opened x_plain m o.across z vs args o.is o.spared fits_in fits o.rel.0.1 o.rel.0.0 p (turned_lack p z (lack_turned m.tree rs (z ∷ vs) o.turned p z i (inl refl))) (o.moved_fits p i).parent_out (o.moved p i).0 (o.moved p i).1
 
     step_is : edited (Move (head z).id (next_to insertion y)) m ≡ record m { tree = put (next_to insertion y) z (without (head z).id m.tree) }
-    step_is = outwards.out_is x y r insertion hx hy deep x_opened x_plain m o.across z vs args o.is o.spared fit fits o.rel.0.1 o.rel.0.0
+    step_is = outwards.out_is x y r insertion hx hy deep x_opened x_plain m o.across z vs args o.is o.spared fits_in fits o.rel.0.1 o.rel.0.0
 
     reason : edit_reason (Move (head z).id (next_to insertion y)) m ≡ None
-    reason = outwards.out_reason x y r insertion hx hy deep x_opened x_plain m o.across z vs args o.is o.spared fit fits o.rel.0.1 o.rel.0.0
+    reason = outwards.out_reason x y r insertion hx hy deep x_opened x_plain m o.across z vs args o.is o.spared fits_in fits o.rel.0.1 o.rel.0.0
 
     -- the properties that the first step keeps
     step_stays : Stays (z ∷ []) m (record m { tree = put (next_to insertion y) z (without (head z).id m.tree) })
     step_stays = record {
-      kept = λ all out. outwards.out_kept x y r insertion hx hy deep x_opened x_plain m o.across z vs args o.is o.spared fit fits o.rel.0.1 o.rel.0.0 B all (λ b h. out b h z (inl refl));
+      kept = λ all out. outwards.out_kept x y r insertion hx hy deep x_opened x_plain m o.across z vs args o.is o.spared fits_in fits o.rel.0.1 o.rel.0.0 B all (λ b h. out b h z (inl refl));
       types = λ v. ap (λ (n : Module). type_of_value v n.tree) (sym step_is) ∙ move_types (head z).id (next_to insertion y) m o.across.located.wellformed.distinct reason v;
       heads = λ b. ap (λ (n : Module). option_map head (find b n.tree)) (sym step_is) ∙ move_heads (head z).id (next_to insertion y) m o.across.located.wellformed.distinct reason b;
-      blocks = λ p q out b. outwards.out_block x y r insertion hx hy deep x_opened x_plain m o.across z vs args o.is o.spared fit fits o.rel.0.1 o.rel.0.0 p q (out z (inl refl)) b;
+      blocks = λ p q out b. outwards.out_block x y r insertion hx hy deep x_opened x_plain m o.across z vs args o.is o.spared fits_in fits o.rel.0.1 o.rel.0.0 p q (out z (inl refl)) b;
       used = none_more;
-      headrooms = λ k w. (let c = outwards.out_count x y r insertion hx hy deep x_opened x_plain m o.across z vs args o.is o.spared fit fits o.rel.0.1 o.rel.0.0 in let a = w.ops in record { ops = omega (arith, a, c); ids = w.ids });
+      headrooms = λ k w. (let c = outwards.out_count x y r insertion hx hy deep x_opened x_plain m o.across z vs args o.is o.spared fits_in fits o.rel.0.1 o.rel.0.0 in let a = w.ops in record { ops = omega (arith, a, c); ids = w.ids });
       next = refl;
     }
 
     step_side : (q : ℕ) (targs : List TypeTerm) (ws : List Operation) → ((p : Operation) → In p ws → IsWithinLimits x y insertion hx hy deep p) → ((p : Operation) → In p ws → has_id (head z).id p ≡ false) → Side q targs ws m o.across → Side q targs ws next_one step_out.across
     unfolding step_out
-    step_side q targs ws wf lacks side = outwards.out_side x y r insertion hx hy deep x_opened x_plain m o.across z vs args o.is o.spared fit fits o.rel.0.1 o.rel.0.0 q targs ws (λ p i. (lacks p i, (wf p i).parent_out)) side
+    step_side q targs ws wf lacks side = outwards.out_side x y r insertion hx hy deep x_opened x_plain m o.across z vs args o.is o.spared fits_in fits o.rel.0.1 o.rel.0.0 q targs ws (λ p i. (lacks p i, (wf p i).parent_out)) side
 
   pub stays_both : (ys zs : List Operation) (m n k : Module) → Stays ys m n → Stays zs n k → (all : List Operation) → ((o : Operation) → In o ys → In o all) → ((o : Operation) → In o zs → In o all) → Stays all m k
   stays_both ys zs m n k a b all f g = record {

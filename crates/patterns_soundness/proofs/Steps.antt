@@ -127,7 +127,7 @@ module _ (x y : ℕ) (insertion : Place) (hx hy : Header) (deep : ℕ) where
       go o id out true e = absurd (true≢false (sym (ap (λ i. has_id i o) (eqb-true x y e ∙ sym id) ∙ own_id o) ∙ out))
 
   -- ---- properties of any move of z to a place
-  module _ (m : Module) (s : Across m) (z : Operation) (place : Place) (found : find (head z).id m.tree ≡ Some z) (root : eqb (head m.tree).id (head z).id ≡ false) (point : has_place place m.tree ≡ true) (outside : leads_inside place (Some z) ≡ false) (fit : IsWithinLimits z) where
+  module _ (m : Module) (s : Across m) (z : Operation) (place : Place) (found : find (head z).id m.tree ≡ Some z) (root : eqb (head m.tree).id (head z).id ≡ false) (point : has_place place m.tree ≡ true) (outside : leads_inside place (Some z) ≡ false) (fits_in : IsWithinLimits z) where
     abbrev t : Operation
     t = m.tree
 
@@ -141,7 +141,7 @@ module _ (x y : ℕ) (insertion : Place) (hx hy : Header) (deep : ℕ) where
     y_there = (let o = there_of (find y t) hy s.y_is in let w = found_stands y t o.0 o.1 in ap (λ i. has_id i t) (sym w.2) ∙ stand_present [] t w.0 w.1)
 
     y_apart : eqb y (head z).id ≡ false
-    y_apart = kept.apart is_isolated is_table m s.located.wellformed z place found root point outside (λ b. ⊥) (λ b h. absurd h) (λ b h. absurd h) y fit.y_out
+    y_apart = kept.apart is_isolated is_table m s.located.wellformed z place found root point outside (λ b. ⊥) (λ b h. absurd h) (λ b h. absurd h) y fits_in.y_out
 
     -- the properties of x and y that the move keeps
     pub across_moved : IsWellFormed is_isolated (record m { tree = put place z (without (head z).id m.tree) })
@@ -150,21 +150,21 @@ module _ (x y : ℕ) (insertion : Place) (hx hy : Header) (deep : ℕ) where
     across_moved wellformed new = record {
       located = record {
         wellformed = wellformed;
-        at = inside_after x insertion after (before_is x insertion t s.located.at) (moving.inside_same is_isolated is_table m s.located.wellformed z place found root point outside x x_there fit.x_out insertion.parent insertion.region (after_inside x insertion t s.located.at));
+        at = inside_after x insertion after (before_is x insertion t s.located.at) (moving.inside_same is_isolated is_table m s.located.wellformed z place found root point outside x x_there fits_in.x_out insertion.parent insertion.region (after_inside x insertion t s.located.at));
       };
-      before = moving.before_same is_isolated is_table m s.located.wellformed z place found root point outside x x_there fit.x_out y y_apart s.before;
-      x_is = moving.head_same is_isolated is_table m s.located.wellformed z place found root point outside x x_there fit.x_out ∙ s.x_is;
-      y_is = moving.head_same is_isolated is_table m s.located.wellformed z place found root point outside y y_there fit.y_out ∙ s.y_is;
+      before = moving.before_same is_isolated is_table m s.located.wellformed z place found root point outside x x_there fits_in.x_out y y_apart s.before;
+      x_is = moving.head_same is_isolated is_table m s.located.wellformed z place found root point outside x x_there fits_in.x_out ∙ s.x_is;
+      y_is = moving.head_same is_isolated is_table m s.located.wellformed z place found root point outside y y_there fits_in.y_out ∙ s.y_is;
       unused = λ k. nothing (uses_of (Result y k) after) (λ u i. subst (In u) (s.unused k) (moving.used_before is_isolated is_table m s.located.wellformed z place found root point outside (Result y k) u i));
       near = λ v e n. near_by v e n (eqb (owner_of v).0 (head z).id) refl;
-      depths = moving.around_same is_isolated is_table m s.located.wellformed z place found root point outside x x_there fit.x_out ∙ s.depths;
+      depths = moving.around_same is_isolated is_table m s.located.wellformed z place found root point outside x x_there fits_in.x_out ∙ s.depths;
     }
       where
         near_by : (v : Value) → visible is_isolated (put place z (without (head z).id m.tree)) x v ≡ true → eqb (owner_of v).0 y ≡ false → (b : Bool) → eqb (owner_of v).0 (head z).id ≡ b → visible is_isolated (put place z (without (head z).id m.tree)) y v ≡ true
         near_by v e n true k = new v (eqb-true (owner_of v).0 (head z).id k) e n
         near_by v e n false k =
-            moving.dominance is_isolated is_table m s.located.wellformed z place found root point outside y y_there fit.y_out v k
-            ∙ s.near v (sym (moving.dominance is_isolated is_table m s.located.wellformed z place found root point outside x x_there fit.x_out v k) ∙ e) n
+            moving.dominance is_isolated is_table m s.located.wellformed z place found root point outside y y_there fits_in.y_out v k
+            ∙ s.near v (sym (moving.dominance is_isolated is_table m s.located.wellformed z place found root point outside x x_there fits_in.x_out v k) ∙ e) n
 
     -- the users of z's results are other operations, or inside other operations, that stay as they are
     pub users_moved : (vs : List Operation) → UsedBy z vs m.tree → ((o : Operation) → In o vs → find (head o).id m.tree ≡ Some o) → ((o : Operation) → In o vs → Lack z o) → ((o : Operation) → In o vs → has_id place.parent o ≡ false)
@@ -191,8 +191,8 @@ module _ (x y : ℕ) (insertion : Place) (hx hy : Header) (deep : ℕ) where
         let xo = s.located.at.here in
         let rest = joined_ops ws no_ops in
         let id : (head xo).id ≡ x = s.located.at.id in
-        let left = located_left t z xo s.located.wellformed.distinct found (ap (λ i. find i t) id ∙ found_there is_isolated x insertion m s.located) (ap (λ i. has_id i z) id ∙ fit.x_out) in
-        let now : find x after ≡ Some (put place z (each_list (dropping zi) xo)) = put_find place z x (absent_find x z fit.x_out) (without zi t) ∙ ap (option_map (put place z)) (ap (λ i. find i (without zi t)) (sym id) ∙ left) in
+        let left = located_left t z xo s.located.wellformed.distinct found (ap (λ i. find i t) id ∙ found_there is_isolated x insertion m s.located) (ap (λ i. has_id i z) id ∙ fits_in.x_out) in
+        let now : find x after ≡ Some (put place z (each_list (dropping zi) xo)) = put_find place z x (absent_find x z fits_in.x_out) (without zi t) ∙ ap (option_map (put place z)) (ap (λ i. find i (without zi t)) (sym id) ∙ left) in
         let same : Some n.at.here ≡ Some (put place z (each_list (dropping zi) xo)) = sym (found_there is_isolated x insertion (record m { tree = after }) n) ∙ now in
         let here : n.at.here ≡ put place z (each_list (dropping zi) xo) = cc in
         let one = each_at (dropping zi) q xo args rest is in

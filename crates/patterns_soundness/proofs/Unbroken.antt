@@ -46,7 +46,7 @@ pub record Unbroken (row : Row) (s : Surroundings) : Type 0 where
   pub blocks : breaks_6 row s ≡ false
   pub arguments : breaks_7 row s ≡ false
   pub ends : breaks_9 s ≡ false
-  pub yields : breaks_16 s ≡ false
+  pub yield_fits : breaks_16 s ≡ false
   pub passes : breaks_17 s ≡ false
   pub chooses : breaks_21 s ≡ false
 
@@ -82,7 +82,7 @@ unbroken row s e =
       blocks = spoken w (breaks_6 row s) shaped g.0;
       arguments = spoken w (breaks_7 row s) shaped h.0;
       ends = spoken w (breaks_9 s) shaped j.0;
-      yields = spoken w (breaks_16 s) shaped q.0;
+      yield_fits = spoken w (breaks_16 s) shaped q.0;
       passes = spoken w (breaks_17 s) shaped r.0;
       chooses = spoken w (breaks_21 s) shaped x.0;
     }

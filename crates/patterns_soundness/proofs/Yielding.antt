@@ -133,8 +133,8 @@ module _ (t o : Operation) (d : HasDistinctIds t) (path : List (StepOf (List ℕ
     inner_located = stand_of_member t d inner (stands_in t o path r n.args n.preceding n.last no_ops here n.block)
 
     -- the last operation is an `scf.yield`, if the parent requires one
-    yields : ends_otherwise r (codes "scf.yield") (surround t (stand o path)) ≡ false → (head n.last).name ≡ codes "scf.yield"
-    yields e =
+    yield_fits : ends_otherwise r (codes "scf.yield") (surround t (stand o path)) ≡ false → (head n.last).name ≡ codes "scf.yield"
+    yield_fits e =
         name_is (codes "scf.yield") (head n.last).name
         (not-false (bytes_eq (head n.last).name (codes "scf.yield"))
         (sym (ap (isnt_required (codes "scf.yield")) last_is)
@@ -160,9 +160,9 @@ module _ (t o : Operation) (d : HasDistinctIds t) (path : List (StepOf (List ℕ
         let v = verified_unbroken t inner found.0 n.verified inner_located (ap row_of y ∙ found.1) in
         let named_so : is_named s.node (codes "scf.yield") ≡ true = ap (λ h. bytes_eq h.name (codes "scf.yield")) (head_shown n.last) ∙ ap (λ m. bytes_eq m (codes "scf.yield")) y in
         let outside : ended_of s ≡ Some (node_of o) = ap (if_well_shaped (node_of o)) (ap (λ h. row_of h.name) (head_shown o) ∙ f) ∙ ap (λ b. if◌then◌else◌ b (Some (node_of o)) None) u.shaped in
-        let told = spoken (is_named s.node (codes "scf.yield")) (differ (option_and_then yielded (ended_of s)) s.types) named_so v.yields in
+        let reported = spoken (is_named s.node (codes "scf.yield")) (differ (option_and_then yielded (ended_of s)) s.types) named_so v.yield_fits in
         ap (λ h. same_types (there h.results) s.types) (sym (head_shown o))
-        ∙ not-false (same_types (there (node_of o).head.results) s.types) (sym (ap (λ p. differ (option_and_then yielded p) s.types) outside ∙ ap (λ p. differ p s.types) w) ∙ told)
+        ∙ not-false (same_types (there (node_of o).head.results) s.types) (sym (ap (λ p. differ (option_and_then yielded p) s.types) outside ∙ ap (λ p. differ p s.types) w) ∙ reported)
 
 -- the operand types of the terminators of a choice's blocks
 pub choice_types : (t o : Operation) (x r : ℕ) (e : Ended) → r ≤ 1 → IsVerifiedOf t o x (codes "scf.if") → body t o r ≡ Some e → same_types (there (head o).results) (map (λ v. type_of_value v t) e.last.operands) ≡ true
@@ -182,7 +182,7 @@ choice_types t o x r e small h k = go (found_stands x t o h.found)
         let listed = ap row_of name ∙ row.1 in
         let u = verified_unbroken t (stand o w.0.path) row.0 h.verified (located t o h.distinct w.0.path here h.verified) listed in
         let node_name = ap (λ h. h.name) (head_shown o) ∙ name in
-        let y = yields t o h.distinct w.0.path here h.verified r e n (which r small (surround t (stand o w.0.path)) (if_ends (surround t (stand o w.0.path)) node_name u.ends)) in
+        let y = yield_fits t o h.distinct w.0.path here h.verified r e n (which r small (surround t (stand o w.0.path)) (if_ends (surround t (stand o w.0.path)) node_name u.ends)) in
         ap (λ h. same_types (there (head o).results) (map (λ v. type_of_value v t) h.operands)) n.is ∙ handed_types t o h.distinct w.0.path here h.verified r e n row.0 listed u y (if_wants (node_of o) node_name)
 
 -- and of the terminator of a loop's block
@@ -198,7 +198,7 @@ loop_types t o x e h k = go (found_stands x t o h.found)
         let listed = ap row_of name ∙ row.1 in
         let u = verified_unbroken t (stand o w.0.path) row.0 h.verified (located t o h.distinct w.0.path here h.verified) listed in
         let node_name = ap (λ h. h.name) (head_shown o) ∙ name in
-        let y = yields t o h.distinct w.0.path here h.verified 0 e n (for_ends (surround t (stand o w.0.path)) node_name u.ends) in
+        let y = yield_fits t o h.distinct w.0.path here h.verified 0 e n (for_ends (surround t (stand o w.0.path)) node_name u.ends) in
         ap (λ h. same_types (there (head o).results) (map (λ v. type_of_value v t) h.operands)) n.is ∙ handed_types t o h.distinct w.0.path here h.verified 0 e n row.0 listed u y (for_wants (node_of o) node_name)
 
 -- and so the numbers of operands and results are equal
@@ -244,7 +244,7 @@ choices_ask_truth t o x h = go (found_stands x t o h.found)
         let listed = ap row_of name ∙ row.1 in
         let s = surround t (stand o w.0.path) in
         let u = verified_unbroken t (stand o w.0.path) row.0 h.verified (located t o h.distinct w.0.path here h.verified) listed in
-        let fit = not-false (types_fit (known_of row.0 s) row.0.operands s.types) (or_no (is_no_number (known_of row.0 s).number) (not (types_fit (known_of row.0 s) row.0.operands s.types)) u.operands).1 in
+        let fits_in = not-false (types_fit (known_of row.0 s) row.0.operands s.types) (or_no (is_no_number (known_of row.0 s).number) (not (types_fit (known_of row.0 s) row.0.operands s.types)) u.operands).1 in
         let asks : Some row.0.operands ≡ Some (record { first = type.Boolean ∷ []; more = None }) = sym (ap (option_map (λ (row : Row). row.operands)) row.1) ∙ if_asks in
         let one : row.0.operands ≡ record { first = type.Boolean ∷ []; more = None } = same_Some row.0.operands (record { first = type.Boolean ∷ []; more = None }) asks in
-        one_truth t (known_of row.0 s) (head o).operands (sym (ap (λ (p : TypesRow). types_fit (known_of row.0 s) p s.types) one) ∙ fit)
+        one_truth t (known_of row.0 s) (head o).operands (sym (ap (λ (p : TypesRow). types_fit (known_of row.0 s) p s.types) one) ∙ fits_in)

@@ -13,7 +13,7 @@ use Rattle.ir_event.specs.Modules.{Module, module_meaning, context_model, module
 use Rattle.ir_event.specs.Listener.{Listener, ShowsTaken, Followed}
 use Rattle.ir_event.specs.Panels.{AllNotified, AllFollowed}
 use Rattle.ir_event.specs.Step.{Step, Steps}
-use Rattle.ir_event.proofs.Follows.{zip_self, follow_none, all_none, all_told, all_more, all_kept}
+use Rattle.ir_event.proofs.Follows.{zip_self, follow_none, all_none, all_notified, all_more, all_kept}
 use Rattle.ir_event.proofs.Extra.{steps_on}
 use Rattle.ir_event.proofs.Steps.{steps_stay}
 use Rattle.rewriter.specs.Panels.{AllAge, all_shown}
@@ -26,7 +26,7 @@ use Rattle.rewriter.proofs.Panels.{ages_followed}
 module _ {B : Type 0} (meaning : B → Listener) where
   -- a rewriter leads to itself
   pub notified_none : (b : Benched B) → Notified meaning [] b b
-  notified_none b = record { grows = grows_refl b.transaction.ctx; steps = refl; told = all_none meaning b.transaction.ctx (module_held b.transaction) b.listeners }
+  notified_none b = record { grows = grows_refl b.transaction.ctx; steps = refl; reported = all_none meaning b.transaction.ctx (module_held b.transaction) b.listeners }
 
   -- a rewriter leads to one with the same context and module
   pub notified_onward : (es : List Event) (a : Benched B) (g h : TransactionModel) (ys : List B) → h.ctx ≡ g.ctx → module_held h ≡ module_held g
@@ -35,7 +35,7 @@ module _ {B : Type 0} (meaning : B → Listener) where
       record {
         grows = subst (λ (d : ContextModel). IsExtendedBy a.transaction.ctx d) (sym ctx) t.grows;
         steps = subst (λ (d : ContextModel). Steps d es (module_held a.transaction) (module_held h)) (sym ctx) (subst (λ (m : Module). Steps g.ctx es (module_held a.transaction) m) (sym same) t.steps);
-        told = subst (λ (d : ContextModel). AllFollowed meaning es a.transaction.ctx (module_held a.transaction) d (module_held h) a.listeners ys) (sym ctx) (subst (λ (m : Module). AllFollowed meaning es a.transaction.ctx (module_held a.transaction) g.ctx m a.listeners ys) (sym same) t.told);
+        reported = subst (λ (d : ContextModel). AllFollowed meaning es a.transaction.ctx (module_held a.transaction) d (module_held h) a.listeners ys) (sym ctx) (subst (λ (m : Module). AllFollowed meaning es a.transaction.ctx (module_held a.transaction) g.ctx m a.listeners ys) (sym same) t.reported);
       }
 
   pub notified_still : (g h : TransactionModel) (xs : List B) → h.ctx ≡ g.ctx → module_held h ≡ module_held g → Notified meaning [] (record { transaction = g; listeners = xs }) (record { transaction = h; listeners = xs })
@@ -53,7 +53,7 @@ module _ {B : Type 0} (meaning : B → Listener) where
       record {
         grows = grown.grows;
         steps = grown.same;
-        told = zip_self (λ a b. Followed [] g.ctx (module_held g) h.ctx (module_held h) (meaning a) (meaning b)) (λ b. follow b) xs;
+        reported = zip_self (λ a b. Followed [] g.ctx (module_held g) h.ctx (module_held h) (meaning a) (meaning b)) (λ b. follow b) xs;
       }
     where
       follow : (b : B) → Followed [] g.ctx (module_held g) h.ctx (module_held h) (meaning b) (meaning b)
@@ -71,7 +71,7 @@ module _ {B : Type 0} (meaning : B → Listener) where
       record {
         grows = grows_trans a.transaction.ctx b.transaction.ctx c.transaction.ctx h.grows k.grows;
         steps = steps_on c.transaction.ctx es fs (module_held a.transaction) (module_held b.transaction) (module_held c.transaction) (steps_stay b.transaction.ctx c.transaction.ctx es (module_held a.transaction) (module_held b.transaction) holds k.grows h.steps) k.steps;
-        told = all_more meaning es fs a.transaction.ctx b.transaction.ctx c.transaction.ctx (module_held a.transaction) (module_held b.transaction) (module_held c.transaction) a.listeners b.listeners c.listeners h.told k.told;
+        reported = all_more meaning es fs a.transaction.ctx b.transaction.ctx c.transaction.ctx (module_held a.transaction) (module_held b.transaction) (module_held c.transaction) a.listeners b.listeners c.listeners h.reported k.reported;
       }
 
   pub notified_next : (es fs : List Event) (a b c : Benched B) → c.transaction.ctx ≡ b.transaction.ctx → Notified meaning es a b → Notified meaning fs b c → Notified meaning (es ++ fs) a c
@@ -79,12 +79,12 @@ module _ {B : Type 0} (meaning : B → Listener) where
       record {
         grows = grows_trans a.transaction.ctx b.transaction.ctx c.transaction.ctx h.grows k.grows;
         steps = steps_on c.transaction.ctx es fs (module_held a.transaction) (module_held b.transaction) (module_held c.transaction) (subst (λ (d : ContextModel). Steps d es (module_held a.transaction) (module_held b.transaction)) (sym same) h.steps) k.steps;
-        told = all_more meaning es fs a.transaction.ctx b.transaction.ctx c.transaction.ctx (module_held a.transaction) (module_held b.transaction) (module_held c.transaction) a.listeners b.listeners c.listeners h.told k.told;
+        reported = all_more meaning es fs a.transaction.ctx b.transaction.ctx c.transaction.ctx (module_held a.transaction) (module_held b.transaction) (module_held c.transaction) a.listeners b.listeners c.listeners h.reported k.reported;
       }
 
   -- listeners notified in an IR state that is the transaction's
-  told_there : (e : Event) (w : World) (h : TransactionModel) (xs ys : List B) → w.ctx ≡ h.ctx → w.store ≡ h.store → AllNotified meaning e (context_model w) (module_in w) (node_of_op w) xs ys → AllNotified meaning e h.ctx (module_held h) (shown_of h) xs ys
-  told_there e w h xs ys ctx store t =
+  notified_there : (e : Event) (w : World) (h : TransactionModel) (xs ys : List B) → w.ctx ≡ h.ctx → w.store ≡ h.store → AllNotified meaning e (context_model w) (module_in w) (node_of_op w) xs ys → AllNotified meaning e h.ctx (module_held h) (shown_of h) xs ys
+  notified_there e w h xs ys ctx store t =
       subst (λ (s : Stored). AllNotified meaning e h.ctx (module_meaning h.ctx s.module_of) (λ x. option_map (λ o. node_of (op_meaning h.ctx o)) (known x s)) xs ys) store
       (subst (λ (c : ContextModel). AllNotified meaning e c (module_meaning c w.store.module_of) (λ x. option_map (λ o. node_of (op_meaning c o)) (known x w.store)) xs ys) ctx t)
 
@@ -92,18 +92,18 @@ module _ {B : Type 0} (meaning : B → Listener) where
   pub notified_step : (e : Event) (g h : TransactionModel) (w : World) (xs ys : List B) → h.ctx ≡ g.ctx → Step g.ctx e (module_held g) (module_held h) → ShowsTaken e (module_held g) (shown_of h) → w.ctx ≡ h.ctx → w.store ≡ h.store
       → AllNotified meaning e (context_model w) (module_in w) (node_of_op w) xs ys → Notified meaning (e ∷ []) (record { transaction = g; listeners = xs }) (record { transaction = h; listeners = ys })
   notified_step e g h w xs ys same step shows ctx store t =
-      let told : AllNotified meaning e g.ctx (module_held h) (shown_of h) xs ys = subst (λ (c : ContextModel). AllNotified meaning e c (module_held h) (shown_of h) xs ys) same (told_there e w h xs ys ctx store t) in
-      let all : AllFollowed meaning (e ∷ []) g.ctx (module_held g) g.ctx (module_held h) xs ys = all_told meaning e g.ctx (module_held g) (module_held h) (shown_of h) xs ys step shows told in
+      let reported : AllNotified meaning e g.ctx (module_held h) (shown_of h) xs ys = subst (λ (c : ContextModel). AllNotified meaning e c (module_held h) (shown_of h) xs ys) same (notified_there e w h xs ys ctx store t) in
+      let all : AllFollowed meaning (e ∷ []) g.ctx (module_held g) g.ctx (module_held h) xs ys = all_notified meaning e g.ctx (module_held g) (module_held h) (shown_of h) xs ys step shows reported in
       record {
         grows = subst (λ (d : ContextModel). IsExtendedBy g.ctx d) (sym same) (grows_refl g.ctx);
         steps = subst (λ (d : ContextModel). Steps d (e ∷ []) (module_held g) (module_held h)) (sym same) (module_held h, step, refl);
-        told = subst (λ (d : ContextModel). AllFollowed meaning (e ∷ []) g.ctx (module_held g) d (module_held h) xs ys) (sym same) all;
+        reported = subst (λ (d : ContextModel). AllFollowed meaning (e ∷ []) g.ctx (module_held g) d (module_held h) xs ys) (sym same) all;
       }
 
   -- an edit of a transaction, of which the listeners were notified, followed by the release of held operations
-  pub made_told : (s : Stored) (e : Event) (g h k : TransactionModel) (w : World) (xs ys : List B) → Edited e s g h → w.ctx ≡ h.ctx → w.store ≡ h.store → AllNotified meaning e (context_model w) (module_in w) (node_of_op w) xs ys → Settled h k
+  pub made_notified : (s : Stored) (e : Event) (g h k : TransactionModel) (w : World) (xs ys : List B) → Edited e s g h → w.ctx ≡ h.ctx → w.store ≡ h.store → AllNotified meaning e (context_model w) (module_in w) (node_of_op w) xs ys → Settled h k
       → Made meaning s (record { transaction = g; listeners = xs }) (record { transaction = k; listeners = ys })
-  made_told s e g h k w xs ys ed ctx store t st =
+  made_notified s e g h k w xs ys ed ctx store t st =
       record {
         event = e;
         left = h;
@@ -117,7 +117,7 @@ module _ {B : Type 0} (meaning : B → Listener) where
 
   -- listeners that agreed agree or are stale, and stale listeners stay stale
   pub led_kept : (a b : Benched B) → Led meaning a b → AgreesOrStale meaning a → AgreesOrStale meaning b
-  led_kept a b l kept = all_kept meaning l.0 a.transaction.ctx b.transaction.ctx (module_held a.transaction) (module_held b.transaction) a.listeners b.listeners l.1.told kept
+  led_kept a b l kept = all_kept meaning l.0 a.transaction.ctx b.transaction.ctx (module_held a.transaction) (module_held b.transaction) a.listeners b.listeners l.1.reported kept
 
   pub led_ages : (a b : Benched B) → Led meaning a b → AllAge (all_shown meaning a.listeners) (all_shown meaning b.listeners)
-  led_ages a b l = ages_followed meaning l.0 a.transaction.ctx (module_held a.transaction) b.transaction.ctx (module_held b.transaction) a.listeners b.listeners l.1.told
+  led_ages a b l = ages_followed meaning l.0 a.transaction.ctx (module_held a.transaction) b.transaction.ctx (module_held b.transaction) a.listeners b.listeners l.1.reported

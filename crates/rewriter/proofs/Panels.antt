@@ -50,11 +50,11 @@ module _ {B : Type 0} (meaning : B → Listener) where
   find_has P p (b ∷ bs) x h e = let Q : (t : Bool) → cond t (Some b) (find p bs) ≡ Some x → P x = λ t. elim t as (λ t. cond t (Some b) (find p bs) ≡ Some x → P x) [ true ↦ λ e. (let same : b ≡ x = cc in subst P same (h 0 b (omega arith))) | false ↦ λ e. find_has P p bs x (λ k d l. h (suc k) d (omega arith)) e ] in Q (p b) e
 
   -- a notified listener is older
-  pub ages_told : (e : Event) (c : ContextModel) (n : Module) (see : ℕ → Option Node) (xs ys : List B) → AllNotified meaning e c n see xs ys → AllZip Ages (all_shown meaning xs) (all_shown meaning ys)
-  ages_told e c n see [] [] h = tt
-  ages_told e c n see [] (y ∷ ys) h = absurd h
-  ages_told e c n see (x ∷ xs) [] h = absurd h
-  ages_told e c n see (x ∷ xs) (y ∷ ys) h = (record { same = record { kind = h.0.same.kind; analysis = h.0.same.analysis }; stale = h.0.stale }, ages_told e c n see xs ys h.1)
+  pub ages_notified : (e : Event) (c : ContextModel) (n : Module) (see : ℕ → Option Node) (xs ys : List B) → AllNotified meaning e c n see xs ys → AllZip Ages (all_shown meaning xs) (all_shown meaning ys)
+  ages_notified e c n see [] [] h = tt
+  ages_notified e c n see [] (y ∷ ys) h = absurd h
+  ages_notified e c n see (x ∷ xs) [] h = absurd h
+  ages_notified e c n see (x ∷ xs) (y ∷ ys) h = (record { same = record { kind = h.0.same.kind; analysis = h.0.same.analysis }; stale = h.0.stale }, ages_notified e c n see xs ys h.1)
 
   pub removed_shown : (bs : List B) (i : ℕ) → all_shown meaning (remove bs i) ≡ remove (all_shown meaning bs) i
   removed_shown bs i = map-append (λ b. shown (meaning b)) (take i bs) (drop (suc i) bs) ∙ (λ j. sym (take-map (λ b. shown (meaning b)) i bs) j ++ sym (drop-map (λ b. shown (meaning b)) (suc i) bs) j)

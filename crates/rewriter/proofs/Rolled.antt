@@ -264,8 +264,8 @@ module _ {B : Type 0} (meaning : B → Listener) where
     notified_back : Notified meaning (inverses (drop mark g.journal)) (at g xs) (at k ys)
     notified_back = notified_onward meaning (inverses (drop mark g.journal)) (at g xs) d k ys (t.ctx ∙ ap (λ (l : TransactionModel). l.ctx) shut.held) held_again notified
 
-    pub rollback_told : NotifiedBack meaning (at g xs) (at k ys)
-    rollback_told = (mark, newest, notified_back)
+    pub rollback_notified : NotifiedBack meaning (at g xs) (at k ys)
+    rollback_notified = (mark, newest, notified_back)
 
     pub rollback_led : Led meaning (at g xs) (at k ys)
     rollback_led = (inverses (drop mark g.journal), notified_back)

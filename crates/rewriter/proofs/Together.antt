@@ -197,13 +197,13 @@ module _ {B : Type 0} (meaning : B → Listener) where
   -- after the call's mark is closed, the events under it are at the end of the journal
   pub whole_journaled : Composes → (a b c d : Benched B) → Holds a.transaction.ctx → (a.transaction.marks ≡ [] → a.transaction.journal ≡ []) → b.transaction ≡ with_mark false a.transaction → Notified meaning [] a b → Onward meaning b c → IsFinished true c.transaction d.transaction → Notified meaning [] c d
       → Journaled meaning a d
-  whole_journaled more a b c d holds none begun untold o f silent =
+  whole_journaled more a b c d holds none begun untold o f reports_nothing =
       let b_is : b.transaction.ctx ≡ a.transaction.ctx = ap (λ (h : TransactionModel). h.ctx) begun in
       let holds_b : Holds b.transaction.ctx = subst Holds (sym b_is) holds in
       let holds_c : Holds c.transaction.ctx = subst Holds (sym o.ctx) holds_b in
       let holds_d : Holds d.transaction.ctx = subst Holds (sym f.ctx) holds_c in
       let there : Notified meaning o.noted.0 a c = more [] o.noted.0 a b c holds_b holds_c untold o.noted.1 in
-      let on : Notified meaning (o.noted.0 ++ []) a d = more o.noted.0 [] a c d holds_c holds_d there silent in
+      let on : Notified meaning (o.noted.0 ++ []) a d = more o.noted.0 [] a c d holds_c holds_d there reports_nothing in
       (o.noted.0, subst (λ es. Notified meaning es a d) (append-nil o.noted.0) on, recorded_whole true a.transaction b.transaction c.transaction d.transaction begun o.marks o.noted.0 o.noted.2 (f.dropped (marked_on a.transaction b.transaction c.transaction begun o.marks)) none refl)
 
   -- if the events were undone, the journal is unchanged

@@ -25,7 +25,7 @@ pub record Undoing {B : Type 0} (meaning : B → Listener) (mark : ℕ) (from no
   pub marks : now.marks ≡ from.marks
   pub opens : open_marks now ≡ open_marks from
   pub trailing : (k : ℕ) → k ≤ length now.journal → module_at k now ≡ module_at k from
-  pub told : Notified meaning (inverses es) (record { transaction = from; listeners = xs }) (record { transaction = now; listeners = ys })
+  pub reported : Notified meaning (inverses es) (record { transaction = from; listeners = xs }) (record { transaction = now; listeners = ys })
 
 module _ {B : Type 0} (meaning : B → Listener) (mark : ℕ) (from : TransactionModel) (xs : List B) where
   pub undoing_none : mark ≤ length from.journal → Undoing meaning mark from from xs xs
@@ -39,14 +39,14 @@ module _ {B : Type 0} (meaning : B → Listener) (mark : ℕ) (from : Transactio
         marks = refl;
         opens = refl;
         trailing = λ k le. refl;
-        told = notified_none meaning (record { transaction = from; listeners = xs });
+        reported = notified_none meaning (record { transaction = from; listeners = xs });
       }
 
   pub undoing_more : (e : Event) (h g : TransactionModel) (w : World) (ys zs : List B) → mark < length h.journal → Undone e h g → w.ctx ≡ g.ctx → w.store ≡ g.store → AllNotified meaning e (context_model w) (module_in w) (node_of_op w) ys zs
       → Undoing meaning mark from h xs ys → Undoing meaning mark from g xs zs
-  undoing_more e h g w ys zs lt u ctx store told on =
+  undoing_more e h g w ys zs lt u ctx store reported on =
       let same : g.ctx ≡ h.ctx = ap (λ (k : TransactionModel). k.ctx) u.held in
-      let one : Notified meaning (e ∷ []) (record { transaction = h; listeners = ys }) (record { transaction = g; listeners = zs }) = notified_step meaning e h g w ys zs same u.step u.shown ctx store told in
+      let one : Notified meaning (e ∷ []) (record { transaction = h; listeners = ys }) (record { transaction = g; listeners = zs }) = notified_step meaning e h g w ys zs same u.step u.shown ctx store reported in
       let long = ap length u.journal ∙ length-append g.journal (u.last ∷ []) in
       record {
         es = u.last ∷ on.es;
@@ -57,8 +57,8 @@ module _ {B : Type 0} (meaning : B → Listener) (mark : ℕ) (from : Transactio
         marks = ap (λ (k : TransactionModel). k.marks) u.held ∙ on.marks;
         opens = u.marked ∙ on.opens;
         trailing = λ k le. u.trailing k le ∙ on.trailing k (omega (arith, le, long));
-        told = subst (λ (f : Event). Notified meaning (inverses on.es ++ f ∷ []) (record { transaction = from; listeners = xs }) (record { transaction = g; listeners = zs })) u.is
-            (notified_next meaning (inverses on.es) (e ∷ []) (record { transaction = from; listeners = xs }) (record { transaction = h; listeners = ys }) (record { transaction = g; listeners = zs }) same on.told one);
+        reported = subst (λ (f : Event). Notified meaning (inverses on.es ++ f ∷ []) (record { transaction = from; listeners = xs }) (record { transaction = g; listeners = zs })) u.is
+            (notified_next meaning (inverses on.es) (e ∷ []) (record { transaction = from; listeners = xs }) (record { transaction = h; listeners = ys }) (record { transaction = g; listeners = zs }) same on.reported one);
       }
 
   -- the newest event may be undone while the journal is longer than the mark
@@ -91,5 +91,5 @@ module _ {B : Type 0} (meaning : B → Listener) (mark : ℕ) (from : Transactio
           trailing = λ k le. on.trailing k (let at = at_mark in omega (arith, le, at));
         }
 
-    pub undone_told : Notified meaning (inverses (drop mark from.journal)) (record { transaction = from; listeners = xs }) (record { transaction = h; listeners = ys })
-    undone_told = subst (λ es. Notified meaning (inverses es) (record { transaction = from; listeners = xs }) (record { transaction = h; listeners = ys })) (sym rest_is) on.told
+    pub undone_notified : Notified meaning (inverses (drop mark from.journal)) (record { transaction = from; listeners = xs }) (record { transaction = h; listeners = ys })
+    undone_notified = subst (λ es. Notified meaning (inverses es) (record { transaction = from; listeners = xs }) (record { transaction = h; listeners = ys })) (sym rest_is) on.reported

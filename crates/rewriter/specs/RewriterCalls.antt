@@ -52,7 +52,7 @@ module _ {B : Type 0} (meaning : B → Listener) where
   pub record Notified (es : List Event) (old new : Benched B) : Type 0 where
     pub grows : IsExtendedBy old.transaction.ctx new.transaction.ctx
     pub steps : Steps new.transaction.ctx es (module_held old.transaction) (module_held new.transaction)
-    pub told : AllFollowed meaning es old.transaction.ctx (module_held old.transaction) new.transaction.ctx
+    pub reported : AllFollowed meaning es old.transaction.ctx (module_held old.transaction) new.transaction.ctx
         (module_held new.transaction) old.listeners new.listeners
 
   -- the listeners were notified of exactly the events that lead from one module to the other

@@ -18,7 +18,7 @@ fn undo_to<L: Analysis>(transaction: &mut Transaction, panel: &mut Panel<L>, mar
     requires above { Within mark transaction.old.marks }
     requires within { mark ≤ length transaction.old.journal }
     ensures undone { UndoneTo mark transaction.old transaction.new }
-    ensures told { Notified L.meaning (inverses (drop mark transaction.old.journal))
+    ensures reported { Notified L.meaning (inverses (drop mark transaction.old.journal))
         (record { transaction = transaction.old; listeners = panel.old }) (record { transaction = transaction.new; listeners = panel.new }) }
 {
     while transaction.journal_len() > mark {
@@ -105,7 +105,7 @@ impl<L: Analysis> Bench<L> {
         ensures does { Does L.meaning Rollback (reply_of result) self.old self.new }
         ensures ctx { self.new.transaction.ctx ≡ self.old.transaction.ctx }
         ensures ok { OnOk result (Dropped false self.old.transaction self.new.transaction) }
-        ensures told { OnOk result (NotifiedBack L.meaning self.old self.new) }
+        ensures reported { OnOk result (NotifiedBack L.meaning self.old self.new) }
         ensures err { OnErr result (self.new ≡ self.old) }
         ensures none { OnErr result (self.old.transaction.marks ≡ []) }
         ensures led { Led L.meaning self.old self.new }

@@ -24,7 +24,7 @@ use std::alloc::Global;
 pub fn parse_attr(alloc: Global, world: &mut World, text: &[u8]) -> Result<AttrId, ReadError>
     ensures attr { IfOk result (λ a. IsAttr world.new.ctx a × SpellsAttr world.old.ctx.opaque text.now (attr_term world.new.ctx a)) }
     ensures refused { (r : Reason) (o : ℕ) → result ≡ Err (ReadError.Refused r o) → IsNoAttr (SpellsAttr world.old.ctx.opaque text.now) }
-    ensures told { IfErr result (λ e. IsTextRefusal text.now e) }
+    ensures reported { IfErr result (λ e. IsTextRefusal text.now e) }
     ensures full { (o : ℕ) → result ≡ Err (ReadError.Full o) → IsFull world.new.ctx }
     ensures grown { Grown world.old world.new }
 {
@@ -44,7 +44,7 @@ pub fn read_op(alloc: Global, world: &mut World, text: &[u8]) -> Result<TreeOp, 
     ensures numbered { IfOk result (λ t. IsNumberedFrom world.old.store.module_of.next t) }
     ensures refused { (r : Reason) (o : ℕ) → result ≡ Err (ReadError.Refused r o)
         → IsNone (SpellsNextTo world.old.ctx.opaque (module_in world.old) text.now) }
-    ensures told { IfErr result (λ e. IsOpRefusal text.now e) }
+    ensures reported { IfErr result (λ e. IsOpRefusal text.now e) }
     ensures full { (o : ℕ) → result ≡ Err (ReadError.Full o) → IsFull world.new.ctx }
     ensures grown { Grown world.old world.new }
 {

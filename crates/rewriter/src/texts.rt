@@ -28,7 +28,7 @@ impl<L: Analysis> Bench<L> {
         ensures attr { IfOk result
             (λ a. IsAttr self.new.transaction.ctx a × SpellsAttr self.old.transaction.ctx.opaque text.now (attr_term self.new.transaction.ctx a)) }
         ensures refused { (r : Reason) (o : ℕ) → result ≡ Err (ReadError.Refused r o) → IsNoAttr (SpellsAttr self.old.transaction.ctx.opaque text.now) }
-        ensures told { IfErr result (λ e. IsTextRefusal text.now e) }
+        ensures reported { IfErr result (λ e. IsTextRefusal text.now e) }
         ensures full { (o : ℕ) → result ≡ Err (ReadError.Full o) → IsFull self.new.transaction.ctx }
         ensures grown { Grown self.old.transaction self.new.transaction }
         ensures listeners { self.new.listeners ≡ self.old.listeners }
@@ -50,7 +50,7 @@ impl<L: Analysis> Bench<L> {
         ensures numbered { IfOk result (λ t. IsNumberedFrom self.old.transaction.store.module_of.next t) }
         ensures refused { (r : Reason) (o : ℕ) → result ≡ Err (ReadError.Refused r o)
             → IsNone (SpellsNextTo self.old.transaction.ctx.opaque (module_held self.old.transaction) text.now) }
-        ensures told { IfErr result (λ e. IsOpRefusal text.now e) }
+        ensures reported { IfErr result (λ e. IsOpRefusal text.now e) }
         ensures full { (o : ℕ) → result ≡ Err (ReadError.Full o) → IsFull self.new.transaction.ctx }
         ensures grown { Grown self.old.transaction self.new.transaction }
         ensures listeners { self.new.listeners ≡ self.old.listeners }

@@ -27,7 +27,7 @@ impl Transaction {
     pub fn parse_attr(&mut self, alloc: Global, text: &[u8]) -> Result<AttrId, ReadError>
         ensures attr { IfOk result (λ a. IsAttr self.new.ctx a × SpellsAttr self.old.ctx.opaque text.now (attr_term self.new.ctx a)) }
         ensures refused { (r : Reason) (o : ℕ) → result ≡ Err (ReadError.Refused r o) → IsNoAttr (SpellsAttr self.old.ctx.opaque text.now) }
-        ensures told { IfErr result (λ e. IsTextRefusal text.now e) }
+        ensures reported { IfErr result (λ e. IsTextRefusal text.now e) }
         ensures full { (o : ℕ) → result ≡ Err (ReadError.Full o) → IsFull self.new.ctx }
         ensures grown { Grown self.old self.new }
     {
@@ -46,7 +46,7 @@ impl Transaction {
         ensures numbered { IfOk result (λ t. IsNumberedFrom self.old.store.module_of.next t) }
         ensures refused { (r : Reason) (o : ℕ) → result ≡ Err (ReadError.Refused r o)
             → IsNone (SpellsNextTo self.old.ctx.opaque (module_held self.old) text.now) }
-        ensures told { IfErr result (λ e. IsOpRefusal text.now e) }
+        ensures reported { IfErr result (λ e. IsOpRefusal text.now e) }
         ensures full { (o : ℕ) → result ≡ Err (ReadError.Full o) → IsFull self.new.ctx }
         ensures grown { Grown self.old self.new }
     {

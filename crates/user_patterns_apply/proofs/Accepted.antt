@@ -33,7 +33,7 @@ use Rattle.patterns_base.specs.Looks as looks
 use Rattle.patterns_base.specs.Made.{Entries, made, value_entry}
 use Rattle.patterns_base.specs.Makes.{give, made_by}
 use Rattle.patterns_base.specs.Rewrites.{becomes, carried_out, refused}
-use Rattle.patterns_soundness.proofs.Limits as fit
+use Rattle.patterns_soundness.proofs.Limits as fits_in
 use Rattle.patterns_soundness.proofs.Limits.{IsWithinLimits}
 use Rattle.patterns_soundness.proofs.Given.{HasHeadroom}
 use Rattle.user_patterns_check.specs.Contents.{Content}
@@ -170,7 +170,7 @@ module _ (x : ℕ) (insertion : Place) (ty : TypeTerm) (root : ℕ) (ts : BoundV
       let term : l.term ≡ ty = same_Some l.term ty (sym l.typed ∙ ap (λ z. binding_at z ts) (same_Some (new_type w) t last) ∙ typed) in
       let these : Make insertion (made l.name l.operands l.term l.properties) ∷ give x (Result m.next 0) ≡ map (λ o. Make insertion o) os ++ give x v =
       (λ i. Make insertion (sym l.is i) ∷ give x (value i)) ∙ ap (λ z. map (λ o. Make insertion o) z ++ give x v) (sym (s.all ∙ ap (λ z. s.made_here ∷ z) none)) in
-      subst (λ es. Free es m) these (fit.new_given x insertion ty 0 m f l.name l.operands l.term l.properties l.small l.short l.pass m.next refl (ap (same_type ty) term ∙ type_refl ty))
+      subst (λ es. Free es m) these (fits_in.new_given x insertion ty 0 m f l.name l.operands l.term l.properties l.small l.short l.pass m.next refl (ap (same_type ty) term ∙ type_refl ty))
     where
       given_here : {u w : Value} → Some (Some u) ≡ Some (Some w) → u ≡ w
       given_here e = cc
@@ -183,18 +183,18 @@ module _ (x : ℕ) (insertion : Place) (ty : TypeTerm) (root : ℕ) (ts : BoundV
     next_module = edited (Make insertion (made l.name l.operands l.term l.properties)) m
 
     next_fit : IsWithinLimits x insertion ty (suc (length ws)) next_module
-    next_fit = fit.made_fit x insertion ty (suc (length ws)) m f l.name l.operands l.term l.properties l.small l.short l.pass
+    next_fit = fits_in.made_fit x insertion ty (suc (length ws)) m f l.name l.operands l.term l.properties l.small l.short l.pass
 
     next_dominated_by : DominatedByAll s.after next_module
     next_dominated_by =
-        still_dominated_by k m next_module b s.after s.bind all (fit.dominated_by_still x insertion ty (suc (length ws)) m f l.name l.operands l.term l.properties l.small l.short l.pass)
-        (fit.dominated_by_new x insertion ty (suc (length ws)) m f l.name l.operands l.term l.properties l.small l.short l.pass m.next refl)
+        still_dominated_by k m next_module b s.after s.bind all (fits_in.dominated_by_still x insertion ty (suc (length ws)) m f l.name l.operands l.term l.properties l.small l.short l.pass)
+        (fits_in.dominated_by_new x insertion ty (suc (length ws)) m f l.name l.operands l.term l.properties l.small l.short l.pass m.next refl)
 
     with_rest : (v : Value) → Free (map (λ o. Make insertion o) s.others ++ give x v) next_module → Free (map (λ o. Make insertion o) os ++ give x v) m
     with_rest v rest =
         let these : Make insertion (made l.name l.operands l.term l.properties) ∷ (map (λ o. Make insertion o) s.others ++ give x v) ≡ map (λ o. Make insertion o) os ++ give x v =
         (λ i. Make insertion (sym l.is i) ∷ (map (λ o. Make insertion o) s.others ++ give x v)) ∙ ap (λ z. map (λ o. Make insertion o) z ++ give x v) (sym s.all) in
-        subst (λ es. Free es m) these (fit.make_first x insertion ty (suc (length ws)) m f l.name l.operands l.term l.properties l.small l.short l.pass (map (λ o. Make insertion o) s.others ++ give x v) rest)
+        subst (λ es. Free es m) these (fits_in.make_first x insertion ty (suc (length ws)) m f l.name l.operands l.term l.properties l.small l.short l.pass (map (λ o. Make insertion o) s.others ++ give x v) rest)
 
   all_free : (w : NewValue) (ws : List NewValue) (k : ℕ) (m : Module) → IsWithinLimits x insertion ty (suc (length ws)) m → (b : BoundValues Value) → DominatedByAll b m → list_all (spares root) (w ∷ ws) ≡ true
       → (os : List Operation) (c : BoundValues Value) → all_made ts env m.next k (w ∷ ws) b ≡ Some (os, c) → (t : ℕ) → last_type (w ∷ ws) ≡ Some t → binding_at t ts ≡ Some ty
@@ -344,7 +344,7 @@ module _ (p : PatternModel) (m : Module) (x : ℕ) (wellformed : IsWellFormed is
         let apart : p.result ≡ p.root → ⊥ = λ e. absurd (omega (arith, e, within, above)) in
         let dominated_by_it = seen.other p.result q.result apart (standing_is p.result q.values q.result value) in
         let these : give x q.result ≡ map (λ o. Make insertion o) r.0 ++ give x r.1 = (λ i. map (λ o. Make insertion o) (ap (λ (z : List Operation × BoundValues Value). z.0) made_is i) ++ give x q.result) ∙ ap (λ (z : Plan). map (λ o. Make insertion o) z.0 ++ give x z.1) (sym q.plan) in
-        subst (λ es. Free es m) these (fit.given x insertion ty 0 m (fits_here 0 headroom.0 headroom.1) q.result dominated_by_it h.1 (ap (λ z. type_of_value z m.tree) (sym same) ∙ h.3) (ap (same_type ty) (sym term) ∙ type_refl ty))
+        subst (λ es. Free es m) these (fits_in.given x insertion ty 0 m (fits_here 0 headroom.0 headroom.1) q.result dominated_by_it h.1 (ap (λ z. type_of_value z m.tree) (sym same) ∙ h.3) (ap (same_type ty) (sym term) ∙ type_refl ty))
 
     -- otherwise the last new operation replaces the result
     made_last : (w : NewValue) (ws : List NewValue) → p.new ≡ w ∷ ws → HasHeadroomFor (suc (length ws)) → Free (map (λ o. Make insertion o) r.0 ++ give x r.1) m

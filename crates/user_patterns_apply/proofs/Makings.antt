@@ -141,7 +141,7 @@ module _ {B : Type 0} (means : B → Listener) (next : ℕ) (insertion : Place) 
     pub added : Added means old now
     pub holds : Holds now.transaction.ctx
     pub of : AreMadeOf now.transaction.ctx rest
-    pub fit : AllFit now.transaction.ctx edits
+    pub fits_in : AllFit now.transaction.ctx edits
     pub left : edits_meaning now.transaction.ctx edits ++ makings now.transaction.ctx next insertion rest ≡ makings old.transaction.ctx next insertion all
 
   pub making_none : Holds old.transaction.ctx → AreMadeOf old.transaction.ctx all → (es : List Coded) → es ≡ [] → Making all old es
@@ -150,20 +150,20 @@ module _ {B : Type 0} (means : B → Listener) (next : ℕ) (insertion : Place) 
         added = added_none means old;
         holds = holds;
         of = of;
-        fit = subst (AllFit old.transaction.ctx) (sym none) tt;
+        fits_in = subst (AllFit old.transaction.ctx) (sym none) tt;
         left = ap (λ z. edits_meaning old.transaction.ctx z ++ makings old.transaction.ctx next insertion all) none;
       }
 
   pub making_more : (m : NewOp) (rest : List NewOp) (now after : Benched B) (edits more : List Coded) → Making (m ∷ rest) now edits → Holds after.transaction.ctx → Added means now after → AllFit after.transaction.ctx more
       → edits_meaning after.transaction.ctx more ≡ edits_meaning now.transaction.ctx edits ++ edit.Make insertion (made_in now.transaction.ctx next m) ∷ [] → Making rest after more
-  making_more m rest now after edits more s holds added fit is =
+  making_more m rest now after edits more s holds added fits_in is =
       let g = added.grown.grows in
       let of = rest_made now.transaction.ctx after.transaction.ctx g m rest s.of in
       record {
         added = added_on means old now after s.holds s.added added;
         holds = holds;
         of = grown_made now.transaction.ctx after.transaction.ctx g rest of;
-        fit = fit;
+        fits_in = fits_in;
         left =
             (λ i. is i ++ makings_stay now.transaction.ctx after.transaction.ctx g next insertion rest of i)
             ∙ append_assoc (edits_meaning now.transaction.ctx edits) (edit.Make insertion (made_in now.transaction.ctx next m) ∷ []) (makings now.transaction.ctx next insertion rest) ∙ s.left;
@@ -181,7 +181,7 @@ fit_joined c (e ∷ es) fs h f = (h.0, fit_joined c es fs h.1 f)
 
 pub given_stands : (a c : ContextModel) (n x : ℕ) (p : PlacedBuild) (es after : List Coded) → edits_meaning c es ≡ makings a n p.point p.built.made.items → AllFit c es
     → after ≡ es ++ coded.Replace (Result x 0) (operand_in n p.built.result) ∷ coded.Erase x ∷ [] → EditsDenote c after (planned_edits a n x p)
-given_stands a c n x p es after meaning fit is =
+given_stands a c n x p es after meaning fits_in is =
     let last = coded.Replace (Result x 0) (operand_in n p.built.result) ∷ coded.Erase x ∷ [] in
     subst (λ z. EditsDenote c z (planned_edits a n x p)) (sym is)
-    (record { meaning = edits_more c es last ∙ ap (λ z. z ++ give x (operand_in n p.built.result)) meaning; fit = fit_joined c es last fit (tt, (tt, tt)) })
+    (record { meaning = edits_more c es last ∙ ap (λ z. z ++ give x (operand_in n p.built.result)) meaning; fits_in = fit_joined c es last fits_in (tt, (tt, tt)) })

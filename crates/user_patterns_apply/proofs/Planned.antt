@@ -128,8 +128,8 @@ module _ (t : Operation) (verified : Header → Bool) (n : ℕ) (p : PatternMode
   pub plans : (a : Bool) → a ≡ list_all is_numeric ts → a ≡ true → (ks : List BitsKind) → ks ≡ map bound_type ts → (f : Bool) → f ≡ fits ks p → f ≡ true → (k : Bool) → k ≡ constants_known t verified n p b → k ≡ true
       → (steps : List Step) → steps ≡ Content.given (content_with ks p) → (env : List Outcome) → env ≡ outcomes t verified n p 0 p.values b → (after : List Outcome) (done : Bool) → check.Stands (run steps env) after done → done ≡ true
       → (r : Option Plan) → r ≡ planned_from t verified n p b ts after → r ≡ planned_by t verified n p b ts
-  plans a numeric whole ks value_types f fit fine k known all steps given_is env outcomes_are after done stands yes_done r is =
-      let first : fits (map bound_type ts) p ≡ true = ap (λ z. fits z p) (sym value_types) ∙ sym fit ∙ fine in
+  plans a numeric whole ks value_types f fits_in fine k known all steps given_is env outcomes_are after done stands yes_done r is =
+      let first : fits (map bound_type ts) p ≡ true = ap (λ z. fits z p) (sym value_types) ∙ sym fits_in ∙ fine in
       let second : constants_known t verified n p b ≡ true = sym known ∙ all in
       let third : run (Content.given (content_with (map bound_type ts) p)) (outcomes t verified n p 0 p.values b) ≡ Some after =
       (λ i. run ((ap (λ z. Content.given (content_with z p)) (sym value_types) ∙ sym given_is) i) (sym outcomes_are i)) ∙ ran (run steps env) after done stands yes_done in
@@ -138,9 +138,9 @@ module _ (t : Operation) (verified : Header → Bool) (n : ℕ) (p : PatternMode
       ∙ ap (λ z. when z by_kinds) (sym whole ∙ numeric)
 
   pub not_fitting : (ks : List BitsKind) → ks ≡ map bound_type ts → (f : Bool) → f ≡ fits ks p → f ≡ false → None ≡ planned_by t verified n p b ts
-  not_fitting ks value_types f fit failed =
+  not_fitting ks value_types f fits_in failed =
       numeric_none (ap (λ y. when (y && constants_known t verified n p b) (given (run (Content.given (content_with (map bound_type ts) p)) (outcomes t verified n p 0 p.values b)) (planned_from t verified n p b ts)))
-      (sym failed ∙ fit ∙ ap (λ z. fits z p) value_types))
+      (sym failed ∙ fits_in ∙ ap (λ z. fits z p) value_types))
 
   pub not_known : (k : Bool) → k ≡ constants_known t verified n p b → k ≡ false → None ≡ planned_by t verified n p b ts
   not_known k known failed =

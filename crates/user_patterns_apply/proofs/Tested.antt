@@ -83,7 +83,7 @@ module _ (s : Step) (ss : List Step) (env new : List Outcome) where
   pub tested_one : (i : ℕ) → run (s ∷ []) env ≡ Some new → steps_tests (i + 1) ss new ≡ steps_tests i (s ∷ ss) env
   tested_one i e = go (step_of s env) e
     where
-      go : (o : Option Outcome) → given o (λ v. Some (env ++ (v ∷ []))) ≡ Some new → steps_tests (i + 1) ss new ≡ with_value o (fails.Condition i) (λ v. steps_tests (i + 1) ss (env ++ (v ∷ [])))
+      go : (o : Option Outcome) → given o (λ v. Some (env ++ (v ∷ []))) ≡ Some new → steps_tests (i + 1) ss new ≡ with_value o (fails.Constraint i) (λ v. steps_tests (i + 1) ss (env ++ (v ∷ [])))
       go None e = absurd cc
       go (Some v) e = (let one : env ++ (v ∷ []) ≡ new = cc in sym (ap (steps_tests (i + 1) ss) one))
 
@@ -94,10 +94,10 @@ module _ (s : Step) (ss : List Step) (env new : List Outcome) where
       go None e = refl
       go (Some v) e = absurd cc
 
-  pub undefined_one : (i : ℕ) → run (s ∷ []) env ≡ None → Some (fails.Condition i) ≡ steps_tests i (s ∷ ss) env
+  pub undefined_one : (i : ℕ) → run (s ∷ []) env ≡ None → Some (fails.Constraint i) ≡ steps_tests i (s ∷ ss) env
   undefined_one i e = go (step_of s env) e
     where
-      go : (o : Option Outcome) → given o (λ v. Some (env ++ (v ∷ []))) ≡ None → Some (fails.Condition i) ≡ with_value o (fails.Condition i) (λ v. steps_tests (i + 1) ss (env ++ (v ∷ [])))
+      go : (o : Option Outcome) → given o (λ v. Some (env ++ (v ∷ []))) ≡ None → Some (fails.Constraint i) ≡ with_value o (fails.Constraint i) (λ v. steps_tests (i + 1) ss (env ++ (v ∷ [])))
       go None e = refl
       go (Some v) e = absurd cc
 
@@ -113,7 +113,7 @@ module _ (rest : List Step) (d : Step) (some : 1 ≤ length rest) (env new : Lis
   pub next_not_ran : run (get_or rest 0 d ∷ []) env ≡ None → None ≡ run rest env
   next_not_ran e = not_ran_one (get_or rest 0 d) (take (length rest - 1) (drop 1 rest)) env env e ∙ ap (λ z. run z env) (sym split)
 
-  pub next_undefined : (i : ℕ) → run (get_or rest 0 d ∷ []) env ≡ None → Some (fails.Condition i) ≡ steps_tests i rest env
+  pub next_undefined : (i : ℕ) → run (get_or rest 0 d ∷ []) env ≡ None → Some (fails.Constraint i) ≡ steps_tests i rest env
   next_undefined i e = undefined_one (get_or rest 0 d) (take (length rest - 1) (drop 1 rest)) env env i e ∙ ap (λ z. steps_tests i z env) (sym split)
 
   pub next_ran : run (get_or rest 0 d ∷ []) env ≡ Some new → run (take (length rest - 1) (drop 1 rest)) new ≡ run rest env
@@ -188,12 +188,12 @@ module _ (t : Operation) (verified : Header → Bool) (n : ℕ) (p : PatternMode
       numbers_first = passes (unless (list_all is_numeric ts) fails.NotNumeric) after_numeric (holds (list_all is_numeric ts) fails.NotNumeric (sym numeric ∙ passed)) ∙ at
 
       pub fits_stops : (f : Bool) → f ≡ fits ks p → f ≡ false → Some fails.Types ≡ fitting_tests t verified n p b ts
-      fits_stops f fit failed =
-          stops (unless (fits ks p) fails.Types) (known_tests t verified n p b ∷ after_known) fails.Types (breaks (fits ks p) fails.Types (sym fit ∙ failed)) ∙ numbers_first
+      fits_stops f fits_in failed =
+          stops (unless (fits ks p) fails.Types) (known_tests t verified n p b ∷ after_known) fails.Types (breaks (fits ks p) fails.Types (sym fits_in ∙ failed)) ∙ numbers_first
 
-      module _ (f : Bool) (fit : f ≡ fits ks p) (fine : f ≡ true) where
+      module _ (f : Bool) (fits_in : f ≡ fits ks p) (fine : f ≡ true) where
         first : first_failing (known_tests t verified n p b ∷ after_known) ≡ fitting_tests t verified n p b ts
-        first = passes (unless (fits ks p) fails.Types) (known_tests t verified n p b ∷ after_known) (holds (fits ks p) fails.Types (sym fit ∙ fine)) ∙ numbers_first
+        first = passes (unless (fits ks p) fails.Types) (known_tests t verified n p b ∷ after_known) (holds (fits ks p) fails.Types (sym fits_in ∙ fine)) ∙ numbers_first
 
         pub known_stops : (m : Mismatch) → Some m ≡ known_tests t verified n p b → Some m ≡ fitting_tests t verified n p b ts
         known_stops m e = stops (known_tests t verified n p b) after_known m e ∙ first
@@ -250,9 +250,9 @@ module _ (t : Operation) (verified : Header → Bool) (n : ℕ) (p : PatternMode
         pub verified_stop : (m : Mismatch) → Some m ≡ verified_tests t verified (placed (old_place p) p.old) b → Some m ≡ values_tests t verified n p b
         verified_stop m e = stops verifying after_verified m e ∙ second_passes
 
-        module _ (clean : None ≡ verified_tests t verified (placed (old_place p) p.old) b) where
+        module _ (none_fails : None ≡ verified_tests t verified (placed (old_place p) p.old) b) where
           third_passes : first_failing after_verified ≡ values_tests t verified n p b
-          third_passes = passes verifying after_verified clean ∙ second_passes
+          third_passes = passes verifying after_verified none_fails ∙ second_passes
 
           pub typed_stop : (m : Mismatch) → Some m ≡ typed_tests t verified p b → Some m ≡ values_tests t verified n p b
           typed_stop m e = stops (typed_tests t verified p b) after_typed m e ∙ third_passes

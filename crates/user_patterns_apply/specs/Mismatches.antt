@@ -138,7 +138,7 @@ module _ (t : Operation) (verified : Header → Bool) where
 -- each step is defined; the first step has index i
 abbrev pub steps_tests : ℕ → List Step → List Outcome → Test
 steps_tests i [] env = None
-steps_tests i (s ∷ ss) env = with_value (step_of s env) (fails.Condition i) (λ v. steps_tests (i + 1) ss (env ++ (v ∷ [])))
+steps_tests i (s ∷ ss) env = with_value (step_of s env) (fails.Constraint i) (λ v. steps_tests (i + 1) ss (env ++ (v ∷ [])))
 
 module _ (t : Operation) (verified : Header → Bool) (n : ℕ) (p : PatternModel) where
   -- the numbers of all constants are known

@@ -77,11 +77,11 @@ fn push_making<L: Analysis>(
     edits: &mut Vec<Edit>,
 ) -> Result<(), Refusal>
     requires of { TypeIsOf bench.old.transaction.ctx made.now.ty }
-    requires fit { AllFit bench.old.transaction.ctx edits.old.items }
+    requires fits_in { AllFit bench.old.transaction.ctx edits.old.items }
     ensures meaning { OnOk result (edits_meaning bench.new.transaction.ctx edits.new.items
         ≡ edits_meaning bench.old.transaction.ctx edits.old.items
         ++ Making point.now (made_in bench.old.transaction.ctx next made.now) ∷ []) }
-    ensures fit { OnOk result (AllFit bench.new.transaction.ctx edits.new.items) }
+    ensures fits_in { OnOk result (AllFit bench.new.transaction.ctx edits.new.items) }
     ensures refused { IfErr result (λ e. IsCapacityRefusal bench.new.transaction.ctx e) }
     ensures added { Added L.meaning bench.old bench.new }
 {
@@ -110,7 +110,7 @@ fn all_makings<L: Analysis>(
     requires of { AreMadeOf bench.old.transaction.ctx made.now }
     ensures meaning { IfOk result (λ es. edits_meaning bench.new.transaction.ctx es.items
         ≡ makings bench.old.transaction.ctx next point.now made.now) }
-    ensures fit { IfOk result (λ es. AllFit bench.new.transaction.ctx es.items) }
+    ensures fits_in { IfOk result (λ es. AllFit bench.new.transaction.ctx es.items) }
     ensures refused { IfErr result (λ e. IsCapacityRefusal bench.new.transaction.ctx e) }
     ensures added { Added L.meaning bench.old bench.new }
 {

@@ -29,7 +29,7 @@ pub enum Mismatch {
     /// The value isn't the constant that the pattern requires.
     Number(u128),
     /// The computed number with this index isn't defined: a condition is false, or a number isn't a power of two.
-    Condition(usize),
+    Constraint(usize),
     /// The operation doesn't have exactly one result.
     Results,
     /// The operation is the root of the module.

@@ -91,7 +91,7 @@ fn run_steps(steps: &[Step], env: &mut Vec<Option<Bits>>) -> Result<Option<Misma
     let mut rest = steps;
     'steps: while let [first, tail @ ..] = rest {
         if !run(&[*first], env)? {
-            return Ok(Some(Mismatch::Condition(index)));
+            return Ok(Some(Mismatch::Constraint(index)));
         }
         index += 1;
         rest = tail;

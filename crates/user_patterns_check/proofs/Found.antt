@@ -149,11 +149,11 @@ module _ (p : List ℕ → Bool) (old ws : List ℕ) where
 -- without further bounds, the claim is tested at the values themselves
 pub ends_tried : (p : List ℕ → Bool) (old : List ℕ) → WentOn (first_failing (λ vs. p (old ++ vs)) []) old old (not (p old))
 unfolding first_failing
-ends_tried p old = rw (append-nil old) (tried (p old))
+ends_tried p old = rw (append-nil old) (attempted (p old))
   where
-    tried : (b : Bool) → WentOn (whether b) old old (not b)
-    tried true = (refl, refl)
-    tried false = (refl, sym (append-nil old))
+    attempted : (b : Bool) → WentOn (whether b) old old (not b)
+    attempted true = (refl, refl)
+    attempted false = (refl, sym (append-nil old))
 
 -- the same, in terms of the code
 module _ (p : List ℕ → Bool) (old ws widths : List ℕ) (w v e : ℕ) (listed : widths ≡ w ∷ ws) (end_is : e ≡ w) where

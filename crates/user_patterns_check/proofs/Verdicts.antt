@@ -47,8 +47,8 @@ something_found false r e = absurd (true_false e)
 kept : (s : Content) → is_few s ≡ true → is_none (first_broken s) ≡ true → AlwaysKeeps s
 kept s few e = finds (keeps s) (counts s) (nothing_found (is_few s) (first_failing (keeps s) (counts s)) few e)
 
-silent : (s : Content) → is_few s ≡ true → is_none (first_defined_input s) ≡ true → AlwaysUndefined s
-silent s few e = finds (is_undefined s) (counts s) (nothing_found (is_few s) (first_failing (is_undefined s) (counts s)) few e)
+reports_nothing : (s : Content) → is_few s ≡ true → is_none (first_defined_input s) ≡ true → AlwaysUndefined s
+reports_nothing s few e = finds (is_undefined s) (counts s) (nothing_found (is_few s) (first_failing (is_undefined s) (counts s)) few e)
 
 notified : (s : Content) → is_none (first_defined_input s) ≡ false → (values : List ℕ) × AreBelow (counts s) values × (is_undefined s values ≡ false)
 notified s e =
@@ -81,7 +81,7 @@ module _ (f : Family) (n most : ℕ) (low : most ≤ most_width) where
     pub all_silent : first_failing (is_vacuous_at f) (bounds n most) ≡ None → (ws : List ℕ) → AreWidths n most ws → AlwaysUndefined (f ws)
     all_silent quiet ws a =
         let b = widths_below most low n ws a in
-        subst (λ (us : List ℕ). AlwaysUndefined (f us)) b.2 (silent (f (widths_at b.0)) (finds (few_at f) (bounds n most) few b.0 b.1) (finds (is_vacuous_at f) (bounds n most) quiet b.0 b.1))
+        subst (λ (us : List ℕ). AlwaysUndefined (f us)) b.2 (reports_nothing (f (widths_at b.0)) (finds (few_at f) (bounds n most) few b.0 b.1) (finds (is_vacuous_at f) (bounds n most) quiet b.0 b.1))
 
   pub some_notified : (vs : List ℕ) → first_failing (is_vacuous_at f) (bounds n most) ≡ Some vs
       → (ws : List ℕ) × (values : List ℕ) × AreWidths n most ws × AreBelow (counts (f ws)) values × (is_undefined (f ws) values ≡ false)

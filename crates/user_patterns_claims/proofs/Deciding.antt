@@ -44,7 +44,7 @@ use Rattle.user_patterns_instructions.proofs.Operands.{Stands, outcome_by, stand
 use Rattle.user_patterns_claims.proofs.Typing.{claim_kinds}
 use Rattle.user_patterns_claims.proofs.Instructions.{AllGo, Holds, Reached, all_go, found, instruction_fits, instruction_step, is_partial, ones_still}
 use Rattle.user_patterns_claims.proofs.BothSides.{ClaimsSome, sides_claim, truth_one}
-use Rattle.user_patterns_claims.proofs.VariableOutcomes.{are_narrower, conditions_hold, VariablesHold, first_holds, fit, masks_of, number_of, set_low, set_of, variables_hold}
+use Rattle.user_patterns_claims.proofs.VariableOutcomes.{are_narrower, conditions_hold, VariablesHold, first_holds, fits_in, masks_of, number_of, set_low, set_of, variables_hold}
 
 -- ---- a pattern's steps are those of its instructions
 
@@ -207,7 +207,7 @@ module _ (p : PatternModel) (ks : List BitsKind) (aligned : AreKindsOf p.value_t
             let left_in = c.left_in in
             let right_in = c.right_in in
             let long : length (map number_of os) ≡ length p.values = length-map os number_of ∙ sym (many_values 0 p.values os are) in
-            let fits_here = subst (λ (n : ℕ). FitWidths W vs n (claim_types p.value_types) ws) long (fit W most p.value_types ks (map number_of os) aligned wide) in
+            let fits_here = subst (λ (n : ℕ). FitWidths W vs n (claim_types p.value_types) ws) long (fits_in W most p.value_types ks (map number_of os) aligned wide) in
             let ones = ones_still W most vs p.value_types ks aligned wide d.exprs m.0 d.conditions c.grown h.ones in
             c.follows
             (g W vs ws (omega arith) fits_here narrow c.grown.right (conditions_hold W most vs p ks aligned wide m.0 d.conditions ones)
@@ -291,7 +291,7 @@ module _ (p : PatternModel) (ks : List BitsKind) (aligned : AreKindsOf p.value_t
             let left_in = is.below in
             let right_in = h.base.one_is.below in
             let long : length (map number_of os) ≡ length p.values = length-map os number_of ∙ sym (many_values 0 p.values os are) in
-            let fits_here = subst (λ (n : ℕ). FitWidths W vs n (claim_types p.value_types) ws) long (fit W most p.value_types ks (map number_of os) aligned wide) in
+            let fits_here = subst (λ (n : ℕ). FitWidths W vs n (claim_types p.value_types) ws) long (fits_in W most p.value_types ks (map number_of os) aligned wide) in
             sym is.value
             ∙ g W vs ws (omega arith) fits_here narrow h.base.right (conditions_hold W most vs p ks aligned wide c.exprs c.conditions h.ones)
             (omega (arith, left_in, in_pattern_ops)) (omega (arith, right_in, in_pattern_ops))

@@ -57,7 +57,7 @@ refutations_refute p set word r is holds =
     let are = subst (λ (ws : List ℕ). AreOutcomes p (kinds_with ws p.value_types) 0 p.values (decoded_outcomes p set word)) (sym a.widths) (all_are p set word) in
     let ws = r.assignment.widths.items in
     true≢false
-    (sym (holds (kinds_with ws p.value_types) a.kinds (kinds_are ws p.value_types) _ (subst (λ (xs : List Outcome). AreOutcomes p (kinds_with ws p.value_types) 0 p.values xs) os are)) ∙ is.broken)
+    (sym (holds (kinds_with ws p.value_types) a.value_kinds (kinds_are ws p.value_types) _ (subst (λ (xs : List Outcome). AreOutcomes p (kinds_with ws p.value_types) 0 p.values xs) os are)) ∙ is.broken)
 
 pub witnesses_witness : WitnessesWitness
 witnesses_witness p set word is never =
@@ -104,7 +104,7 @@ module _ (p : PatternModel) (set : ℕ) (word : List ℕ) (a : Assignment) (s : 
   pub witnesses : (old : Option (Option Bits)) → option_map known_of old ≡ old_result s os → is_number_at (option_map known_of old) ≡ true → IsWitness p set word
   witnesses old o f =
       let old_is : option_map known_of old ≡ old_result (content_at p a.widths.items) os = o ∙ ap (λ t. old_result t os) at in (
-        subst (λ (ws : List ℕ). are_kinds (kinds_with ws p.value_types) ≡ true) assigned.widths assigned.kinds,
+        subst (λ (ws : List ℕ). are_kinds (kinds_with ws p.value_types) ≡ true) assigned.widths assigned.value_kinds,
         (λ i. is_number_at (old_result (content_at p (sym assigned.widths i)) (sym assigned.outcomes i))) ∙ ap is_number_at (sym old_is) ∙ f,
       )
 

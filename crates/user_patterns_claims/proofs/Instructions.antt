@@ -249,15 +249,15 @@ module _ (W : ℕ) (most : most_width ≤ W) (vs : List ℕ) (value_types : List
         value false w = refl
 
   -- a literal, and the condition that it is in range
-  module _ (s : State) (env : List Outcome) (h : Holds s env) (l : Literal) (u : ℕ) (t : TypeIs W value_types ks l.ty u) (fit : is_literal_of ks l ≡ true) where
+  module _ (s : State) (env : List Outcome) (h : Holds s env) (l : Literal) (u : ℕ) (t : TypeIs W value_types ks l.ty u) (fits_in : is_literal_of ks l ≡ true) where
     abbrev made_literal : Result
     made_literal = literal_result l s.exprs u
 
-    power_there_is : nat_lt l.magnitude 2 ≡ false → Reached s (with_fitting s made_literal (power_there (push_expr made_literal.0 u (form.Literal (top_power l.magnitude l.magnitude))))) (env ++ (literal_gives s env h l u t fit).outcome ∷ [])
+    power_there_is : nat_lt l.magnitude 2 ≡ false → Reached s (with_fitting s made_literal (power_there (push_expr made_literal.0 u (form.Literal (top_power l.magnitude l.magnitude))))) (env ++ (literal_gives s env h l u t fits_in).outcome ∷ [])
     power_there_is e =
         let r = made_literal in
-        let g = literal_gives s env h l u t fit in
-        let is = literal_is W value_types ks l u t fit in
+        let g = literal_gives s env h l u t fits_in in
+        let is = literal_is W value_types ks l u t fits_in in
         let w = at ws u in
         let w_is : w ≡ width_of (kind_at ks l.ty) = width_is js u ∙ ap width_of t.same in
         let p = top_power l.magnitude l.magnitude in
@@ -292,9 +292,9 @@ module _ (W : ℕ) (most : most_width ≤ W) (vs : List ℕ) (value_types : List
     number_goes = go (nat_lt l.magnitude 2) refl
       where
         go : (b : Bool) → nat_lt l.magnitude 2 ≡ b → Goes false s env (step_of (written_step ks l) env) (Some (with_number b s l u made_literal))
-        go true e = gives_goes false s env (step_of (written_step ks l) env) made_literal h (literal_gives s env h l u t fit)
+        go true e = gives_goes false s env (step_of (written_step ks l) env) made_literal h (literal_gives s env h l u t fits_in)
         go false e =
-            subst (λ (o : Option Outcome). Goes false s env o (Some (with_fitting s made_literal (power_there (push_expr made_literal.0 u (form.Literal (top_power l.magnitude l.magnitude))))))) (sym (literal_gives s env h l u t fit).is) (power_there_is e)
+            subst (λ (o : Option Outcome). Goes false s env o (Some (with_fitting s made_literal (power_there (push_expr made_literal.0 u (form.Literal (top_power l.magnitude l.magnitude))))))) (sym (literal_gives s env h l u t fits_in).is) (power_there_is e)
 
   -- ---- conditions
   some_number : (n : ℕ) → (n == 0) ≡ false → nat_lt 0 n ≡ true
@@ -412,46 +412,46 @@ module _ (W : ℕ) (most : most_width ≤ W) (vs : List ℕ) (value_types : List
   -- ---- one instruction
   module _ (ns : List Narrower) (narrow : AreNarrower ws ns) where
     gives : (n : Instruction) (s : State) (env : List Outcome) → Holds s env → instruction_fits ks n ≡ true → is_partial n ≡ false → GivesHere s.exprs (step_of (instruction_step ks n) env) (result_of value_types ns n s.operands s.exprs)
-    gives (instruction.Number l) s env h fit total = tt
-    gives (instruction.Copy i) s env h fit total =
+    gives (instruction.Number l) s env h fits_in total = tt
+    gives (instruction.Copy i) s env h fits_in total =
         subst (λ (r : Option Outcome). GivesHere s.exprs r (given (operand_at s.operands i) (λ x. Some (s.exprs, x)))) (sym (copied (slice_get env i)))
         (by_operand s env h i (λ x. Some (s.exprs, x)) Some (λ o x a. record { outcome = x; is = refl; grown = same W vs ws s.exprs h.base.right; stands = a }))
-    gives (instruction.Pair o i j) s env h fit total =
+    gives (instruction.Pair o i j) s env h fits_in total =
         by_operand s env h i (λ x. given (operand_at s.operands j) (λ y. pair_result o x y s.exprs)) (λ x. given (slice_get env j) (λ y. pair_outcome o x y))
         (λ x p a. by_operand s env h j (λ y. pair_result o x y s.exprs) (λ y. pair_outcome o p y) (λ y q b. pair_gives W vs js refl s.exprs h.base x y p q a b o))
-    gives (instruction.Compare o i j) s env h fit total =
+    gives (instruction.Compare o i j) s env h fits_in total =
         by_operand s env h i (λ x. given (operand_at s.operands j) (λ y. compare_result o x y s.exprs)) (λ x. given (slice_get env j) (λ y. compare_outcome o x y))
         (λ x p a. by_operand s env h j (λ y. compare_result o x y s.exprs) (λ y. compare_outcome o p y) (λ y q b. compare_gives W vs js refl s.exprs h.base x y p q a b o))
-    gives (instruction.Select c i j) s env h fit total =
+    gives (instruction.Select c i j) s env h fits_in total =
         by_operand s env h c (λ d. given (operand_at s.operands i) (λ x. given (operand_at s.operands j) (λ y. select_result d x y s.exprs)))
         (λ d. given (slice_get env i) (λ x. given (slice_get env j) (λ y. select_outcome d x y)))
         (λ d r k. by_operand s env h i (λ x. given (operand_at s.operands j) (λ y. select_result d x y s.exprs)) (λ x. given (slice_get env j) (λ y. select_outcome r x y))
         (λ x p a. by_operand s env h j (λ y. select_result d x y s.exprs) (λ y. select_outcome r p y) (λ y q b. select_gives W vs js refl s.exprs h.base x y p q a b d r k)))
-    gives (instruction.Resize c u i) s env h fit total =
+    gives (instruction.Resize c u i) s env h fits_in total =
         by_operand s env h i (λ x. given (type_at value_types u) (λ t. resize_result ns c t x s.exprs)) (λ x. resize_outcome c (kind_at ks u) x)
         (λ x p a. with_type s env h (GivesHere s.exprs (resize_outcome c (kind_at ks u) p)) tt u (λ t. resize_result ns c t x s.exprs)
         (λ t is. subst (λ (k : BitsKind). GivesHere s.exprs (resize_outcome c k p) (resize_result ns c t x s.exprs)) is.same
         (resize_gives W vs js refl s.exprs h.base ns narrow t is.low c x p a (ap (λ k. is_width (width_of k)) is.same ∙ is.wide))))
-    gives (instruction.Divide i j) s env h fit total = absurd (true≢false total)
-    gives (instruction.Require i) s env h fit total = tt
-    gives (instruction.Width t) s env h fit total = tt
-    gives (instruction.Log i) s env h fit total = tt
+    gives (instruction.Divide i j) s env h fits_in total = absurd (true≢false total)
+    gives (instruction.Require i) s env h fits_in total = tt
+    gives (instruction.Width t) s env h fits_in total = tt
+    gives (instruction.Log i) s env h fits_in total = tt
 
-    plain : (n : Instruction) (s : State) (env : List Outcome) → Holds s env → instruction_fits ks n ≡ true → is_partial n ≡ false → Goes false s env (step_of (instruction_step ks n) env) (with_some s (result_of value_types ns n s.operands s.exprs))
-    plain n s env h fit total = some_goes false s env (step_of (instruction_step ks n) env) (result_of value_types ns n s.operands s.exprs) h (gives n s env h fit total)
+    simple : (n : Instruction) (s : State) (env : List Outcome) → Holds s env → instruction_fits ks n ≡ true → is_partial n ≡ false → Goes false s env (step_of (instruction_step ks n) env) (with_some s (result_of value_types ns n s.operands s.exprs))
+    simple n s env h fits_in total = some_goes false s env (step_of (instruction_step ks n) env) (result_of value_types ns n s.operands s.exprs) h (gives n s env h fits_in total)
 
     pub goes : (n : Instruction) (s : State) (env : List Outcome) → Holds s env → instruction_fits ks n ≡ true → Goes (is_partial n) s env (step_of (instruction_step ks n) env) (translated value_types ns n s)
     unfolding translated
-    goes (instruction.Number l) s env h fit = with_type s env h (Goes false s env (step_of (written_step ks l) env)) tt l.ty (λ t. Some (number_state s l t)) (λ u t. number_goes s env h l u t fit)
-    goes (instruction.Copy i) s env h fit = plain (instruction.Copy i) s env h fit refl
-    goes (instruction.Pair o i j) s env h fit = plain (instruction.Pair o i j) s env h fit refl
-    goes (instruction.Divide i j) s env h fit = divides_at s env h i j
-    goes (instruction.Compare o i j) s env h fit = plain (instruction.Compare o i j) s env h fit refl
-    goes (instruction.Select c i j) s env h fit = plain (instruction.Select c i j) s env h fit refl
-    goes (instruction.Resize c u i) s env h fit = plain (instruction.Resize c u i) s env h fit refl
-    goes (instruction.Require i) s env h fit = with_operand s env h (Goes true s env) (λ r. tt) i (λ x. required s x x.poison) outcomes.required (λ o x a. require_goes s env h o x a)
-    goes (instruction.Width t) s env h fit = tt
-    goes (instruction.Log i) s env h fit = with_operand s env h (Goes true s env) (λ r. tt) i (λ x. log_state s x x.poison) log_outcome (λ o x a. log_goes s env h o x a)
+    goes (instruction.Number l) s env h fits_in = with_type s env h (Goes false s env (step_of (written_step ks l) env)) tt l.ty (λ t. Some (number_state s l t)) (λ u t. number_goes s env h l u t fits_in)
+    goes (instruction.Copy i) s env h fits_in = simple (instruction.Copy i) s env h fits_in refl
+    goes (instruction.Pair o i j) s env h fits_in = simple (instruction.Pair o i j) s env h fits_in refl
+    goes (instruction.Divide i j) s env h fits_in = divides_at s env h i j
+    goes (instruction.Compare o i j) s env h fits_in = simple (instruction.Compare o i j) s env h fits_in refl
+    goes (instruction.Select c i j) s env h fits_in = simple (instruction.Select c i j) s env h fits_in refl
+    goes (instruction.Resize c u i) s env h fits_in = simple (instruction.Resize c u i) s env h fits_in refl
+    goes (instruction.Require i) s env h fits_in = with_operand s env h (Goes true s env) (λ r. tt) i (λ x. required s x x.poison) outcomes.required (λ o x a. require_goes s env h o x a)
+    goes (instruction.Width t) s env h fits_in = tt
+    goes (instruction.Log i) s env h fits_in = with_operand s env h (Goes true s env) (λ r. tt) i (λ x. log_state s x x.poison) log_outcome (λ o x a. log_goes s env h o x a)
 
     -- ---- all
     abbrev pub AllGo : Bool → State → Option (List Outcome) → Option State → Type 0
@@ -470,9 +470,9 @@ module _ (W : ℕ) (most : most_width ≤ W) (vs : List ℕ) (value_types : List
 
     pub all_go : (is : List Instruction) (s : State) (env : List Outcome) → Holds s env → list_all (instruction_fits ks) is ≡ true
         → AllGo (list_any is_partial is) s (run (map (instruction_step ks) is) env) (all_translated value_types ns is s)
-    all_go [] s env h fit = record { grown = same W vs ws s.exprs h.base.right; holds = h }
-    all_go (n ∷ is) s env h fit =
-        let f = and_parts (instruction_fits ks n) (list_all (instruction_fits ks) is) fit in
+    all_go [] s env h fits_in = record { grown = same W vs ws s.exprs h.base.right; holds = h }
+    all_go (n ∷ is) s env h fits_in =
+        let f = and_parts (instruction_fits ks n) (list_all (instruction_fits ks) is) fits_in in
         on (λ mid xs k. all_go is mid xs k f.1) (step_of (instruction_step ks n) env) (translated value_types ns n s) (goes n s env h f.0)
       where
         on : ((mid : State) (xs : List Outcome) → Holds mid xs → AllGo (list_any is_partial is) mid (run (map (instruction_step ks) is) xs) (all_translated value_types ns is mid))

@@ -2,7 +2,7 @@ pub mod Typing
 pub mod Instructions
 pub mod BothSides
 pub mod VariableOutcomes
-pub mod Plain
+pub mod Simple
 pub mod Deciding
 pub mod Chaining
 pub mod Answering

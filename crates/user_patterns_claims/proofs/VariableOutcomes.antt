@@ -90,9 +90,9 @@ fit_more W most all (ty.Variable v ∷ value_types) (j ∷ ks) i pre a w =
     one true g = (width_low W 1 most refl, refl)
     one false g = (width_low W (width_of j) most g, get_or-append_seam pre (mask (width_of j)) (masks_of (kinds_from all (i + 1) value_types ks)) 0)
 
-pub fit : (W : ℕ) → most_width ≤ W → (value_types : List PatternType) (ks : List BitsKind) (pre : List ℕ) → AreKindsOf value_types ks → are_kinds ks ≡ true
+pub fits_in : (W : ℕ) → most_width ≤ W → (value_types : List PatternType) (ks : List BitsKind) (pre : List ℕ) → AreKindsOf value_types ks → are_kinds ks ≡ true
     → FitWidths W (pre ++ masks_of (claim_kinds value_types ks)) (length pre) (claim_types value_types) (map width_of (claim_kinds value_types ks))
-fit W most value_types ks pre a w =
+fits_in W most value_types ks pre a w =
     let rest = kinds_from value_types 0 value_types ks in
     (width_low W 1 most refl, refl, fit_next W pre (mask 1) (masks_of rest) (types_from value_types 0 value_types) (map width_of rest) (fit_more W most value_types value_types ks 0 (pre ++ mask 1 ∷ []) a w))
 

@@ -98,7 +98,7 @@ pub record IsAssignment (p : PatternModel) (set : ℕ) (word : List ℕ) (a : As
   pub widths : a.widths.items ≡ decoded_widths p word
   pub value_types : a.value_types.items ≡ (content_at p a.widths.items).value_types
   pub outcomes : map known_of a.outcomes.items ≡ decoded_outcomes p set word
-  pub kinds : are_kinds (kinds_with a.widths.items p.value_types) ≡ true
+  pub value_kinds : are_kinds (kinds_with a.widths.items p.value_types) ≡ true
 
 -- ---- both sides at an assignment
 

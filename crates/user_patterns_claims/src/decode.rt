@@ -50,7 +50,7 @@ fn masks(types: &[Width]) -> Option<usize>
 fn mask_place(v: usize, value_types: &[PatternType], types: &[Width]) -> Option<usize>
     ensures { IfSome result (λ n. n ≡ mask_place v value_types.now types.now) }
 {
-    let [kind, kinds @ ..] = value_types else {
+    let [kind, value_kinds @ ..] = value_types else {
         return Some(0);
     };
     let [width, tail @ ..] = types else {
@@ -59,7 +59,7 @@ fn mask_place(v: usize, value_types: &[PatternType], types: &[Width]) -> Option<
     if is_same(kind, &PatternType::Variable(v)) {
         return Some(0);
     }
-    let rest = mask_place(v, kinds, tail)?;
+    let rest = mask_place(v, value_kinds, tail)?;
     rest.checked_add(mask_count(width))
 }
 
@@ -181,13 +181,13 @@ fn push_outcomes(
     read: &PatternWord,
     i: usize,
     set: usize,
-    kinds: &[BitsKind],
+    value_kinds: &[BitsKind],
     outcomes: &mut Vec<Option<Bits>>,
 ) -> Result<bool, AllocError>
-    requires { i + length kinds.now ≤ 1000 }
-    ensures { IfOk result (λ done. done ≡ true → map known_of outcomes.new.items ≡ map known_of outcomes.old.items ++ outcomes_from (pattern_model read.now.pattern.now) read.now.word.now read.now.first i set kinds.now) }
+    requires { i + length value_kinds.now ≤ 1000 }
+    ensures { IfOk result (λ done. done ≡ true → map known_of outcomes.new.items ≡ map known_of outcomes.old.items ++ outcomes_from (pattern_model read.now.pattern.now) read.now.word.now read.now.first i set value_kinds.now) }
 {
-    let [kind, tail @ ..] = kinds else {
+    let [kind, tail @ ..] = value_kinds else {
         return Ok(true);
     };
     let constant = is_constant(read.pattern, i);
@@ -231,7 +231,7 @@ fn widths_of(
 ) -> Result<Option<Vec<u32>>, AllocError>
     requires { types.now ≡ types_of (pattern_model pattern.now) }
     ensures widths { IfOk result (λ r. IfSome r (λ ws. ws.items ≡ decoded_widths (pattern_model pattern.now) word.now)) }
-    ensures kinds { IfOk result (λ r. IfSome r (λ ws. are_kinds (kinds_with ws.items pattern.now.value_types.items) ≡ true)) }
+    ensures value_kinds { IfOk result (λ r. IfSome r (λ ws. are_kinds (kinds_with ws.items pattern.now.value_types.items) ≡ true)) }
 {
     if pattern.types > MOST {
         return Ok(None);
@@ -252,15 +252,15 @@ fn outcomes_of(
     alloc: Global,
     read: &PatternWord,
     set: usize,
-    kinds: &[BitsKind],
+    value_kinds: &[BitsKind],
 ) -> Result<Option<Vec<Option<Bits>>>, AllocError>
-    ensures { IfOk result (λ r. IfSome r (λ os. map known_of os.items ≡ outcomes_from (pattern_model read.now.pattern.now) read.now.word.now read.now.first 0 set kinds.now)) }
+    ensures { IfOk result (λ r. IfSome r (λ os. map known_of os.items ≡ outcomes_from (pattern_model read.now.pattern.now) read.now.word.now read.now.first 0 set value_kinds.now)) }
 {
-    if kinds.len() > MOST {
+    if value_kinds.len() > MOST {
         return Ok(None);
     }
     let mut outcomes = Vec::new(alloc);
-    if !push_outcomes(read, 0, set, kinds, &mut outcomes)? {
+    if !push_outcomes(read, 0, set, value_kinds, &mut outcomes)? {
         return Ok(None);
     }
     Ok(Some(outcomes))
@@ -275,7 +275,7 @@ fn assignment(
 ) -> Result<Option<Assignment>, AllocError>
     requires first { read.now.first ≡ first_place (pattern_model read.now.pattern.now) }
     requires widths { widths.items ≡ decoded_widths (pattern_model read.now.pattern.now) read.now.word.now }
-    requires kinds { are_kinds (kinds_with widths.items read.now.pattern.now.value_types.items) ≡ true }
+    requires value_kinds { are_kinds (kinds_with widths.items read.now.pattern.now.value_types.items) ≡ true }
     ensures { IfOk result (λ r. IfSome r (IsAssignment (pattern_model read.now.pattern.now) set read.now.word.now)) }
 {
     let sides = read.pattern.sides(alloc, &widths)?;

@@ -49,11 +49,11 @@ far_is w n = ⊎_elim within past (cases_lt n w)
     past : w ≤ n → (0 == 2 ^ n % 2 ^ w) ≡ not (nat_lt n w)
     past l =
         let e : (n - w) + w ≡ n = omega (arith, l) in
-        let p : 2 ^ n ≡ 2 ^ (n - w) * 2 ^ w + 0 = ap (λ m. 2 ^ m) (sym e) ∙ pow-add 2 (n - w) w ∙ plain (2 ^ (n - w) * 2 ^ w) in
+        let p : 2 ^ n ≡ 2 ^ (n - w) * 2 ^ w + 0 = ap (λ m. 2 ^ m) (sym e) ∙ pow-add 2 (n - w) w ∙ simple (2 ^ (n - w) * 2 ^ w) in
         ap (λ m. 0 == m) (ap (λ m. m % 2 ^ w) p ∙ mod-mul-add (2 ^ (n - w)) (2 ^ w) 0 (pow_pos w)) ∙ sym (ap not (not_less n w l))
       where
-        plain : (m : ℕ) → m ≡ m + 0
-        plain m = omega arith
+        simple : (m : ℕ) → m ≡ m + 0
+        simple m = omega arith
 
 -- the bits of a number exchanged
 exchanged_is : (w a : ℕ) → a < 2 ^ w → bit_xor a (2 ^ w - 1) ≡ 2 ^ w - 1 - a

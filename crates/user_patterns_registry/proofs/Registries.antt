@@ -201,14 +201,14 @@ module _ (name : List ℕ) (said : CheckSummary) where
   name_by k true = refl
   name_by k false = refl
 
-  shape_by : (k : Kept) (b : Bool) → Kept.shape (if b then with_said said k else k) ≡ k.shape
+  shape_by : (k : Kept) (b : Bool) → Kept.rewrite_pattern (if b then with_said said k else k) ≡ k.rewrite_pattern
   shape_by k true = refl
   shape_by k false = refl
 
   name_stays : (k : Kept) → Kept.name (noted_one name said k) ≡ k.name
   name_stays k = name_by k (is_named name k)
 
-  shape_stays : (k : Kept) → Kept.shape (noted_one name said k) ≡ k.shape
+  shape_stays : (k : Kept) → Kept.rewrite_pattern (noted_one name said k) ≡ k.rewrite_pattern
   shape_stays k = shape_by k (is_named name k)
 
   nothing_noted : (n : List ℕ) (ks : RegistryModel) → found n ks ≡ None → found n (noted name said ks) ≡ None

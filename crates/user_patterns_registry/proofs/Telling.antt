@@ -41,58 +41,58 @@ module _ (p : PatternModel) (requested : Option ℕ) (most : ℕ) (is : most ≡
   -- a check up to a width that was asked
   pub requested_result : (w v : ℕ) → requested ≡ Some w → v ≡ report_width p most → IsVerdict (content_at p) p.types most verdict.Holds → reports_all_widths p requested ≡ false
       → IsCheckResult p requested (judgement.Holds v)
-  requested_result w v e width right told = (width_is v width, to_requested verdict.Holds right, told, subst (IsSampledIf p) (sym e) tt)
+  requested_result w v e width right reported = (width_is v width, to_requested verdict.Holds right, reported, subst (IsSampledIf p) (sym e) tt)
 
-  pub samples_told : (v : ℕ) → requested ≡ None → v ≡ report_width p most → IsVerdict (content_at p) p.types most verdict.Holds → reports_all_widths p requested ≡ false
+  pub samples_reported : (v : ℕ) → requested ≡ None → v ≡ report_width p most → IsVerdict (content_at p) p.types most verdict.Holds → reports_all_widths p requested ≡ false
       → IsWideSampled p None → IsCheckResult p requested (judgement.Holds v)
-  samples_told v e width right told kept = (width_is v width, to_requested verdict.Holds right, told, subst (IsSampledIf p) (sym e) kept)
+  samples_reported v e width right reported kept = (width_is v width, to_requested verdict.Holds right, reported, subst (IsSampledIf p) (sym e) kept)
 
-  pub sampled_told : (c : Counterexample) → requested ≡ None → IsVerdict (content_at p) p.types most verdict.Holds → IsWideSampled p (Some c)
+  pub sampled_reported : (c : Counterexample) → requested ≡ None → IsVerdict (content_at p) p.types most verdict.Holds → IsWideSampled p (Some c)
       → IsCheckResult p requested (judgement.Fails c)
-  sampled_told c e right found = inr (e, to_requested verdict.Holds right, found)
+  sampled_reported c e right found = inr (e, to_requested verdict.Holds right, found)
 
-  pub form_told : HoldsAtAllWidths → 1 ≤ most → IsVerdict (content_at p) p.types most verdict.Holds → reports_all_widths p requested ≡ true
+  pub form_reported : HoldsAtAllWidths → 1 ≤ most → IsVerdict (content_at p) p.types most verdict.Holds → reports_all_widths p requested ≡ true
       → IsCheckResult p requested judgement.AllWidths
-  form_told law some right told =
-      let form = form_speaks p requested told in
+  form_reported law some right reported =
+      let form = form_speaks p requested reported in
       let refines = law p form.1 most some right in
-      (form.0, inl (to_requested verdict.Holds right), (λ ks widths kinds. refines ks widths), inl (form.1, refines))
+      (form.0, inl (to_requested verdict.Holds right), (λ ks widths value_kinds. refines ks widths), inl (form.1, refines))
 
-  pub claims_told : OutcomesDecide → requested ≡ None → IsVerdict (content_at p) p.types most verdict.Holds → HoldsForOutcomes p
+  pub claims_reported : OutcomesDecide → requested ≡ None → IsVerdict (content_at p) p.types most verdict.Holds → HoldsForOutcomes p
       → IsCheckResult p requested judgement.AllWidths
-  claims_told law e right claimed = (e, inl (to_requested verdict.Holds right), law p claimed, inr claimed)
+  claims_reported law e right claimed = (e, inl (to_requested verdict.Holds right), law p claimed, inr claimed)
 
-  pub wide_told : OutcomesDecide → requested ≡ None → IsVerdict (content_at p) p.types most verdict.Vacuous → HoldsForOutcomes p → (IsNeverNumber p → ⊥)
+  pub wide_reported : OutcomesDecide → requested ≡ None → IsVerdict (content_at p) p.types most verdict.Vacuous → HoldsForOutcomes p → (IsNeverNumber p → ⊥)
       → IsCheckResult p requested judgement.AllWidths
-  wide_told law e right claimed somewhere = (e, inr (to_requested verdict.Vacuous right, somewhere), law p claimed, inr claimed)
+  wide_reported law e right claimed somewhere = (e, inr (to_requested verdict.Vacuous right, somewhere), law p claimed, inr claimed)
 
-  pub never_told : (v : ℕ) → requested ≡ None → v ≡ report_width p most → IsVerdict (content_at p) p.types most verdict.Holds → IsNeverNumber p
+  pub never_reported : (v : ℕ) → requested ≡ None → v ≡ report_width p most → IsVerdict (content_at p) p.types most verdict.Holds → IsNeverNumber p
       → IsCheckResult p requested (judgement.Vacuous v)
-  never_told v e width right never = (width_is v width, inr (e, to_requested verdict.Holds right, never))
+  never_reported v e width right never = (width_is v width, inr (e, to_requested verdict.Holds right, never))
 
-  pub empty_told : (v : ℕ) → v ≡ report_width p most → IsVerdict (content_at p) p.types most verdict.Vacuous → IsCheckResult p requested (judgement.Vacuous v)
-  empty_told v width right = (width_is v width, inl (to_requested verdict.Vacuous right))
+  pub empty_reported : (v : ℕ) → v ≡ report_width p most → IsVerdict (content_at p) p.types most verdict.Vacuous → IsCheckResult p requested (judgement.Vacuous v)
+  empty_reported v width right = (width_is v width, inl (to_requested verdict.Vacuous right))
 
   -- a pattern that holds, and whether its old side is a number somewhere
-  pub right_told : OutcomesDecide → requested ≡ None → IsVerdict (content_at p) p.types most verdict.Vacuous → (b : Bool) → HoldsForOutcomes p × (b ≡ true → IsNeverNumber p → ⊥)
+  pub right_reported : OutcomesDecide → requested ≡ None → IsVerdict (content_at p) p.types most verdict.Vacuous → (b : Bool) → HoldsForOutcomes p × (b ≡ true → IsNeverNumber p → ⊥)
       → (j : CheckResult) → j ≡ (if b then judgement.AllWidths else judgement.Vacuous (report_width p most)) → IsCheckResult p requested j
-  right_told law e right true claimed j told = subst (IsCheckResult p requested) (sym told) (wide_told law e right claimed.0 (claimed.1 refl))
-  right_told law e right false claimed j told = subst (IsCheckResult p requested) (sym told) (empty_told (report_width p most) refl right)
+  right_reported law e right true claimed j reported = subst (IsCheckResult p requested) (sym reported) (wide_reported law e right claimed.0 (claimed.1 refl))
+  right_reported law e right false claimed j reported = subst (IsCheckResult p requested) (sym reported) (empty_reported (report_width p most) refl right)
 
-  wrong_told : (r : Refutation) (j : CheckResult) → requested ≡ None → IsKept p most → IsRefuted p r → IsWrong p r j → IsCheckResult p requested j
-  wrong_told r j e kept is_wrong told =
-      subst (IsCheckResult p requested) (sym told) (e, refl, subst (IsKept p) is kept, is_wrong)
+  wrong_reported : (r : Refutation) (j : CheckResult) → requested ≡ None → IsKept p most → IsRefuted p r → IsWrong p r j → IsCheckResult p requested j
+  wrong_reported r j e kept is_wrong reported =
+      subst (IsCheckResult p requested) (sym reported) (e, refl, subst (IsKept p) is kept, is_wrong)
 
   pub wrong_holds : (r : Refutation) (j : CheckResult) → requested ≡ None → IsVerdict (content_at p) p.types most verdict.Holds → IsRefuted p r → IsWrong p r j → IsCheckResult p requested j
-  wrong_holds r j e right is_wrong told = wrong_told r j e (inl right) is_wrong told
+  wrong_holds r j e right is_wrong reported = wrong_reported r j e (inl right) is_wrong reported
 
   pub wrong_empty : (r : Refutation) (j : CheckResult) → requested ≡ None → IsVerdict (content_at p) p.types most verdict.Vacuous → IsRefuted p r → IsWrong p r j → IsCheckResult p requested j
-  wrong_empty r j e right is_wrong told = wrong_told r j e (inr right) is_wrong told
+  wrong_empty r j e right is_wrong reported = wrong_reported r j e (inr right) is_wrong reported
 
-  pub fails_told : (v : Verdict) (c : Counterexample) → v ≡ verdict.Fails c.widths c.values
+  pub fails_reported : (v : Verdict) (c : Counterexample) → v ≡ verdict.Fails c.widths c.values
       → IsVerdict (content_at p) p.types most v → IsFirst (content_at p) p.types most v
       → c.width ≡ counterexample_width p c.widths.items → IsShown (content_at p c.widths.items) c → IsCheckResult p requested (judgement.Fails c)
-  fails_told v c same right first width shown =
+  fails_reported v c same right first width shown =
       inl
       (subst (λ (m : ℕ). IsFirstFound p m c) is
       (record { width = width; broken = subst (IsVerdict (content_at p) p.types most) same right; first = subst (IsFirst (content_at p) p.types most) same first; shown = shown }))

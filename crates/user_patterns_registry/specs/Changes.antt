@@ -10,7 +10,7 @@ use Rattle.user_patterns_registry.specs.Registry.{Kept, RegistryModel, defined, 
 
 -- what a check without a width says if its result is `holds` without a width
 abbrev pub IsFoundToHold : Kept → Type 0
-IsFoundToHold k = IsCheckResult k.shape None judgement.AllWidths
+IsFoundToHold k = IsCheckResult k.rewrite_pattern None judgement.AllWidths
 
 -- a pattern is defined, by a command or in a pattern file
 abbrev pub Defines : RegistryModel → RegistryModel → Type 0

@@ -30,14 +30,14 @@ pub record Kept : Type 0 where
   pub name : List ℕ
   pub text : Text
   pub variables : List Variable
-  pub shape : PatternModel
+  pub rewrite_pattern : PatternModel
   pub said : Option CheckSummary
 
 abbrev pub RegistryModel : Type 0
 RegistryModel = List Kept
 
 abbrev pub kept_view : RegisteredPattern → Kept
-kept_view h = record { name = h.name.items; text = h.text.items; variables = named_views h.variables.items; shape = pattern_model h.pattern; said = h.said }
+kept_view h = record { name = h.name.items; text = h.text.items; variables = named_views h.variables.items; rewrite_pattern = pattern_model h.pattern; said = h.said }
 
 abbrev pub kept_views : List RegisteredPattern → RegistryModel
 kept_views hs = map kept_view hs
@@ -72,7 +72,7 @@ made_ready (Some s) = Ok s
 made_ready None = refused TypeMismatch 0
 
 abbrev pub kept_as : parts.Pattern → List Variable → PatternModel → Kept
-kept_as p vs s = record { name = p.name; text = pattern_text p; variables = vs; shape = s; said = None }
+kept_as p vs s = record { name = p.name; text = pattern_text p; variables = vs; rewrite_pattern = s; said = None }
 
 -- the variables of a parsed pattern, and the analyzed pattern, which can be built
 unfoldable pub variables_of : parts.Pattern → Outcome (List Variable)
@@ -105,7 +105,7 @@ forgotten name registry = filter (λ k. not (is_named name k)) registry
 -- ---- recorded checks
 
 abbrev pub with_said : CheckSummary → Kept → Kept
-with_said said k = record { name = k.name; text = k.text; variables = k.variables; shape = k.shape; said = Some said }
+with_said said k = record { name = k.name; text = k.text; variables = k.variables; rewrite_pattern = k.rewrite_pattern; said = Some said }
 
 abbrev pub noted_one : List ℕ → CheckSummary → Kept → Kept
 noted_one name said k = if is_named name k then with_said said k else k
@@ -131,8 +131,8 @@ listing_text (k ∷ ks) = line_text k ++ listing_text ks
 
 -- a pattern that can be applied
 pub record IsReady (k : Kept) : Type 0 where
-  pub stands : is_well_formed k.shape ≡ true
-  pub buildable : can_build k.shape ≡ true
+  pub stands : is_well_formed k.rewrite_pattern ≡ true
+  pub buildable : can_build k.rewrite_pattern ≡ true
 
 -- the names are distinct, there are at most 256 patterns, and each can be applied
 abbrev pub AreApart : RegistryModel → Type 0

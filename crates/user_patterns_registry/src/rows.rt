@@ -185,22 +185,22 @@ fn write_input_row(
 fn write_inputs(
     out: &mut Vec<u8>,
     variables: &[NamedVariable],
-    kinds: &[BitsKind],
+    value_kinds: &[BitsKind],
     outcomes: &[Option<Bits>],
 ) -> Result<(), AllocError>
-    ensures { OnOk result (out.new.items ≡ out.old.items ++ inputs_text (named_views variables.now) kinds.now (map known_of outcomes.now)) }
+    ensures { OnOk result (out.new.items ≡ out.old.items ++ inputs_text (named_views variables.now) value_kinds.now (map known_of outcomes.now)) }
 {
     let [named, variables @ ..] = variables else {
         return Ok(());
     };
-    let [kind, kinds @ ..] = kinds else {
+    let [kind, value_kinds @ ..] = value_kinds else {
         return Ok(());
     };
     let [outcome, outcomes @ ..] = outcomes else {
         return Ok(());
     };
     write_input_row(out, named, *kind, outcome)?;
-    write_inputs(out, variables, kinds, outcomes)
+    write_inputs(out, variables, value_kinds, outcomes)
 }
 
 /// Prints the report rows of a counterexample that may have poison: one for each variable, then the results of the old

@@ -131,7 +131,7 @@ fn found_among(
     near: &[u128],
     widths: &[u32],
 ) -> Result<Option<Counterexample>, AllocError>
-    requires tried { AreAcceptedChecks (pattern_model pattern.now) widths.now }
+    requires attempted { AreAcceptedChecks (pattern_model pattern.now) widths.now }
     ensures { IfOk result (IsFoundAmong (pattern_model pattern.now) near.now widths.now) }
 {
     let [width, tail @ ..] = widths else {
@@ -149,7 +149,7 @@ fn found_near(
     pattern: &Pattern,
     widths: &[u32],
 ) -> Result<Option<Counterexample>, AllocError>
-    requires tried { AreAcceptedChecks (pattern_model pattern.now) widths.now }
+    requires attempted { AreAcceptedChecks (pattern_model pattern.now) widths.now }
     requires none { NoneRefutes (pattern_model pattern.now) usual widths.now }
     ensures { IfOk result (IsFoundAmong (pattern_model pattern.now) (near_literals (pattern_model pattern.now)) widths.now) }
 {
@@ -167,7 +167,7 @@ fn sampled_at(
     pattern: &Pattern,
     widths: &[u32],
 ) -> Result<Option<Counterexample>, AllocError>
-    requires tried { AreAcceptedChecks (pattern_model pattern.now) widths.now }
+    requires attempted { AreAcceptedChecks (pattern_model pattern.now) widths.now }
     ensures { IfOk result (IsSampledAt (pattern_model pattern.now) widths.now) }
 {
     if let Some(found) = found_among(alloc, pattern, &[], widths)? {

@@ -49,12 +49,12 @@ module _ {X : Type 0} (T : State → Outcome (X × State)) (headroom : ℕ) (xs 
 
 module _ (b : Places) (headroom : ℕ) (ps : List PartCode) (f : Sema) (d : PartCode) (more : headroom ≡ 0 → ⊥) (le : 1 ≤ length ps) where
   module _ (n left : ℕ) (k : PartKind) (qs : List Placed) where
-    is_condition : (w : Bor (List ℕ)) (s : State) → k ≡ kind.Condition w → condition_at b left w.now (qs, f) ≡ Ok s
+    is_condition : (w : Bor (List ℕ)) (s : State) → k ≡ kind.Constraint w → condition_at b left w.now (qs, f) ≡ Ok s
         → conditions_at b (suc n) ((left, kind_view k) ∷ qs, f) ≡ conditions_at b n s
     unfolding conditions_at
     is_condition w s is found = rw (is, found) refl
 
-    is_wrong : (e : PatternError) (w : Bor (List ℕ)) → k ≡ kind.Condition w → Fails e (condition_at b left w.now (qs, f))
+    is_wrong : (e : PatternError) (w : Bor (List ℕ)) → k ≡ kind.Constraint w → Fails e (condition_at b left w.now (qs, f))
         → Fails e (conditions_at b (suc n) ((left, kind_view k) ∷ qs, f))
     unfolding conditions_at
     is_wrong errors.Memory w is h = tt
@@ -63,10 +63,10 @@ module _ (b : Places) (headroom : ℕ) (ps : List PartCode) (f : Sema) (d : Part
   whole : conditions_at b headroom (views ps, f) ≡ conditions_at b (suc (headroom - 1)) (part_view (get_or ps 0 d) ∷ views (rest ps), f)
   whole = ap (λ n. conditions_at b n (views ps, f)) (some_more headroom more) ∙ ap (λ (qs : List Placed). conditions_at b (suc (headroom - 1)) (qs, f)) (views_split d ps le)
 
-  pub conditions_more : (w : Bor (List ℕ)) (s : State) → (get_or ps 0 d).kind ≡ kind.Condition w → condition_at b (get_or ps 0 d).left w.now (views (rest ps), f) ≡ Ok s
+  pub conditions_more : (w : Bor (List ℕ)) (s : State) → (get_or ps 0 d).kind ≡ kind.Constraint w → condition_at b (get_or ps 0 d).left w.now (views (rest ps), f) ≡ Ok s
       → conditions_at b headroom (views ps, f) ≡ conditions_at b (headroom - 1) s
   conditions_more w s is found = whole ∙ is_condition (headroom - 1) (get_or ps 0 d).left (get_or ps 0 d).kind (views (rest ps)) w s is found
 
-  pub conditions_fail : (e : PatternError) (w : Bor (List ℕ)) → (get_or ps 0 d).kind ≡ kind.Condition w → Fails e (condition_at b (get_or ps 0 d).left w.now (views (rest ps), f))
+  pub conditions_fail : (e : PatternError) (w : Bor (List ℕ)) → (get_or ps 0 d).kind ≡ kind.Constraint w → Fails e (condition_at b (get_or ps 0 d).left w.now (views (rest ps), f))
       → Fails e (conditions_at b headroom (views ps, f))
   conditions_fail e w is h = rw whole (is_wrong (headroom - 1) (get_or ps 0 d).left (get_or ps 0 d).kind (views (rest ps)) e w is h)

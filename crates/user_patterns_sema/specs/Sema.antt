@@ -552,7 +552,7 @@ with_casts f = with_all f (all_cast f.value_types f.type_constraints f.casts)
 
 -- all types are known, literals are in range, and index casts are valid
 abbrev pub settled : Sema → Outcome Sema
-settled f = all_determined f.value_types f.old_types f.new_types >>= λ told. all_fit f.value_types f.literals >>= λ fit. with_casts f
+settled f = all_determined f.value_types f.old_types f.new_types >>= λ reported. all_fit f.value_types f.literals >>= λ fits_in. with_casts f
 
 abbrev pub variables_found : Sema → List ℕ
 variables_found f = found_in f.value_types (found_in f.value_types [] f.old_types) (determined_slots f.new_types)

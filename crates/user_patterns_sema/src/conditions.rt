@@ -261,7 +261,7 @@ pub(crate) fn conditions<'a>(
         return Ok(());
     };
     match part.kind {
-        PartKind::Condition(word) => {
+        PartKind::Constraint(word) => {
             match condition(alloc, places, sema, part.left, word, rest) {
                 Ok(trailing) => conditions(alloc, places, sema, trailing, headroom - 1),
                 Err(e) => Err(e),

@@ -57,11 +57,11 @@ fn is_determined(value_types: &[PatternType], olds: &[usize], kind: PatternType)
 fn all_determined(
     value_types: &[PatternType],
     olds: &[usize],
-    told: &[RequiredType],
+    reported: &[RequiredType],
 ) -> Result<(), PatternError>
-    ensures { Returns (λ _. tt) result (all_determined value_types.now olds.now told.now) }
+    ensures { Returns (λ _. tt) result (all_determined value_types.now olds.now reported.now) }
 {
-    let mut rest = told;
+    let mut rest = reported;
     'types: while let [one, tail @ ..] = rest {
         if !is_determined(value_types, olds, kind_of(one.slot, value_types)) {
             return Err(refused(TextRefusal::TypeMismatch, one.left));
@@ -209,11 +209,11 @@ fn found_in(
 fn found_in_determined(
     value_types: &[PatternType],
     found: &mut Vec<usize>,
-    told: &[RequiredType],
+    reported: &[RequiredType],
 ) -> Result<(), PatternError>
-    ensures { Returns (λ _. found.new.items) result (Ok (found_in value_types.now found.old.items (determined_slots told.now))) }
+    ensures { Returns (λ _. found.new.items) result (Ok (found_in value_types.now found.old.items (determined_slots reported.now))) }
 {
-    let mut rest = told;
+    let mut rest = reported;
     'types: while let [one, tail @ ..] = rest {
         match with_kind(found, kind_of(one.slot, value_types)) {
             Ok(()) => rest = tail,

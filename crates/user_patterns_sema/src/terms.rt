@@ -362,12 +362,12 @@ fn shaped_by_one<'a>(
             }
         }
         Some(Operation::IndexCast(cast)) => {
-            let between = CastConstraint {
+            let intermediate = CastConstraint {
                 from: i.slot,
                 to: slot,
                 left: at,
             };
-            match sema.casts.push(between) {
+            match sema.casts.push(intermediate) {
                 Ok(()) => Ok(Expression::IndexCast(cast, i.place)),
                 Err(_) => Err(PatternError::Memory),
             }

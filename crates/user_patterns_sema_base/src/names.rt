@@ -178,7 +178,7 @@ fn weight(count: Count, kind: &PartKind<'_>) -> u32
             PartKind::Literal(_, _) => 1,
             PartKind::Name(name) => name_weight(name),
             PartKind::Function(name) => function_weight(function_named(name)),
-            PartKind::Condition(name) => condition_weight(name),
+            PartKind::Constraint(name) => condition_weight(name),
             _ => 0,
         },
     }
@@ -224,7 +224,7 @@ fn is_unknown(variables: &[Variable<'_>], kind: &PartKind<'_>) -> bool
             truth_named(name).is_none() && place_of(false, name, variables).is_none()
         }
         PartKind::Function(name) => function_named(name).is_none(),
-        PartKind::Condition(name) => !is_condition(name),
+        PartKind::Constraint(name) => !is_condition(name),
         _ => false,
     }
 }

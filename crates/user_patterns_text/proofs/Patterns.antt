@@ -7,11 +7,11 @@ use Rattle.ir_text_tokens.specs.declared.token.Mark.TheVariants.{Equal, Greater}
 use Rattle.ir_text_tokens.specs.Limits.{text_reason}
 use Rattle.ir_text_types.specs.Marks.{after}
 use Rattle.ir_text_types.specs.Typed.{Text}
-use Rattle.user_patterns_text.specs.Syntax.{Number, literal, named, called, Term, operation, value_of, constant_of, Condition, is_operation}
+use Rattle.user_patterns_text.specs.Syntax.{Number, literal, named, called, Term, operation, value_of, constant_of, Constraint, is_operation}
 use Rattle.user_patterns_text.specs.Syntax as syntax
 use Rattle.user_patterns_text.specs.Grammar.{IsPattern, old_depth, new_depth}
 use Rattle.user_patterns_text.specs.Grammar as grammar
-use Rattle.user_patterns_text.specs.Recognizing as plain
+use Rattle.user_patterns_text.specs.Recognizing as simple
 use Rattle.user_patterns_text.specs.Recognizing.{given}
 use Rattle.user_patterns_text.proofs.Rendered.{pattern_exact}
 use Rattle.user_patterns_text.specs.declared.error.PatternError.{PatternError}
@@ -73,12 +73,12 @@ first_operation (constant_of (called w ns) ty) = refl
 -- ---- a pattern
 
 module _ (name : List ℕ) where
-  abbrev Made : Term → Term → List Condition → syntax.Pattern
+  abbrev Made : Term → Term → List Constraint → syntax.Pattern
   Made old new cs = record { name = name; old = old; new = new; conditions = cs }
 
   -- the rest of a pattern after the arrow, given its left side
   abbrev New : Term → Text → Option (syntax.Pattern × Text)
-  New old rest = given (plain.new_term new_depth rest) (λ new. given (plain.conditions new.1) (λ cs. Some (Made old new.0 cs.0, cs.1)))
+  New old rest = given (simple.new_term new_depth rest) (λ new. given (simple.conditions new.1) (λ cs. Some (Made old new.0 cs.0, cs.1)))
 
   abbrev Code : List Placed → Text → Outcome Pattern
   Code old rest =
@@ -87,35 +87,35 @@ module _ (name : List ℕ) where
 
   new_agrees : (old : Term) (ps : List Placed) (rest : Text) → unplaced ps ≡ term_parts old → Agrees (Code ps rest) (New old rest)
   new_agrees old ps rest e =
-      matches_agrees term_parts [] (reading.term_at false new_depth ([], rest)) (plain.new_term new_depth rest) _ _ (new_matches new_depth ([], rest)) (λ x t f.
-      matches_agrees (flats condition_parts) [] (reading.conditions_at ([], x.1)) (plain.conditions x.1) _ _ (conditions_matches x.1) (λ y cs g.
+      matches_agrees term_parts [] (reading.term_at false new_depth ([], rest)) (simple.new_term new_depth rest) _ _ (new_matches new_depth ([], rest)) (λ x t f.
+      matches_agrees (flats condition_parts) [] (reading.conditions_at ([], x.1)) (simple.conditions x.1) _ _ (conditions_matches x.1) (λ y cs g.
       record { name = refl; old = e; new = f; conditions = g ∙ sym (conditions_flat cs) }))
 
   arrow_agrees : (old : Term) (ps : List Placed) (s : Text) → unplaced ps ≡ term_parts old
-      → Agrees (reading.after_arrow s >>= Code ps) (plain.after_mark Equal (plain.after_mark Greater (New old)) s)
+      → Agrees (reading.after_arrow s >>= Code ps) (simple.after_mark Equal (simple.after_mark Greater (New old)) s)
   unfolding reading.after_arrow
   arrow_agrees old ps s e =
       rw (bound_again (trailing Equal s) (λ r. trailing Greater r) (Code ps))
       (same_agrees (trailing Equal s) (after Equal s) _ _ (after_same Equal s) (λ r. same_agrees (trailing Greater r) (after Greater r) (Code ps) (New old) (after_same Greater r) (λ rest. new_agrees old ps rest e)))
 
   root_if : (b c : Bool) (old : Term) (x : State) (left : ℕ) → b ≡ c → unplaced x.0 ≡ term_parts old
-      → Agrees ((if b then Ok x else refused Unexpected left) >>= λ o. reading.after_arrow o.1 >>= Code o.0) (plain.when c (plain.after_mark Equal (plain.after_mark Greater (New old))) x.1)
+      → Agrees ((if b then Ok x else refused Unexpected left) >>= λ o. reading.after_arrow o.1 >>= Code o.0) (simple.when c (simple.after_mark Equal (simple.after_mark Greater (New old))) x.1)
   root_if true true old x left is e = arrow_agrees old x.0 x.1 e
   root_if false false old x left is e = tt
   root_if true false old x left is e = absurd cc
   root_if false true old x left is e = absurd cc
 
   sides_agree : (s : Text) → Agrees (reading.sides_at name s)
-      (given (plain.old_term old_depth s) (λ old. plain.when (is_operation old.0) (plain.after_mark Equal (plain.after_mark Greater (New old.0))) old.1))
+      (given (simple.old_term old_depth s) (λ old. simple.when (is_operation old.0) (simple.after_mark Equal (simple.after_mark Greater (New old.0))) old.1))
   unfolding reading.sides_at reading.root_at
   sides_agree s =
       rw (bound_again (reading.term_at true old_depth ([], s)) (λ old. if reading.begins_operation old.0 then Ok old else refused Unexpected (begins s)) (λ o. reading.after_arrow o.1 >>= Code o.0))
-      (matches_agrees term_parts [] (reading.term_at true old_depth ([], s)) (plain.old_term old_depth s) _ _ (old_matches old_depth ([], s)) (λ x old e.
+      (matches_agrees term_parts [] (reading.term_at true old_depth ([], s)) (simple.old_term old_depth s) _ _ (old_matches old_depth ([], s)) (λ x old e.
       root_if (reading.begins_operation x.0) (is_operation old) old x (begins s) (begins_first x.0 ∙ ap first_is e ∙ first_operation old) e))
 
-pattern_agrees : (text : Text) → Agrees (reading.pattern_at text) (plain.read text)
-unfolding reading.pattern_at plain.read
-pattern_agrees text = same_agrees (reading.word_at text) (plain.word text) _ _ (word_same text) (λ name. sides_agree name.0 name.1)
+pattern_agrees : (text : Text) → Agrees (reading.pattern_at text) (simple.read text)
+unfolding reading.pattern_at simple.read
+pattern_agrees text = same_agrees (reading.word_at text) (simple.word text) _ _ (word_same text) (λ name. sides_agree name.0 name.1)
 
 -- ---- reading agrees with the grammar
 
@@ -133,7 +133,7 @@ agrees_only (Err f) None y h e = absurd cc
 whole_found : (text : Text) (r : Option (TextRefusal × ℕ)) (p : Pattern) → text_reason text ≡ r → whole_from text r ≡ Ok p → (q : syntax.Pattern) × Spells text q × AreParts p q
 whole_found text (Some r) p is e = absurd cc
 whole_found text None p is e =
-    let a = agrees_found (reading.pattern_at text) (plain.read text) p (pattern_agrees text) e in
+    let a = agrees_found (reading.pattern_at text) (simple.read text) p (pattern_agrees text) e in
     (a.0.0, (is, (a.0.1, pattern_exact.found text a.0.1 a.0.0 a.1)), a.2)
 
 pub is_rendered : (text : Text) (r : Result PatternCode PatternError) → Returns pattern_view r (whole_at text) → IfOk r (IsRendered text)
@@ -144,7 +144,7 @@ is_rendered text (Err e) h = tt
 whole_only : (text : Text) (q : syntax.Pattern) → Spells text q → (p : Pattern) × (whole_at text ≡ Ok p) × AreParts p q
 unfolding whole_at
 whole_only text q h =
-    let a = agrees_only (reading.pattern_at text) (plain.read text) (q, h.1.0) (pattern_agrees text) (pattern_exact.only text h.1.0 q h.1.1) in
+    let a = agrees_only (reading.pattern_at text) (simple.read text) (q, h.1.0) (pattern_agrees text) (pattern_exact.only text h.1.0 q h.1.1) in
     (a.0, ap (whole_from text) h.0 ∙ a.1, a.2)
 
 read_as : (text : Text) (q : syntax.Pattern) (p : Pattern) (r : Result PatternCode PatternError) → whole_at text ≡ Ok p → AreParts p q → Returns pattern_view r (whole_at text) → IsReadAs r q

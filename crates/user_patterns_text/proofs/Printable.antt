@@ -11,7 +11,7 @@ use Rattle.ir_text_tokens.proofs.Wholes.{next_whole}
 use Rattle.ir_text_types.specs.Grammars.{Grammar, IsMark, IsMore, IsList}
 use Rattle.ir_text_types.specs.Marks.{mark_code}
 use Rattle.ir_text_types.specs.Typed.{Text}
-use Rattle.user_patterns_text.specs.Syntax.{Number, literal, numbers_of, number_list, Term, terms_of, term_list, Condition, narrower, Pattern}
+use Rattle.user_patterns_text.specs.Syntax.{Number, literal, numbers_of, number_list, Term, terms_of, term_list, Constraint, narrower, Pattern}
 use Rattle.user_patterns_text.specs.Heads.{Head, of_value, of_operation, of_word, of_digits, of_minus, of_other, head_of, has_dot, is_type_word, is_one_of, may_be_requested, must_be_requested}
 use Rattle.user_patterns_text.specs.Grammar.{most, old_depth, new_depth, IsWordOf, IsWord, IsType, IsTyped, IsDigits, IsMagnitudeOf, IsMagnitude, IsNumberOf, IsNumber, IsRequestedBy, IsOldNumberOf, IsConstant, IsTermOf, IsValueOf, IsOld, IsNew, IsConditionOf, IsCondition, IsRequestedAtEnd, IsPattern}
 use Rattle.user_patterns_text.specs.Printing.{IsName, FitsNumber, FitsList, FitsRest, FitsType, FitsRequested, FitsOldNumber, FitsOld, FitsOlds, FitsNew, FitsNews, AreTypes, FitsCondition, FitConditions, IsPrintable}
@@ -264,7 +264,7 @@ types_fit : (ws : List (List ℕ)) → AllFit (λ w. IsName w × (is_type_word w
 types_fit [] f = tt
 types_fit (w ∷ ws) f = (f.0, types_fit ws f.1)
 
-condition_of_fits : (b : Bool) (w : List ℕ) (c : Condition) (s m : Text) → IsName w → is_one_of (codes "narrower" ∷ []) w ≡ b → IsConditionOf b w c s m → FitsCondition c
+condition_of_fits : (b : Bool) (w : List ℕ) (c : Constraint) (s m : Text) → IsName w → is_one_of (codes "narrower" ∷ []) w ≡ b → IsConditionOf b w c s m → FitsCondition c
 condition_of_fits true w c s m name test d =
     let r = more_fits IsType (λ u. IsName u × (is_type_word u ≡ true)) type_fits CloseRound most [] d.0 s d.1 d.2 in
     subst FitsCondition (sym d.3.0) (subst (λ (ws : List (List ℕ)). FitsCondition (narrower ws)) (sym r.2) ((r.3, types_fit r.1 r.4), r.5))
@@ -273,19 +273,19 @@ condition_of_fits false w c s m name test d =
     let l = list_fits new_depth d.0 r in
     subst FitsCondition (sym d.3.0) (name, test, l.0, subst (λ (ns : List Number). length ns ≤ most) (list_once d.0) l.1)
 
-condition_fits : (c : Condition) (start mid : Text) → IsCondition c start mid → FitsCondition c
+condition_fits : (c : Constraint) (start mid : Text) → IsCondition c start mid → FitsCondition c
 condition_fits c start mid d =
     condition_of_fits (is_one_of (codes "narrower" ∷ []) d.0) d.0 c d.3.0 mid (word_fits d.0 start d.1 d.2) refl d.3.2
 
-conditions_fit : (cs : List Condition) → AllFit FitsCondition cs → FitConditions cs
+conditions_fit : (cs : List Constraint) → AllFit FitsCondition cs → FitConditions cs
 conditions_fit [] f = tt
 conditions_fit (c ∷ cs) f = (f.0, conditions_fit cs f.1)
 
-where_fits : (cs : List Condition) (start mid : Text) → IsRequestedAtEnd cs start mid → FitConditions cs × (length cs ≤ most)
+where_fits : (cs : List Constraint) (start mid : Text) → IsRequestedAtEnd cs start mid → FitConditions cs × (length cs ≤ most)
 where_fits cs start mid d = elim d [
-  | inl a ↦ subst (λ (ds : List Condition). FitConditions ds × (length ds ≤ most)) (sym a.2.0) (tt, omega arith)
+  | inl a ↦ subst (λ (ds : List Constraint). FitConditions ds × (length ds ≤ most)) (sym a.2.0) (tt, omega arith)
   | inr a ↦ (let r = more_fits IsCondition FitsCondition condition_fits End most [] cs a.1.1 mid a.1.3.1 in
-      subst (λ (ds : List Condition). FitConditions ds × (length ds ≤ most)) (sym r.2) ((r.3, conditions_fit r.1 r.4), r.5))
+      subst (λ (ds : List Constraint). FitConditions ds × (length ds ≤ most)) (sym r.2) ((r.3, conditions_fit r.1 r.4), r.5))
 ]
 
 pub pattern_fits : (p : Pattern) (text rest : Text) → IsPattern p text rest → IsPrintable p

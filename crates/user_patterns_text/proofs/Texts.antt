@@ -4,7 +4,7 @@ use Rattle.std.specs.Prelude.{codes}
 use Rattle.std.specs.Fmt.{decimal}
 use Rattle.ir_text_tokens.specs.Printing.{signed_text}
 use Rattle.ir_text_types.specs.Typed.{Text}
-use Rattle.user_patterns_text.specs.Syntax.{Number, Numbers, literal, named, called, no_numbers, next_number, numbers_of, Term, Terms, operation, value_of, constant_of, no_terms, next_term, Condition, narrower, asking}
+use Rattle.user_patterns_text.specs.Syntax.{Number, Numbers, literal, named, called, no_numbers, next_number, numbers_of, Term, Terms, operation, value_of, constant_of, no_terms, next_term, Constraint, narrower, asking}
 use Rattle.user_patterns_text.specs.Syntax as syntax
 use Rattle.user_patterns_text.specs.Printing.{show_requested, show_condition, show_conditions, show_more, show_next, show_number, show_numbers, show_some_words, show_term, show_terms, show_type, show_where, show_words, signed, text_of}
 use Rattle.user_patterns_text.specs.Recognizing.{read}
@@ -130,7 +130,7 @@ module _ (end : Text) where
   some_words_are (w ∷ ws) ps =
       one_more true true (map type_part ws ++ end_part ∷ ps) (type_part w) ∙ ap (λ (t : Text). w ++ t) (words_are ws ps)
 
-  condition_is : (c : Condition) (first : Bool) (ps : List Part) → along true first (condition_parts c ++ ps) ≡ item first (show_condition c (along true false ps))
+  condition_is : (c : Constraint) (first : Bool) (ps : List Part) → along true first (condition_parts c ++ ps) ≡ item first (show_condition c (along true false ps))
   unfolding condition_parts
   condition_is (narrower ws) first ps =
       one_more true first (closed (map type_part ws) ++ ps) (condition_part (codes "narrower"))
@@ -146,18 +146,18 @@ module _ (end : Text) where
 abbrev at_end : Bool → Bool → List Part → Text
 at_end items first ps = parts_text items first ps ++ []
 
-conditions_are : (cs : List Condition) → at_end true false (conditions_parts cs) ≡ show_conditions cs
+conditions_are : (cs : List Constraint) → at_end true false (conditions_parts cs) ≡ show_conditions cs
 unfolding conditions_parts parts_text
 conditions_are [] = refl
 conditions_are (c ∷ cs) =
     condition_is [] c false (conditions_parts cs) ∙ ap (λ (t : Text). 44 ∷ 32 ∷ show_condition c t) (conditions_are cs)
 
-where_first : (c : Condition) (ps : List Part) → where_text (condition_parts c ++ ps) ≡ codes " where " ++ parts_text true true (condition_parts c ++ ps)
+where_first : (c : Constraint) (ps : List Part) → where_text (condition_parts c ++ ps) ≡ codes " where " ++ parts_text true true (condition_parts c ++ ps)
 unfolding condition_parts
 where_first (narrower ws) ps = refl
 where_first (asking w ns) ps = refl
 
-where_is : (cs : List Condition) → where_text (conditions_parts cs) ≡ show_where cs
+where_is : (cs : List Constraint) → where_text (conditions_parts cs) ≡ show_where cs
 unfolding conditions_parts
 where_is [] = refl
 where_is (c ∷ cs) =

@@ -9,7 +9,7 @@ use Rattle.ir_text_tokens.proofs.Printed.{blank_passed, bare_token, mark_token}
 use Rattle.ir_text_types.specs.Grammars.{Grammar, Not, IsMark, IsMore}
 use Rattle.ir_text_types.specs.Marks.{mark_code}
 use Rattle.ir_text_types.specs.Typed.{Text}
-use Rattle.user_patterns_text.specs.Syntax.{Number, numbers_of, number_list, Condition, narrower, asking, Pattern}
+use Rattle.user_patterns_text.specs.Syntax.{Number, numbers_of, number_list, Constraint, narrower, asking, Pattern}
 use Rattle.user_patterns_text.specs.Heads.{is_type_word}
 use Rattle.user_patterns_text.specs.Grammar.{most, old_depth, new_depth, IsType, IsNumber, IsConditionOf, IsCondition, IsRequestedAtEnd, IsPattern}
 use Rattle.user_patterns_text.specs.Printing.{show_term, show_numbers, show_words, show_condition, show_conditions, show_where, text_of, IsName, AreTypes, FitsCondition, FitConditions, IsPrintable, IsReadAgain}
@@ -55,7 +55,7 @@ types_listed w ws (suc headroom) f le rest =
 
 -- ---- conditions
 
-condition_rendered : (c : Condition) → FitsCondition c → (start rest : Text) → next start ≡ next (show_condition c rest) → IsCondition c start rest
+condition_rendered : (c : Constraint) → FitsCondition c → (start rest : Text) → next start ≡ next (show_condition c rest) → IsCondition c start rest
 condition_rendered (narrower []) f start rest same = absurd f
 condition_rendered (narrower (w ∷ ws)) f start rest same =
     let inside = w ++ show_words ws rest in (
@@ -82,12 +82,12 @@ condition_rendered (asking w ns) f start rest same =
 end_token : IsMark End [] []
 end_token = mark_token End [] refl
 
-abbrev EndTail : ℕ → List Condition → Grammar Text (List Condition)
+abbrev EndTail : ℕ → List Constraint → Grammar Text (List Constraint)
 EndTail headroom items ys mid new =
     (IsMark End mid new × (ys ≡ items))
     ⊎ (Not IsMark End mid × (next : Text) × IsMark Comma mid next × IsMore IsMark End (λ before. IsCondition) headroom items ys next new)
 
-conditions_tail : (cs : List Condition) (headroom : ℕ) (items : List Condition) → FitConditions cs → length cs ≤ headroom → EndTail headroom items (items ++ cs) (show_conditions cs) []
+conditions_tail : (cs : List Constraint) (headroom : ℕ) (items : List Constraint) → FitConditions cs → length cs ≤ headroom → EndTail headroom items (items ++ cs) (show_conditions cs) []
 unfolding IsMore
 conditions_tail [] headroom items f le = inl (end_token, append-nil items)
 conditions_tail (c ∷ cs) zero items f le = absurd (omega (arith, le))
@@ -101,12 +101,12 @@ conditions_tail (c ∷ cs) (suc headroom) items f le =
         c,
         show_conditions cs,
         condition_rendered c f.0 (32 ∷ inside) (show_conditions cs) (blank_passed 32 inside refl),
-        subst (λ (ys : List Condition). EndTail headroom (items ++ c ∷ []) ys (show_conditions cs) []) (append_assoc items (c ∷ []) cs)
+        subst (λ (ys : List Constraint). EndTail headroom (items ++ c ∷ []) ys (show_conditions cs) []) (append_assoc items (c ∷ []) cs)
             (conditions_tail cs headroom (items ++ c ∷ []) f.1 (omega (arith, le))),
       ),
     )
 
-conditions_listed : (c : Condition) (cs : List Condition) (headroom : ℕ) → FitConditions (c ∷ cs) → length (c ∷ cs) ≤ headroom → (start : Text) → next start ≡ next (show_condition c (show_conditions cs))
+conditions_listed : (c : Constraint) (cs : List Constraint) (headroom : ℕ) → FitConditions (c ∷ cs) → length (c ∷ cs) ≤ headroom → (start : Text) → next start ≡ next (show_condition c (show_conditions cs))
     → IsMore IsMark End (λ before. IsCondition) headroom [] (c ∷ cs) start []
 unfolding IsMore
 conditions_listed c cs zero f le start same = absurd (omega (arith, le))
@@ -120,7 +120,7 @@ word_no_mark k bytes w rest is other = λ new t. other (ap code_at (sym is ∙ t
 where_token : (inside : Text) → next (32 ∷ (codes "where" ++ (32 ∷ inside))) ≡ Some (bare (codes "where"), 32 ∷ inside)
 where_token inside = blank_passed 32 (codes "where" ++ (32 ∷ inside)) refl ∙ bare_token (codes "where") (32 ∷ inside) refl refl
 
-where_rendered : (cs : List Condition) → FitConditions cs → length cs ≤ most → IsRequestedAtEnd cs (show_where cs) []
+where_rendered : (cs : List Constraint) → FitConditions cs → length cs ≤ most → IsRequestedAtEnd cs (show_where cs) []
 where_rendered [] f le = inl ([], end_token, (refl, refl))
 where_rendered (c ∷ cs) f le =
     let inside = show_condition c (show_conditions cs) in
@@ -137,7 +137,7 @@ where_rendered (c ∷ cs) f le =
 
 -- ---- a pattern
 
-where_ends : (cs : List Condition) → TermEnds (show_where cs)
+where_ends : (cs : List Constraint) → TermEnds (show_where cs)
 where_ends [] =
     record {
       ends = record { stops = tt; round = not_mark End OpenRound [] [] end_token (λ q. absurd (omega (arith, q))) };

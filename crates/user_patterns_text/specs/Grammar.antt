@@ -4,7 +4,7 @@ use Rattle.ir_text_tokens.specs.declared.token.Mark.TheVariants.{OpenRound, Clos
 use Rattle.ir_text_tokens.specs.Tokens.{Lexeme}
 use Rattle.ir_text_types.specs.Grammars.{Grammar, Then, Done, DoneIf, When, After, Either, IsList, IsMore, Token, IsMark}
 use Rattle.ir_text_types.specs.Typed.{Text}
-use Rattle.user_patterns_text.specs.Syntax.{Number, literal, named, called, numbers_of, Term, operation, value_of, constant_of, terms_of, Condition, narrower, asking, Pattern, is_operation}
+use Rattle.user_patterns_text.specs.Syntax.{Number, literal, named, called, numbers_of, Term, operation, value_of, constant_of, terms_of, Constraint, narrower, asking, Pattern, is_operation}
 use Rattle.user_patterns_text.specs.Heads.{Head, of_value, of_operation, of_word, of_digits, of_minus, of_other, head_of, magnitude_of, is_type_word, is_one_of, folding, is_allowed_word, may_be_requested, must_be_requested}
 
 -- the greatest number of items in a list, and the greatest depth of terms on the left and on the right
@@ -140,18 +140,18 @@ IsNew (suc depth) = Following (λ l. IsTermOf false (IsNumberOf (IsNumber depth)
 
 -- ---- conditions, and a pattern
 
-abbrev pub IsConditionOf : Bool → List ℕ → Grammar Text Condition
+abbrev pub IsConditionOf : Bool → List ℕ → Grammar Text Constraint
 IsConditionOf true w = Then (IsMore IsMark CloseRound (λ before. IsType) most []) (λ tys. Done (narrower tys))
 IsConditionOf false w = Then (IsMore IsMark CloseRound (λ before. IsNumber new_depth) most []) (λ ns. Done (asking w ns))
 
-abbrev pub IsCondition : Grammar Text Condition
+abbrev pub IsCondition : Grammar Text Constraint
 IsCondition = Then IsWord (λ w. After IsMark OpenRound (IsConditionOf (is_one_of (codes "narrower" ∷ []) w) w))
 
-abbrev pub IsWhere : Grammar Text (List Condition)
+abbrev pub IsWhere : Grammar Text (List Constraint)
 IsWhere = Then IsWord (λ w. When (is_one_of (codes "where" ∷ []) w ≡ true) (IsMore IsMark End (λ before. IsCondition) most []))
 
 -- `where` with its conditions, or nothing, up to the end of the text
-abbrev pub IsRequestedAtEnd : Grammar Text (List Condition)
+abbrev pub IsRequestedAtEnd : Grammar Text (List Constraint)
 IsRequestedAtEnd = Either IsMark End (Done []) IsWhere
 
 abbrev pub IsPattern : Grammar Text Pattern

@@ -3,7 +3,7 @@
 -- term follows the term.
 use Rattle.std.specs.Prelude.{◌≡◌, ℕ, Bool, List, [], ◌∷◌, ◌++◌, codes, map, Option, Some, None, option_map}
 use Rattle.std.specs.Borrow.{Bor}
-use Rattle.user_patterns_text.specs.Syntax.{Number, Numbers, literal, named, called, no_numbers, next_number, numbers_of, Term, Terms, operation, value_of, constant_of, no_terms, next_term, Condition, narrower, asking}
+use Rattle.user_patterns_text.specs.Syntax.{Number, Numbers, literal, named, called, no_numbers, next_number, numbers_of, Term, Terms, operation, value_of, constant_of, no_terms, next_term, Constraint, narrower, asking}
 use Rattle.user_patterns_text.specs.Syntax as syntax
 use Rattle.user_patterns_text.specs.declared.parts.PartKind.{PartKind}
 use Rattle.user_patterns_text.specs.declared.parts.PartKind.TheVariants as kind
@@ -42,7 +42,7 @@ kind_view (kind.Value name) = value_part name.now
 kind_view (kind.Literal negative magnitude) = literal_part negative magnitude
 kind_view (kind.Name name) = name_part name.now
 kind_view (kind.Function name) = function_part name.now
-kind_view (kind.Condition name) = condition_part name.now
+kind_view (kind.Constraint name) = condition_part name.now
 kind_view (kind.Type name) = type_part name.now
 kind_view kind.End = end_part
 
@@ -84,11 +84,11 @@ unfoldable mutual
   terms_parts no_terms = []
   terms_parts (next_term t ts) = term_parts t ++ terms_parts ts
 
-unfoldable pub condition_parts : Condition → List Part
+unfoldable pub condition_parts : Constraint → List Part
 condition_parts (narrower tys) = condition_part (codes "narrower") ∷ closed (map type_part tys)
 condition_parts (asking w ns) = condition_part w ∷ closed (numbers_parts (numbers_of ns))
 
-unfoldable pub conditions_parts : List Condition → List Part
+unfoldable pub conditions_parts : List Constraint → List Part
 conditions_parts [] = []
 conditions_parts (c ∷ cs) = condition_parts c ++ conditions_parts cs
 

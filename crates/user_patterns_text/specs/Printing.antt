@@ -3,7 +3,7 @@ use Rattle.std.specs.Prelude.{◌≡◌, ℕ, zero, suc, ◌^◌, ◌<◌, ◌�
 use Rattle.std.specs.Fmt.{decimal}
 use Rattle.ir_text_tokens.specs.Printing.{is_bare_id, is_suffix_id}
 use Rattle.ir_text_types.specs.Typed.{Text}
-use Rattle.user_patterns_text.specs.Syntax.{Number, Numbers, literal, named, called, no_numbers, next_number, number_list, numbers_of, Term, Terms, operation, value_of, constant_of, no_terms, next_term, term_list, Condition, narrower, asking, Pattern, is_operation}
+use Rattle.user_patterns_text.specs.Syntax.{Number, Numbers, literal, named, called, no_numbers, next_number, number_list, numbers_of, Term, Terms, operation, value_of, constant_of, no_terms, next_term, term_list, Constraint, narrower, asking, Pattern, is_operation}
 use Rattle.user_patterns_text.specs.Heads.{has_dot, is_type_word, is_one_of, folding, is_allowed_word, may_be_requested, must_be_requested}
 use Rattle.user_patterns_text.specs.Grammar.{most, old_depth, new_depth}
 use Rattle.user_patterns_text.specs.Recognizing.{read}
@@ -124,15 +124,15 @@ abbrev pub show_some_words : List (List ℕ) → Text → Text
 show_some_words [] rest = 41 ∷ rest
 show_some_words (w ∷ ws) rest = w ++ show_words ws rest
 
-abbrev pub show_condition : Condition → Text → Text
+abbrev pub show_condition : Constraint → Text → Text
 show_condition (narrower tys) rest = codes "narrower" ++ (40 ∷ show_some_words tys rest)
 show_condition (asking w ns) rest = w ++ (40 ∷ show_numbers (numbers_of ns) rest)
 
-abbrev pub show_conditions : List Condition → Text
+abbrev pub show_conditions : List Constraint → Text
 show_conditions [] = []
 show_conditions (c ∷ cs) = 44 ∷ 32 ∷ show_condition c (show_conditions cs)
 
-abbrev pub show_where : List Condition → Text
+abbrev pub show_where : List Constraint → Text
 show_where [] = []
 show_where (c ∷ cs) = 32 ∷ (codes "where" ++ (32 ∷ show_condition c (show_conditions cs)))
 
@@ -144,12 +144,12 @@ abbrev pub AreTypes : List (List ℕ) → Type 0
 AreTypes [] = Unit {0}
 AreTypes (w ∷ ws) = (IsName w × (is_type_word w ≡ true)) × AreTypes ws
 
-abbrev pub FitsCondition : Condition → Type 0
+abbrev pub FitsCondition : Constraint → Type 0
 FitsCondition (narrower []) = ⊥
 FitsCondition (narrower (w ∷ ws)) = AreTypes (w ∷ ws) × (length (w ∷ ws) ≤ most)
 FitsCondition (asking w ns) = IsName w × (is_one_of (codes "narrower" ∷ []) w ≡ false) × FitsList new_depth (numbers_of ns) × (length ns ≤ most)
 
-abbrev pub FitConditions : List Condition → Type 0
+abbrev pub FitConditions : List Constraint → Type 0
 FitConditions [] = Unit {0}
 FitConditions (c ∷ cs) = FitsCondition c × FitConditions cs
 

@@ -5,7 +5,7 @@ use Rattle.ir_text_tokens.specs.declared.token.Mark.TheVariants.{OpenRound, Clos
 use Rattle.ir_text_tokens.specs.Tokens.{Lexeme, next}
 use Rattle.ir_text_types.specs.Marks.{after}
 use Rattle.ir_text_types.specs.Typed.{Text}
-use Rattle.user_patterns_text.specs.Syntax.{Number, literal, named, called, numbers_of, Term, operation, value_of, constant_of, terms_of, Condition, narrower, asking, Pattern, is_operation}
+use Rattle.user_patterns_text.specs.Syntax.{Number, literal, named, called, numbers_of, Term, operation, value_of, constant_of, terms_of, Constraint, narrower, asking, Pattern, is_operation}
 use Rattle.user_patterns_text.specs.Heads.{Head, of_value, of_operation, of_word, of_digits, of_minus, of_other, head_of, magnitude_of, is_type_word, is_one_of, folding, is_allowed_word, may_be_requested, must_be_requested}
 use Rattle.user_patterns_text.specs.Grammar.{most, old_depth, new_depth}
 
@@ -162,14 +162,14 @@ new_term (suc depth) = trailing (λ l. term_from false (number_from (number dept
 
 -- ---- conditions, and a pattern
 
-abbrev pub condition_from : Bool → List ℕ → Reader Condition
+abbrev pub condition_from : Bool → List ℕ → Reader Constraint
 condition_from true w = and_then (more CloseRound type most []) (λ tys. done (narrower tys))
 condition_from false w = and_then (more CloseRound (number new_depth) most []) (λ ns. done (asking w ns))
 
-abbrev pub condition : Reader Condition
+abbrev pub condition : Reader Constraint
 condition = and_then word (λ w. after_mark OpenRound (condition_from (is_one_of (codes "narrower" ∷ []) w) w))
 
-abbrev pub conditions : Reader (List Condition)
+abbrev pub conditions : Reader (List Constraint)
 conditions = either End (done []) (and_then word (λ w. when (is_one_of (codes "where" ∷ []) w) (more End condition most [])))
 
 unfoldable pub read : Reader Pattern

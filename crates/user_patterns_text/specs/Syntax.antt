@@ -32,15 +32,15 @@ terms_of [] = no_terms
 terms_of (t ∷ ts) = next_term t (terms_of ts)
 
 -- a condition: `narrower` of types, or a named condition on numbers
-pub data Condition : Type 0 where
-  narrower : List (List ℕ) → Condition
-  asking : List ℕ → List Number → Condition
+pub data Constraint : Type 0 where
+  narrower : List (List ℕ) → Constraint
+  asking : List ℕ → List Number → Constraint
 
 pub record Pattern : Type 0 where
   pub name : List ℕ
   pub old : Term
   pub new : Term
-  pub conditions : List Condition
+  pub conditions : List Constraint
 
 abbrev pub is_operation : Term → Bool
 is_operation (operation name asks operands ty) = true

@@ -68,7 +68,7 @@ fn condition_after<'a>(
     ensures { Returns (λ rest. (views parts.new.items, rest.now)) result (condition_from at word.now (views parts.old.items, bytes.now)) }
 {
     let rest = expect(bytes, Mark::OpenRound)?;
-    push_part(parts, at, PartKind::Condition(word))?;
+    push_part(parts, at, PartKind::Constraint(word))?;
     let rest = parts_of(parts, is_narrower(word), rest)?;
     push_part(parts, rest.len(), PartKind::End)?;
     Ok(rest)

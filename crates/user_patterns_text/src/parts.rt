@@ -20,7 +20,7 @@ pub enum PartKind<'a> {
     /// The name of a function of numbers.
     Function(&'a [u8]),
     /// The word of a condition.
-    Condition(&'a [u8]),
+    Constraint(&'a [u8]),
     /// A type, by its word in the text.
     Type(&'a [u8]),
     /// The end of a list of operands.

@@ -106,7 +106,7 @@ fn write_part(
         PartKind::Literal(negative, magnitude) => write_literal(out, first, *negative, *magnitude),
         PartKind::Name(word) => write_item(out, first, word, b""),
         PartKind::Function(word) => write_item(out, first, word, b"("),
-        PartKind::Condition(word) => write_item(out, first, word, b"("),
+        PartKind::Constraint(word) => write_item(out, first, word, b"("),
         PartKind::Type(word) => write_type(out, items, first, word),
         PartKind::End => write_end(out),
     }
@@ -118,7 +118,7 @@ fn opens(kind: &PartKind<'_>) -> bool
 {
     matches!(
         kind,
-        PartKind::Operation(_, _) | PartKind::Function(_) | PartKind::Condition(_)
+        PartKind::Operation(_, _) | PartKind::Function(_) | PartKind::Constraint(_)
     )
 }
 

@@ -146,13 +146,13 @@ module _ (ks : List BitsKind) (t : ℕ) (wide : is_width (width_of (kind_at ks t
       let b = and_parts (is x) (list_all is xs) e in
       ap₂ ◌∷◌ (alike x a.0 b.0) (all_alike f g has is alike xs a.1 b.1)
 
-  all_fit : {X : Type 0} (fit has is : X → Bool) → ((x : X) → has x ≡ true → is x ≡ true → fit x ≡ true)
-      → (xs : List X) → list_all has xs ≡ true → list_all is xs ≡ true → list_all fit xs ≡ true
-  all_fit fit has is each [] h e = refl
-  all_fit fit has is each (x ∷ xs) h e =
+  all_fit : {X : Type 0} (fits_in has is : X → Bool) → ((x : X) → has x ≡ true → is x ≡ true → fits_in x ≡ true)
+      → (xs : List X) → list_all has xs ≡ true → list_all is xs ≡ true → list_all fits_in xs ≡ true
+  all_fit fits_in has is each [] h e = refl
+  all_fit fits_in has is each (x ∷ xs) h e =
       let a = and_parts (has x) (list_all has xs) h in
       let b = and_parts (is x) (list_all is xs) e in
-      and_from (fit x) (list_all fit xs) (each x a.0 b.0) (all_fit fit has is each xs a.1 b.1)
+      and_from (fits_in x) (list_all fits_in xs) (each x a.0 b.0) (all_fit fits_in has is each xs a.1 b.1)
 
   -- the values of the pattern's variables
   bound_known : (tys : List ℕ) → list_all (λ v. v == t) tys ≡ true → (values : List ℕ) → AreUnder (map (λ j. 2 ^ width_of j) (map (kind_at ks) tys)) values

@@ -59,20 +59,20 @@ module _ (ks : List BitsKind) (t : ℕ) where
 
     pub extras_stand : (ns : List ExtraConstant) (fs : Formal) (xs ys : List Outcome) → list_all (extra_has t) ns ≡ true → list_all (extra_fits ks) ns ≡ true
         → run (map (extra_step ks) ns) xs ≡ Some ys → AllStand k V fs xs → AllStand k V (formal_extras ns fs) ys
-    extras_stand [] fs xs ys has fit e stand = subst (AllStand k V fs) (same_Some xs ys e) stand
-    extras_stand (n ∷ ns) fs xs ys has fit e stand =
+    extras_stand [] fs xs ys has fits_in e stand = subst (AllStand k V fs) (same_Some xs ys e) stand
+    extras_stand (n ∷ ns) fs xs ys has fits_in e stand =
         let h = and_parts (extra_has t n) (list_all (extra_has t) ns) has in
-        let f = and_parts (extra_fits ks n) (list_all (extra_fits ks) ns) fit in
+        let f = and_parts (extra_fits ks n) (list_all (extra_fits ks) ns) fits_in in
         let g = given_some (step_of (extra_step ks n) xs) (λ v. run (map (extra_step ks) ns) (xs ++ (v ∷ []))) ys e in
         extras_stand ns (fs ++ (formal_extra n fs ∷ [])) (xs ++ (g.0 ∷ [])) ys h.1 f.1 g.2
         (stand_more k V fs xs (formal_extra n fs) g.0 stand (extra_is_valid V ks t n fs xs g.0 stand h.0 f.0 g.1))
 
     pub numbers_are_valid : (ns : List ConstantExpression) (fs : Formal) (xs : List Outcome) → list_all (number_has t) ns ≡ true → list_all (number_fits ks) ns ≡ true
         → run (map (number_step ks) ns) xs ≡ Some fin → AllStand k V fs xs → AllStand k V (formal_numbers ns fs) fin
-    numbers_are_valid [] fs xs has fit e stand = subst (AllStand k V fs) (same_Some xs fin e) stand
-    numbers_are_valid (n ∷ ns) fs xs has fit e stand =
+    numbers_are_valid [] fs xs has fits_in e stand = subst (AllStand k V fs) (same_Some xs fin e) stand
+    numbers_are_valid (n ∷ ns) fs xs has fits_in e stand =
         let h = and_parts (number_has t n) (list_all (number_has t) ns) has in
-        let f = and_parts (number_fits ks n) (list_all (number_fits ks) ns) fit in
+        let f = and_parts (number_fits ks n) (list_all (number_fits ks) ns) fits_in in
         let g = given_some (step_of (number_step ks n) xs) (λ v. run (map (number_step ks) ns) (xs ++ (v ∷ []))) fin e in
         let preceding = preceding_of_steps (map (number_step ks) ns) (xs ++ (g.0 ∷ [])) fin g.2 in
         numbers_are_valid ns (fs ++ (formal_number n fs ∷ [])) (xs ++ (g.0 ∷ [])) h.1 f.1 g.2

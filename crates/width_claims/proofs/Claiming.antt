@@ -76,15 +76,15 @@ module _ (W : ℕ) (vs : List ℕ) where
   -- one more mask, with any numbers after it
   mask_more : (ds ms ns new : List ℕ) (ts us : List Bool) (n t k u w : ℕ) → Begun ds ms ns ts n t → ((i : ℕ) → i < n → at new i ≡ at ns i) → length new ≡ k → length us ≡ u → n < k → at new n ≡ mask w
       → Begun (ds ++ w ∷ []) (ms ++ n ∷ []) new us k u
-  mask_more ds ms ns new ts us n t k u w b stay many end_truth h is =
+  mask_more ds ms ns new ts us n t k u w b remains many end_truth h is =
       let some = b.some in
       let alike = b.alike in
       record {
         many = many;
         end_truth = end_truth;
         some = omega (arith, some, h);
-        zero_there = stay 0 (omega (arith, some)) ∙ b.zero_there;
-        one_there = stay 1 (omega (arith, some)) ∙ b.one_there;
+        zero_there = remains 0 (omega (arith, some)) ∙ b.zero_there;
+        one_there = remains 1 (omega (arith, some)) ∙ b.one_there;
         alike = longer ms n (length ds) alike ∙ sym (length-append ds (w ∷ []));
         masks = λ i l. elim (last_or i (length ms) (subst (λ (q : ℕ). i < q) (length-append ms (n ∷ [])) l)) [
           | inl g ↦ (
@@ -92,7 +92,7 @@ module _ (W : ℕ) (vs : List ℕ) where
               let lo = x.0 in
               let p = old ms n i g in
               let q = old ds w i (omega (arith, g, alike)) in
-              (omega (arith, lo, h, p), ap (at new) p ∙ stay (at ms i) lo ∙ x.1 ∙ ap mask (sym q)))
+              (omega (arith, lo, h, p), ap (at new) p ∙ remains (at ms i) lo ∙ x.1 ∙ ap mask (sym q)))
           | inr g ↦ (
               let p = last ms n i (sym g) in
               let q = last ds w i (sym alike ∙ sym g) in
@@ -135,9 +135,9 @@ module _ (W : ℕ) (vs : List ℕ) where
       let many3 : length ns3 ≡ n + 3 = longer ns2 x2 (n + 2) many2 ∙ three in
       let four : n + 3 + 1 ≡ n + 4 = omega arith in
       let many4 : length ns4 ≡ n + 4 = longer ns3 x3 (n + 3) many3 ∙ four in
-      let told1 = longer ts b1 t b.end_truth in
+      let reported1 = longer ts b1 t b.end_truth in
       let up : t + 1 + 1 ≡ t + 2 = omega arith in
-      let told2 : length ts2 ≡ t + 2 = longer ts1 b2 (t + 1) told1 ∙ up in
+      let reported2 : length ts2 ≡ t + 2 = longer ts1 b2 (t + 1) reported1 ∙ up in
       let mask_is : m ≡ mask w = ap (λ q. q % 2 ^ W) f.1 ∙ mod-eq_of_lt is.low in
       let at1 : at ns1 n ≡ mask w = last ns m n many ∙ mask_is in
       let at2 : at ns2 n ≡ mask w = old ns1 x1 n (omega (arith, many1)) ∙ at1 in
@@ -152,9 +152,9 @@ module _ (W : ℕ) (vs : List ℕ) where
       let odd : at ns4 (n + 3) ≡ 1 = last ns3 x3 (n + 3) many3 ∙ (λ r. bit_and (at3 r) (one3 r)) ∙ is.some in
       let b1_is : b1 ≡ true = eq-eqb (at ns3 (n + 2)) (at ns3 0) (none ∙ sym zero3) in
       let b2_is : b2 ≡ true = eq-eqb (at ns4 (n + 3)) (at ns4 1) (odd ∙ sym one4) in
-      let stay : (i : ℕ) → i < n → at ns4 i ≡ at ns i =
+      let remains : (i : ℕ) → i < n → at ns4 i ≡ at ns i =
       λ i l. old ns3 x3 i (omega (arith, l, many3)) ∙ old ns2 x2 i (omega (arith, l, many2)) ∙ old ns1 x1 i (omega (arith, l, many1)) ∙ old ns m i (omega (arith, l, many)) in
-      let next = mask_more ds ms ns ns4 ts ts2 n t (n + 4) (t + 2) w b stay many4 told2 (omega arith) at4 in
+      let next = mask_more ds ms ns ns4 ts ts2 n t (n + 4) (t + 2) w b remains many4 reported2 (omega arith) at4 in
       let rest = types_stand ks (ds ++ w ∷ []) us (ms ++ n ∷ []) ns4 ts2 (n + 4) (t + 2) (v + 1) next f.2 in (
         subst (λ (es : List ℕ). Begun es (mask_places ks (ms ++ n ∷ []) (n + 4)) (numbers W vs (type_steps (v + 1) ks (n + 4)) ns4 ts2) (truths W vs (type_steps (v + 1) ks (n + 4)) ns4 ts2) (type_numbers ks (n + 4)) (type_truths ks (t + 2)))
             (append_assoc ds (w ∷ []) us) rest.0,
@@ -167,8 +167,8 @@ module _ (W : ℕ) (vs : List ℕ) where
       let ns1 = ns ++ m ∷ [] in
       let many = b.many in
       let mask_is : m ≡ mask w = ap (λ q. mask q % 2 ^ W) f.1 ∙ mod-eq_of_lt is.low in
-      let stay : (i : ℕ) → i < n → at ns1 i ≡ at ns i = λ i l. old ns m i (omega (arith, l, many)) in
-      let next = mask_more ds ms ns ns1 ts ts n t (n + 1) t w b stay (longer ns m n many) b.end_truth (omega arith) (last ns m n many ∙ mask_is) in
+      let remains : (i : ℕ) → i < n → at ns1 i ≡ at ns i = λ i l. old ns m i (omega (arith, l, many)) in
+      let next = mask_more ds ms ns ns1 ts ts n t (n + 1) t w b remains (longer ns m n many) b.end_truth (omega arith) (last ns m n many ∙ mask_is) in
       let rest = types_stand ks (ds ++ w ∷ []) us (ms ++ n ∷ []) ns1 ts (n + 1) t (v + 1) next f.2 in (
         subst (λ (es : List ℕ). Begun es (mask_places ks (ms ++ n ∷ []) (n + 1)) (numbers W vs (type_steps (v + 1) ks (n + 1)) ns1 ts) (truths W vs (type_steps (v + 1) ks (n + 1)) ns1 ts) (type_numbers ks (n + 1)) (type_truths ks t))
             (append_assoc ds (w ∷ []) us) rest.0,
@@ -214,7 +214,7 @@ module _ (W : ℕ) (vs : List ℕ) where
       let ts2 = ts1 ++ b2 ∷ [] in
       let many = s.many in
       let some = s.some in
-      let told1 = longer ts b t s.end_truth in
+      let reported1 = longer ts b t s.end_truth in
       let up : t + 1 + 1 ≡ t + 2 = omega arith in
       let b_is : b ≡ true = (λ r. nat_lt ((s.masks p.narrow).1 r) ((s.masks p.wide).1 r)) ∙ masks_narrower (at ws p.narrow) (at ws p.wide) a.0 in
       let x_is : x ≡ 1 = ap (λ c. if c then at ns 1 else at ns 0) (last_truth ts b t s.end_truth ∙ b_is) ∙ s.one_there in
@@ -222,7 +222,7 @@ module _ (W : ℕ) (vs : List ℕ) where
       let b2_is : b2 ≡ true = eq-eqb (at ns1 n) (at ns1 1) (last ns x n many ∙ x_is ∙ sym one1) in
       let next : Represents W ws ms [] [] [] ns1 ts2 (n + 1) (t + 2) = record {
         many = longer ns x n many;
-        end_truth = longer ts1 b2 (t + 1) told1 ∙ up;
+        end_truth = longer ts1 b2 (t + 1) reported1 ∙ up;
         some = omega (arith, some);
         zero_there = old ns x 0 (omega (arith, many, some)) ∙ s.zero_there;
         one_there = one1;
@@ -261,7 +261,7 @@ module _ (W : ℕ) (vs : List ℕ) where
       }
 
 pub claims : Claims
-claims c all W vs ws h fit narrow right conditions left_in right_in =
+claims c all W vs ws h fits_in narrow right conditions left_in right_in =
     let ns0 = 0 % 2 ^ W ∷ 1 % 2 ^ W ∷ [] in
     let ms = claim_masks c in
     let n0 = type_numbers c.types 2 in
@@ -274,7 +274,7 @@ claims c all W vs ws h fit narrow right conditions left_in right_in =
     let E = emitted ms c.exprs [] n1 t1 in
     let A = condition_steps pl c.conditions in
     let F = step.Equal (at pl c.left) (at pl c.right) ∷ [] in
-    let begun = types_stand W vs c.types [] ws [] ns0 [] 2 0 c.first_mask (start_stands W vs h) fit in
+    let begun = types_stand W vs c.types [] ws [] ns0 [] 2 0 c.first_mask (start_stands W vs h) fits_in in
     let nsT = numbers W vs T ns0 [] in
     let tsT = truths W vs T ns0 [] in
     let nsN = numbers W vs N nsT tsT in

@@ -71,7 +71,7 @@ push_more ns ms x h s i l = old ms x i (omega (arith, l, h)) ∙ s i l
 
 -- the effect of a block
 record Does (ns : List ℕ) (n : ℕ) (ms : List ℕ) (us : List Bool) (r m u v : ℕ) : Type 0 where
-  stay : KeepsEarlier ns ms
+  remains : KeepsEarlier ns ms
   many : length ms ≡ m
   end_truth : length us ≡ u
   grown : n ≤ m
@@ -90,9 +90,9 @@ module _ (W : ℕ) (vs ws ms : List ℕ) where
         many = d.many;
         end_truth = d.end_truth;
         some = omega (arith, grown, some);
-        zero_there = d.stay 0 (omega (arith, many, some)) ∙ s.zero_there;
-        one_there = d.stay 1 (omega (arith, many, some)) ∙ s.one_there;
-        masks = λ k. (let h = s.masks k in let l = h.0 in (omega (arith, l, grown), d.stay (at ms k) (omega (arith, l, many)) ∙ h.1));
+        zero_there = d.remains 0 (omega (arith, many, some)) ∙ s.zero_there;
+        one_there = d.remains 1 (omega (arith, many, some)) ∙ s.one_there;
+        masks = λ k. (let h = s.masks k in let l = h.0 in (omega (arith, l, grown), d.remains (at ms k) (omega (arith, l, many)) ∙ h.1));
         typed = longer tys ty (length env) s.typed ∙ sym (length-append env (v ∷ []));
         placed = longer pl r (length env) s.placed ∙ sym (length-append env (v ∷ []));
         values = λ i l. elim (last_or i (length env) (subst (λ (k : ℕ). i < k) (length-append env (v ∷ [])) l)) [
@@ -105,7 +105,7 @@ module _ (W : ℕ) (vs ws ms : List ℕ) where
               let same_value = old env v i h in
               let same_type = old tys ty i (omega (arith, h, typed)) in (
                 omega (arith, same_place, k, grown),
-                ap (at new) same_place ∙ d.stay (at pl i) (omega (arith, k, many)) ∙ x.1 ∙ sym same_value,
+                ap (at new) same_place ∙ d.remains (at pl i) (omega (arith, k, many)) ∙ x.1 ∙ sym same_value,
                 subst (λ (e : ℕ). e < 2 ^ at ws (at (tys ++ ty ∷ []) i)) (sym same_value) (subst (λ (e : ℕ). at env i < 2 ^ at ws e) (sym same_type) x.2),
               ))
           | inr h ↦ (
@@ -126,16 +126,16 @@ module _ (W : ℕ) (vs ws ms : List ℕ) where
   -- ---- blocks of few steps
 
   does_none : (ns : List ℕ) (ts : List Bool) (n t r v : ℕ) → length ns ≡ n → length ts ≡ t → r < n → at ns r ≡ v → Does ns n ns ts r n t v
-  does_none ns ts n t r v many end_truth l e = record { stay = λ i k. refl; many = many; end_truth = end_truth; grown = omega arith; there = l; value = e }
+  does_none ns ts n t r v many end_truth l e = record { remains = λ i k. refl; many = many; end_truth = end_truth; grown = omega arith; there = l; value = e }
 
   does_one : (ns : List ℕ) (us : List Bool) (n u x v : ℕ) → length ns ≡ n → length us ≡ u → x ≡ v → Does ns n (ns ++ x ∷ []) us n (n + 1) u v
   does_one ns us n u x v many end_truth e =
-      record { stay = push_steps ns x; many = longer ns x n many; end_truth = end_truth; grown = omega arith; there = omega arith; value = last ns x n many ∙ e }
+      record { remains = push_steps ns x; many = longer ns x n many; end_truth = end_truth; grown = omega arith; there = omega arith; value = last ns x n many ∙ e }
 
   -- one more number after others
   does_next : (ns ms : List ℕ) (us : List Bool) (n m u x v : ℕ) → KeepsEarlier ns ms → length ns ≡ n → length ms ≡ m → n ≤ m → length us ≡ u → x ≡ v → Does ns n (ms ++ x ∷ []) us m (m + 1) u v
-  does_next ns os us n m u x v stay many long h end_truth e =
-      record { stay = push_more ns os x (omega (arith, many, long, h)) stay; many = longer os x m long; end_truth = end_truth; grown = omega (arith, h); there = omega arith; value = last os x m long ∙ e }
+  does_next ns os us n m u x v remains many long h end_truth e =
+      record { remains = push_more ns os x (omega (arith, many, long, h)) remains; many = longer os x m long; end_truth = end_truth; grown = omega (arith, h); there = omega arith; value = last os x m long ∙ e }
 
   -- a mask
   masked : (ns : List ℕ) (x n m w : ℕ) → length ns ≡ n → m < n → at ns m ≡ mask w → bit_and (at (ns ++ x ∷ []) n) (at (ns ++ x ∷ []) m) ≡ bit_and x (mask w)
@@ -328,15 +328,15 @@ module _ (W : ℕ) (vs ws ms : List ℕ) where
           let two : n + 1 + 1 ≡ n + 2 = omega arith in
           let many2 : length ns2 ≡ n + 2 = longer ns1 x2 (n + 1) many1 ∙ two in
           let three : n + 2 + 1 ≡ n + 3 = omega arith in
-          let told1 = longer ts t0 t end_truth in
+          let reported1 = longer ts t0 t end_truth in
           let up2 : t + 1 + 1 ≡ t + 2 = omega arith in
-          let told2 : length ts2 ≡ t + 2 = longer ts1 t1 (t + 1) told1 ∙ up2 in
+          let reported2 : length ts2 ≡ t + 2 = longer ts1 t1 (t + 1) reported1 ∙ up2 in
           let up3 : t + 2 + 1 ≡ t + 3 = omega arith in
-          let told3 : length ts3 ≡ t + 3 = longer ts2 t2 (t + 2) told2 ∙ up3 in
+          let reported3 : length ts3 ≡ t + 3 = longer ts2 t2 (t + 2) reported2 ∙ up3 in
           let up4 : t + 3 + 1 ≡ t + 4 = omega arith in
-          let told4 : length ts4 ≡ t + 4 = longer ts3 t3 (t + 3) told3 ∙ up4 in
+          let reported4 : length ts4 ≡ t + 4 = longer ts3 t3 (t + 3) reported3 ∙ up4 in
           let up5 : t + 4 + 1 ≡ t + 5 = omega arith in
-          let told5 : length ts5 ≡ t + 5 = longer ts4 t4 (t + 4) told4 ∙ up5 in
+          let reported5 : length ts5 ≡ t + 5 = longer ts4 t4 (t + 4) reported4 ∙ up5 in
           let mu1 : at ns1 (at ms u) ≡ mask v = old ns x1 (at ms u) (omega (arith, mu_in, many)) ∙ mu.1 in
           let a2 : at ns2 a ≡ at env i = old ns1 x2 a (omega (arith, a_in, many1)) ∙ old ns x1 a (omega (arith, a_in, many)) ∙ x.there in
           let b1 : at ns1 b ≡ at env j = old ns x1 b (omega (arith, b_in, many)) ∙ y.there in
@@ -346,11 +346,11 @@ module _ (W : ℕ) (vs ws ms : List ℕ) where
           let t0_is : t0 ≡ sign W (mask v) (at env i) = (λ r. nat_lt (first r) (a2 r)) in
           let t1_is : t1 ≡ sign W (mask v) (at env j) = (λ r. nat_lt (second r) (b2 r)) in
           let t2_is : t2 ≡ nat_lt (at env i) (at env j) = (λ r. nat_lt (a2 r) (b2 r)) in
-          let at0 : truth_at ts3 t ≡ sign W (mask v) (at env i) = old_truth ts2 t2 t (omega (arith, told2)) ∙ old_truth ts1 t1 t (omega (arith, told1)) ∙ last_truth ts t0 t end_truth ∙ t0_is in
-          let at1 : truth_at ts3 (t + 1) ≡ sign W (mask v) (at env j) = old_truth ts2 t2 (t + 1) (omega (arith, told2)) ∙ last_truth ts1 t1 (t + 1) told1 ∙ t1_is in
-          let at2 : truth_at ts4 (t + 2) ≡ nat_lt (at env i) (at env j) = old_truth ts3 t3 (t + 2) (omega (arith, told3)) ∙ last_truth ts2 t2 (t + 2) told2 ∙ t2_is in
-          let at3 : truth_at ts4 (t + 3) ≡ differ (sign W (mask v) (at env i)) (sign W (mask v) (at env j)) = last_truth ts3 t3 (t + 3) told3 ∙ (λ r. differ (at0 r) (at1 r)) in
-          let at4 : truth_at ts5 (t + 4) ≡ less_signed W (mask v) (at env i) (at env j) = last_truth ts4 t4 (t + 4) told4 ∙ (λ r. differ (at3 r) (at2 r)) in
+          let at0 : truth_at ts3 t ≡ sign W (mask v) (at env i) = old_truth ts2 t2 t (omega (arith, reported2)) ∙ old_truth ts1 t1 t (omega (arith, reported1)) ∙ last_truth ts t0 t end_truth ∙ t0_is in
+          let at1 : truth_at ts3 (t + 1) ≡ sign W (mask v) (at env j) = old_truth ts2 t2 (t + 1) (omega (arith, reported2)) ∙ last_truth ts1 t1 (t + 1) reported1 ∙ t1_is in
+          let at2 : truth_at ts4 (t + 2) ≡ nat_lt (at env i) (at env j) = old_truth ts3 t3 (t + 2) (omega (arith, reported3)) ∙ last_truth ts2 t2 (t + 2) reported2 ∙ t2_is in
+          let at3 : truth_at ts4 (t + 3) ≡ differ (sign W (mask v) (at env i)) (sign W (mask v) (at env j)) = last_truth ts3 t3 (t + 3) reported3 ∙ (λ r. differ (at0 r) (at1 r)) in
+          let at4 : truth_at ts5 (t + 4) ≡ less_signed W (mask v) (at env i) (at env j) = last_truth ts4 t4 (t + 4) reported4 ∙ (λ r. differ (at3 r) (at2 r)) in
           let zero2 : at ns2 0 ≡ 0 = old ns1 x2 0 (omega (arith, many1)) ∙ old ns x1 0 (omega (arith, many, some)) ∙ s.zero_there in
           let one2 : at ns2 1 ≡ 1 = old ns1 x2 1 (omega (arith, many1, some)) ∙ old ns x1 1 (omega (arith, many, some)) ∙ s.one_there in
           let x3 = if truth_at ts5 (t + 4) then at ns2 1 else at ns2 0 in
@@ -358,7 +358,7 @@ module _ (W : ℕ) (vs ws ms : List ℕ) where
           let is3 : x3 ≡ value = as_number ns2 ts5 (t + 4) (less_signed W (mask v) (at env i) (at env j)) (comparison_of v predicate.SignedLess (at env i) (at env j)) zero2 one2 at4 (masks_less W v (at env i) (at env j) small.0 small.1 x.low y.low) in
           let stay2 = push_more ns ns1 x2 (omega (arith, many, many1)) (push_steps ns x1) in
           subst (λ (q : ℕ). Does ns n (ns2 ++ x3 ∷ []) ts5 (n + 2) q (t + 5) value) three
-          (does_next ns ns2 ts5 n (n + 2) (t + 5) x3 value stay2 many many2 (omega arith) told5 is3)
+          (does_next ns ns2 ts5 n (n + 2) (t + 5) x3 value stay2 many many2 (omega arith) reported5 is3)
 
       does_resize : (u i : ℕ) → IsBelow W (at ws u) → Is (at ws u) i → DoesForm w m (form.Resize u i)
       does_resize u i small x =

@@ -36,12 +36,12 @@ ones_bit u k = go (cases u k)
     go (inr l) =
         let low = pow_pos u in
         let g = grows u k l in
-        let none : (2 ^ u - 1) / 2 ^ k ≡ 0 = ap (λ n. n / 2 ^ k) (plain (2 ^ u - 1) (2 ^ k)) ∙ div-mul-add 0 (2 ^ k) (2 ^ u - 1) (omega (arith, low, g)) in
+        let none : (2 ^ u - 1) / 2 ^ k ≡ 0 = ap (λ n. n / 2 ^ k) (simple (2 ^ u - 1) (2 ^ k)) ∙ div-mul-add 0 (2 ^ k) (2 ^ u - 1) (omega (arith, low, g)) in
         let left : min (u - k) 1 ≡ 0 = omega (arith, l) in
         left ∙ sym (ap (λ n. n % 2) none)
       where
-        plain : (a b : ℕ) → a ≡ 0 * b + a
-        plain a b = omega arith
+        simple : (a b : ℕ) → a ≡ 0 * b + a
+        simple a b = omega arith
 
         grows : (v w : ℕ) → v ≤ w → 2 ^ v ≤ 2 ^ w
         grows v w h =
@@ -268,9 +268,9 @@ quotient_right w n x l =
     let q_is : q % 2 ^ w ≡ q = mod-eq_of_lt (omega (arith, most, l)) in
     let times : q * suc n ≡ q * n + q = grind arith in
     let r_is : r % 2 ^ w ≡ r = mod-eq_of_lt (omega (arith, whole, l, times)) in
-    let none : carried w q (suc n) r ≡ 0 = (λ i. (q_is i * suc n + r_is i) / 2 ^ w) ∙ ap (λ m. m / 2 ^ w) whole ∙ ap (λ m. m / 2 ^ w) (plain x (2 ^ w)) ∙ div-mul-add 0 (2 ^ w) x l in
+    let none : carried w q (suc n) r ≡ 0 = (λ i. (q_is i * suc n + r_is i) / 2 ^ w) ∙ ap (λ m. m / 2 ^ w) whole ∙ ap (λ m. m / 2 ^ w) (simple x (2 ^ w)) ∙ div-mul-add 0 (2 ^ w) x l in
     let carry = carry_is n (carried w q (suc n) r) (less (r % 2 ^ w) (suc n % 2 ^ w)) (suc n / 2 ^ w) (carried_low w n q r) ∙ none in
     (λ i. (carry i == 0) && not (not_too_great w n q x i))
   where
-    plain : (a b : ℕ) → a ≡ 0 * b + a
-    plain a b = omega arith
+    simple : (a b : ℕ) → a ≡ 0 * b + a
+    simple a b = omega arith

@@ -164,18 +164,18 @@ module _ (after : ℕ → ℕ → ℕ) (accepts : ℕ → Bool) (n : ℕ) where
   found_there : (start : Option ℕ) (states : List ℕ) (os : List Origin) (ds : List ℕ) (place s i : ℕ) (ts : List Transition) (k : ℕ) (p : Transition) → WalkedBy after accepts n start states os ds place
       → slice_get states place ≡ Some s → TargetsAreFound after accepts states ds s (depth ds place) ts k → slice_get ts k ≡ Some p → accepts (after s p.letter) ≡ true → slice_get states i ≡ Some (after s p.letter)
       → Goes after accepts n start states os place s ts (suc k)
-  found_there start states os ds place s i ts k p w there tried here accepted is =
+  found_there start states os ds place s i ts k p w there attempted here accepted is =
       let l = slice_get_within states place s there in
       let m = slice_get_within states i (after s p.letter) is in
       let long = w.long in
       let deep = w.deep.0 in
-      (ds, w, there, one_more states ds s (depth ds place) ts k p here accepted tried (i, is, w.layers.1 place i (omega arith) (omega (arith, l, long, deep)) (omega (arith, m, long, deep))))
+      (ds, w, there, one_more states ds s (depth ds place) ts k p here accepted attempted (i, is, w.layers.1 place i (omega arith) (omega (arith, l, long, deep)) (omega (arith, m, long, deep))))
 
   -- or it is put there
   found_new : (start : Option ℕ) (states : List ℕ) (os : List Origin) (ds : List ℕ) (place s : ℕ) (ts : List Transition) (k : ℕ) (p : Transition) (o : Origin) → WalkedBy after accepts n start states os ds place
       → slice_get states place ≡ Some s → TargetsAreFound after accepts states ds s (depth ds place) ts k → slice_get ts k ≡ Some p → accepts (after s p.letter) ≡ true → p.letter < n → o.from ≡ place → o.letter ≡ p.letter
       → Goes after accepts n start (states ++ after s p.letter ∷ []) (os ++ o ∷ []) place s ts (suc k)
-  found_new start states os ds place s ts k p o w there tried here accepted lx from letter =
+  found_new start states os ds place s ts k p o w there attempted here accepted lx from letter =
       let t = after s p.letter in
       let d = suc (depth ds place) in
       let within = slice_get_within states place s there in
@@ -187,7 +187,7 @@ module _ (after : ℕ → ℕ → ℕ) (accepts : ℕ → Bool) (n : ℕ) where
       let last_length : length ds ≡ length states = deep ∙ long in
       let last : ComesFrom after n (states ++ t ∷ []) (length states) o = (omega (arith, from, within), omega (arith, letter, lx), s, ap (λ j. slice_get (states ++ t ∷ []) j) from ∙ there_still, last_there states t ∙ ap (λ j. Some (after s j)) (sym letter)) in
       let first_applicable_rewrite : TargetsAreFound after accepts (states ++ t ∷ []) (ds ++ d ∷ []) s (depth ds place) ts k =
-      λ i u li is. still_visited states (states ++ t ∷ []) ds (ds ++ d ∷ []) s (depth ds place) u.letter (kept states os ds w.long w.deep t d) (tried i u li is) in
+      λ i u li is. still_visited states (states ++ t ∷ []) ds (ds ++ d ∷ []) s (depth ds place) u.letter (kept states os ds w.long w.deep t d) (attempted i u li is) in
       let newest : depth (ds ++ d ∷ []) (length states) ≡ d = ap (depth (ds ++ d ∷ [])) (sym last_length) ∙ new_depth states os ds w.long w.deep t d in
       let all = one_more (states ++ t ∷ []) (ds ++ d ∷ []) s (depth ds place) ts k p here accepted first_applicable_rewrite (length states, last_there states t, omega (arith, newest)) in (
         ds ++ d ∷ [],

@@ -61,8 +61,8 @@ returns-in-Err-clause-stays g c =
     let t = c.args.tracer.now in
     untold (λ (s : Option MatchFailure). g.T.Tracer.stayed s t t) c.without_op-in-Err.result _ c.without_op-in-Err.ensures.id (g.T.Tracer.untouched t)
 
-pub returns-clause-told : goal.returns-clause-told
-returns-clause-told g c =
+pub returns-clause-reported : goal.returns-clause-reported
+returns-clause-reported g c =
     let start = g.B.ConversionRewriter.state c.args.bench.now in
     let target = c.args.target.now in
     let old = c.args.tracer.now in
@@ -70,8 +70,8 @@ returns-clause-told g c =
     let a = target_model start.things target in
     let r = c.convert_marked-made.result in
     let accepted = sym c.is_accepted.ensures ∙ c.if-not-is_accepted.false in
-    subst (λ (b : Bool). OnOk r (g.T.Tracer.told (applied_rules (if b then all_parts a start.held else given_up BadTarget None)) old new)) (sym accepted)
-    (subst (λ (s : State). OnOk r (g.T.Tracer.told (applied_rules (all_parts (target_model s.things target) s.held)) old new)) c.in_default.ensures.ok c.convert_marked-made.ensures.told)
+    subst (λ (b : Bool). OnOk r (g.T.Tracer.reported (applied_rules (if b then all_parts a start.held else given_up BadTarget None)) old new)) (sym accepted)
+    (subst (λ (s : State). OnOk r (g.T.Tracer.reported (applied_rules (all_parts (target_model s.things target) s.held)) old new)) c.in_default.ensures.ok c.convert_marked-made.ensures.reported)
 
 pub returns-clause-stays : goal.returns-clause-stays
 returns-clause-stays g c =

@@ -4,7 +4,7 @@ use Rattle.conversion_base.specs.Targets.{TargetOf, target_model}
 use Rattle.conversion.specs.States.{Comes}
 use Rattle.conversion_base.proofs.Makes.{rules_make}
 use Rattle.conversion.specs.MatchFailures.{last_rule, match_failure_by}
-use Rattle.conversion.proofs.Rising.{few_told, rises_legalization}
+use Rattle.conversion.proofs.Rising.{few_reported, rises_legalization}
 use Rattle.conversion.proofs.Stops.{failed_at, failed_stays}
 use Rattle.conversion.proofs.parts.legalise_at.Goals as goal
 
@@ -13,7 +13,7 @@ returns-then-legalization-clause-few g c =
     let state = g.B.ConversionRewriter.state in
     let start = state c.args.bench.now in
     let a = target_model start.things c.args.target.now in
-    few_told (legalization_of a c.target.inside.depth) (rises_legalization rules_make a c.requires.aim.rules c.target.inside.depth)
+    few_reported (legalization_of a c.target.inside.depth) (rises_legalization rules_make a c.requires.aim.rules c.target.inside.depth)
     start.held c.args.op c.in-Ok.legalization (state c.legalise.new.bench).held c.in-Ok.ensures.comes c.if-legalization.true
 
 pub returns-else-legalization-clause-ends : goal.returns-else-legalization-clause-ends

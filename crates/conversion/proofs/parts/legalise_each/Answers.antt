@@ -25,15 +25,15 @@ returns-in-Err-clause-ends g c =
     let here = state c.ops.bench in
     let next = state c.legalise_at.new.bench in
     let same = aim_stays start.things here.things c.args.target.now c.ops.invariant.3.grows c.requires.aim in
-    let o = subst (λ (a : Aim). Ends (legalised_at a here.held c.op-item.result) (Err c.in-Err.stopped.fault) next) same c.in-Err.ensures.ends in
-    turning_stops (legalised_at (target_model start.things c.args.target.now)) c.args.ops.now start c.ops.rest.now c.op-item.result c.ops.applied.items here next c.in-Err.stopped.fault c.in-len1-up.len_at_least c.op-item.is c.ops.invariant.0 o
+    let o = subst (λ (a : Aim). Ends (legalised_at a here.held c.op-item.result) (Err c.in-Err.aborted.fault) next) same c.in-Err.ensures.ends in
+    turning_stops (legalised_at (target_model start.things c.args.target.now)) c.args.ops.now start c.ops.rest.now c.op-item.result c.ops.applied.items here next c.in-Err.aborted.fault c.in-len1-up.len_at_least c.op-item.is c.ops.invariant.0 o
 
 pub returns-in-Err-clause-stays : goal.returns-in-Err-clause-stays
 returns-in-Err-clause-stays g c =
     let state = g.B.ConversionRewriter.state in
     let start = state c.args.bench.now in
     let here = state c.ops.bench in
-    let e = c.in-Err.stopped in
+    let e = c.in-Err.aborted in
     let x = c.op-item.result in
     let t = c.args.target.now in
     let same = aim_stays start.things here.things t c.ops.invariant.3.grows c.requires.aim in

@@ -33,8 +33,8 @@ returns-clause-edits c =
     ∙ some_taken ctx m.tree m.next c.args.op c.in-Some.node c.in-Some.ensures.node c.in-Some-place.place c.in-Some-place.ensures ends c.in-Some-ends_of.ensures.ends
     c.takes_index.result c.takes_index.ensures c.if-not-takes_index.false
 
-pub returns-clause-fit : goal.returns-clause-fit
-returns-clause-fit c =
+pub returns-clause-fits_in : goal.returns-clause-fits_in
+returns-clause-fits_in c =
     let ctx = c.args.world.now.ctx in
     let ends = c.in-Some-ends_of.ends in
     let insertion = insertion_point c.args.op c.in-Some-place.place in

@@ -6,7 +6,7 @@ use Rattle.patterns.specs.Applied.{RewriteOutcome, IsReason}
 use Rattle.patterns.specs.Held.{module_held}
 use Rattle.patterns.proofs.Carrying.{applied_none, journaled_none}
 use Rattle.greedy.specs.PatternSet.{rule_or_pattern_of, rewrite_by_entry, patterns_of, by_or, first_applicable_rewrite, first_matching_entry, traced_as}
-use Rattle.greedy.proofs.Attempting.{applied_more, comes_here, fires_here, gave_all, gave_first, gave_none, journaled_more, none_comes, none_fires, long, noted_after, noted_of, reason_first, tail, told_first}
+use Rattle.greedy.proofs.Attempting.{applied_more, comes_here, fires_here, gave_all, gave_first, gave_none, journaled_more, none_comes, none_fires, long, noted_after, noted_of, reason_first, tail, reported_first}
 use Rattle.greedy.proofs.first_pattern.apply_first_pattern.Goals as goal
 
 pub candidates-init : goal.candidates-init
@@ -26,8 +26,8 @@ returns-in-Ok-true-clause-applied g c =
     let v = c.candidates.invariant in
     let m = module_held c.args.bench.now.transaction in
     let first = c.first-item.result in
-    ap Some c.applied_pattern-told.ensures
-    ∙ sym (told_first (rewrite_by_entry (rule_or_pattern_of first) m c.args.op) (traced_as c.candidates.place (rule_or_pattern_of first)) (first_matching_entry (c.candidates.place + 1) (patterns_of (tail c.candidates.rest.now)) m c.args.op) c.in-Ok-true.field-0 m _ c.in-Ok-true.field-0-test
+    ap Some c.applied_pattern-reported.ensures
+    ∙ sym (reported_first (rewrite_by_entry (rule_or_pattern_of first) m c.args.op) (traced_as c.candidates.place (rule_or_pattern_of first)) (first_matching_entry (c.candidates.place + 1) (patterns_of (tail c.candidates.rest.now)) m c.args.op) c.in-Ok-true.field-0 m _ c.in-Ok-true.field-0-test
     (subst (λ (n : Module). RewriteOutcome (rewrite_by_entry (rule_or_pattern_of first) n c.args.op) c.in-Ok-true.field-0 n (module_held c.apply_pattern-done.new.bench.transaction)) v.0 c.in-Ok-true.ensures.ok))
     ∙ sym (fires_here c.candidates.rest.now first _ c.in-len1-up.len_at_least c.first-item.is m c.args.op c.candidates.place) ∙ v.1.1.1.1.1.0
 

@@ -10,7 +10,7 @@ use Rattle.greedy.specs.Work.{AreApart, CoversBut, Right, Rewritten}
 use Rattle.greedy.proofs.Applications.{pattern_set_lawful}
 use Rattle.greedy.proofs.Noting.{noted_more}
 use Rattle.greedy.proofs.Scans.{took, took_none, said, said_none, said_refuses, all_none, rewrote}
-use Rattle.greedy.proofs.Traces.{told_as, told_none, told_there}
+use Rattle.greedy.proofs.Traces.{reported_as, reported_none, notified_there}
 use Rattle.greedy.specs.Tracing.{applied_next}
 use Rattle.greedy.proofs.run.one.Goals as goal
 
@@ -166,8 +166,8 @@ returns-in-Ok-clause-applied g c =
     let became = rewrote pattern_set m x true n refl (subst (λ f. Applied (pattern_set.comes m x) (is_some f) m n) c.in-Ok-Some.field-0-is c.in-Ok-Some.ensures.ok) in
     let fires : Some c.in-Ok-Some.by ≡ pattern_set.fires m x = sym c.in-Ok-Some.field-0-is ∙ c.in-Ok-Some.ensures.applied in
     subst (λ p. Some (record { by = c.in-Ok-Some.by; op = x; from = c.next_id-next.result; until = c.next_id.result; stays = c.in_tree.result }) ≡ applied_next pattern_set p) h
-    (told_as c.in-Ok-Some.by x m n c.next_id-next.result c.next_id.result c.in_tree.result c.next_id-next.ensures c.next_id.ensures c.in_tree.ensures
-    ∙ sym (told_there pattern_set (pattern_set_lawful c.args.pattern_set.now c.requires.ruled).applied m x w.passed w.again.items v.passed v.again.items r c.in-Some.ensures c.in-Ok-Some.by n fires became))
+    (reported_as c.in-Ok-Some.by x m n c.next_id-next.result c.next_id.result c.in_tree.result c.next_id-next.ensures c.next_id.ensures c.in_tree.ensures
+    ∙ sym (notified_there pattern_set (pattern_set_lawful c.args.pattern_set.now c.requires.ruled).applied m x w.passed w.again.items v.passed v.again.items r c.in-Some.ensures c.in-Ok-Some.by n fires became))
 
 pub returns-clause-applied : goal.returns-clause-applied
 returns-clause-applied g c =
@@ -177,4 +177,4 @@ returns-clause-applied g c =
     let h = c.waiting.invariant.0 in
     let r : Right pattern_set w.passed w.again.items m = subst (λ p. Right pattern_set w.passed w.again.items p) (sym h) c.waiting.invariant.1.1.0 in
     let e : next_by pattern_set m ≡ none = all_none pattern_set m w.passed w.again.items r c.in_default.ensures in
-    subst (λ p. None ≡ applied_next pattern_set p) h (sym (told_none pattern_set (pattern_set_lawful c.args.pattern_set.now c.requires.ruled).applied m e))
+    subst (λ p. None ≡ applied_next pattern_set p) h (sym (reported_none pattern_set (pattern_set_lawful c.args.pattern_set.now c.requires.ruled).applied m e))

@@ -32,7 +32,7 @@ rewrites-preserved g c =
                 (
                   c.rewrites.invariant.1.1.1.1.1.1.0 ++ (f ∷ []),
                   (
-                    g.T.Tracer.joined c.rewrites.invariant.1.1.1.1.1.1.0 (f ∷ []) c.args.trace.now c.rewrites.trace c.record_rewrite.new.self c.rewrites.invariant.1.1.1.1.1.1.1.0 c.in-Ok.ensures.told,
+                    g.T.Tracer.joined c.rewrites.invariant.1.1.1.1.1.1.0 (f ∷ []) c.args.trace.now c.rewrites.trace c.record_rewrite.new.self c.rewrites.invariant.1.1.1.1.1.1.1.0 c.in-Ok.ensures.reported,
                     trace_more pattern_set (pattern_set_lawful c.args.pattern_set.now c.requires.ruled).applied c.args.limit (g.R.GreedyRewriter.held c.args.bench.now) c.rewrites.count (g.R.GreedyRewriter.held c.rewrites.bench) c.rewrites.invariant.1.1.1.1.1.1.0 c.rewrites.invariant.1.1.1.1.1.1.1.1 f (g.R.GreedyRewriter.held c.one.new.bench) c.rewrites-test.true (sym c.in-Ok-Some.field-0-is ∙ c.in-Ok-Some.ensures.applied) last_applied,
                   ),
                 ),

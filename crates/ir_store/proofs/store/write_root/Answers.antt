@@ -6,14 +6,14 @@ use Rattle.ir_store_reads.proofs.Items.{own_row}
 use Rattle.ir_store.proofs.store.write_root.Goals as goal
 
 pub set_live-requires : goal.set_live-requires
-set_live-requires c = omega (arith, c.requires.inside, ap length c.in-Ok-write_op.ensures.ok, length-set c.args.rows.now c.args.root c.args.draft)
+set_live-requires c = omega (arith, c.requires.inside, ap length c.in-Ok-write_op.ensures.ok, length-set c.args.slots.now c.args.root c.args.draft)
 
 pub returns-clause-key : goal.returns-clause-key
 returns-clause-key c = c.in-Ok.ensures.inserted ∙ ap (λ w. finmap.insert c.args.keys.now w c.args.root) c.number.ensures
 
 pub returns-clause-row : goal.returns-clause-row
 returns-clause-row c =
-    let old = c.args.rows.now in
+    let old = c.args.slots.now in
     let k = c.args.root in
     let put = c.in-Ok-write_op.ensures.ok in
     c.set_live.ensures

@@ -35,10 +35,10 @@ returns-then-gap-count c =
     let high = label_at c.args.labels.now c.in-Some.at in
     let gap = (high - c.args.low) / (c.nodes.count + 2) in
     let up : c.args.low < high = omega (arith, s.above_low, c.requires.low) in
-    let fit : high < 18446744073709551616 = omega (arith, c.type_inv.labels c.in-Some.at) in
+    let fits_in : high < 18446744073709551616 = omega (arith, c.type_inv.labels c.in-Some.at) in
     let same : gap ≤ gap = omega arith in
     headroom_found c.args.chains.now c.args.labels.now c.args.node c.nodes.count c.nodes.next c.laws.ensures c.requires.node c.requires.rising c.nodes.invariant
-    c.args.low c.in-Some.at gap c.in-Some.is up fit same c.if-gap-count.true
+    c.args.low c.in-Some.at gap c.in-Some.is up fits_in same c.if-gap-count.true
 
 pub overflow_add-count : goal.overflow_add-count
 overflow_add-count c =

@@ -6,10 +6,10 @@ use Rattle.ir_store_slots.specs.Spells.{SpellsRegions, SpellsOps}
 use Rattle.ir_store_reads.proofs.copy.+copy.Given as goal
 
 abbrev pub invariant-copy_regions-loop-area : goal.invariant-copy_regions-loop-area
-invariant-copy_regions-loop-area l = SpellsRegions l.rows l.sibs.lists (map shape_of (take l.area-index l.areas)) (regions_of (map region_view l.regions.items))
+invariant-copy_regions-loop-area l = SpellsRegions l.slots l.sibs.lists (map shape_of (take l.area-index l.areas)) (regions_of (map region_view l.regions.items))
 
 abbrev pub invariant-copy_region-loop-key : goal.invariant-copy_region-loop-key
-invariant-copy_region-loop-key l = SpellsOps l.rows l.sibs.lists (take l.key-index l.key-items) (ops_of l.ops.items)
+invariant-copy_region-loop-key l = SpellsOps l.slots l.sibs.lists (take l.key-index l.key-items) (ops_of l.ops.items)
 
 abbrev pub decreases-copy_op : goal.decreases-copy_op
 decreases-copy_op l = 3 * l.levels

@@ -8,7 +8,7 @@ use Rattle.ir_store_reads.proofs.spare.fit_areas.Given as goal
 abbrev pub invariant-regions : goal.invariant-regions
 invariant-regions l =
     (map bare_region (map shape_of l.fitted.items) ++ map emptied_region (map region_view l.rest) ≡ map emptied_region (map region_view l.regions))
-    × (AreBlocks (parts_of l.rows l.sibs l.uses l.cells.items) 0 l.owner (map shape_of l.fitted.items)
+    × (AreBlocks (parts_of l.slots l.sibs l.uses l.cells.items) 0 l.owner (map shape_of l.fitted.items)
     × (l.number ≡ length (map shape_of l.fitted.items)))
 
 abbrev pub decreases-regions : goal.decreases-regions

@@ -15,19 +15,19 @@ invariant_of-result c =
       | in-None w ↦ subst (IsNode uses.homes) (sym w.at-is) tt
       | in-Some w ↦
           let head = subst (λ z. IfSome z (λ h. IsHead uses.homes h)) w.in-Some.is c.requires in
-          subst (IsNode uses.homes) (sym w.at-is) (first_node c.args.rows.now (cells_of c.args.cells.now.items) uses c.laws.ensures w.in-Some.head head w.first-at.result w.first-at.ensures)
+          subst (IsNode uses.homes) (sym w.at-is) (first_node c.args.slots.now (cells_of c.args.cells.now.items) uses c.laws.ensures w.in-Some.head head w.first-at.result w.first-at.ensures)
     ]
 
 pub returns : goal.returns
 returns c =
     let uses = c.args.uses.now in
-    let rows = c.args.rows.now in
+    let slots = c.args.slots.now in
     let cells = cells_of c.args.cells.now.items in
     elim c.match-head.branch [
-      | in-None w ↦ ap (uses_left rows cells uses) w.at-is ∙ sym (ap (uses_at rows cells uses.lists) w.in-None.is)
+      | in-None w ↦ ap (uses_left slots cells uses) w.at-is ∙ sym (ap (uses_at slots cells uses.lists) w.in-None.is)
       | in-Some w ↦
           let head = subst (λ z. IfSome z (λ h. IsHead uses.homes h)) w.in-Some.is c.requires in
-          ap (uses_left rows cells uses) w.at-is
-          ∙ first_left rows cells uses c.laws.ensures w.in-Some.head head w.first-at.result w.first-at.ensures
-          ∙ sym (ap (uses_at rows cells uses.lists) w.in-Some.is)
+          ap (uses_left slots cells uses) w.at-is
+          ∙ first_left slots cells uses c.laws.ensures w.in-Some.head head w.first-at.result w.first-at.ensures
+          ∙ sym (ap (uses_at slots cells uses.lists) w.in-Some.is)
     ]

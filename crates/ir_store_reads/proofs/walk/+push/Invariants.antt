@@ -5,13 +5,13 @@ use Rattle.ir_store_reads.proofs.Adding.{LeftRegions, LeftSlots}
 use Rattle.ir_store_reads.proofs.walk.+push.Given as goal
 
 abbrev pub invariant-push_areas-areas : goal.invariant-push_areas-areas
-invariant-push_areas-areas l = LeftRegions l.rows l.sibs.lists l.sibs.homes l.fn.areas l.rest l.initial.out.items l.out.items
+invariant-push_areas-areas l = LeftRegions l.slots l.sibs.lists l.sibs.homes l.fn.areas l.rest l.initial.out.items l.out.items
 
 abbrev pub decreases-push_areas-areas : goal.decreases-push_areas-areas
 decreases-push_areas-areas l = length l.rest
 
 abbrev pub invariant-push_list-ops : goal.invariant-push_list-ops
-invariant-push_list-ops l = LeftSlots l.rows l.sibs.lists l.fn.head l.at l.initial.out.items l.out.items
+invariant-push_list-ops l = LeftSlots l.slots l.sibs.lists l.fn.head l.at l.initial.out.items l.out.items
 
 abbrev pub decreases-push_list-ops : goal.decreases-push_list-ops
 decreases-push_list-ops l = length (from_slot l.at (list_at l.sibs.lists l.fn.head))

@@ -7,9 +7,9 @@ use Rattle.ir_store_slots.proofs.grow.add_areas.Given as goal
 
 abbrev pub invariant-regions : goal.invariant-regions
 invariant-regions l =
-    Wider (parts_of l.initial.rows l.initial.sibs l.initial.uses l.initial.cells.items) (parts_of l.rows l.sibs l.uses l.cells.items)
+    Wider (parts_of l.initial.slots l.initial.sibs l.initial.uses l.initial.cells.items) (parts_of l.slots l.sibs l.uses l.cells.items)
     × ((map bare_region (map shape_of l.areas.items) ++ map emptied_region (map region_view l.rest) ≡ map emptied_region (map region_view l.regions))
-    × (AreBlocks (parts_of l.rows l.sibs l.uses l.cells.items) (length l.initial.uses.homes) l.owner (map shape_of l.areas.items)
+    × (AreBlocks (parts_of l.slots l.sibs l.uses l.cells.items) (length l.initial.uses.homes) l.owner (map shape_of l.areas.items)
     × (l.number ≡ length (map shape_of l.areas.items))))
 
 abbrev pub decreases-regions : goal.decreases-regions

@@ -10,41 +10,41 @@ use Rattle.ir_store_slots.proofs.grow.grow_slot.Goals as goal
 
 pub returns-in-Err-add_areas-clause-wider : goal.returns-in-Err-add_areas-clause-wider
 returns-in-Err-add_areas-clause-wider c =
-    let p = parts_of c.args.rows.now c.args.sibs.now c.args.uses.now c.args.cells.now.items in
-    let q = parts_of c.add_areas.new.rows c.add_areas.new.sibs c.add_areas.new.uses c.add_areas.new.cells.items in
+    let p = parts_of c.args.slots.now c.args.sibs.now c.args.uses.now c.args.cells.now.items in
+    let q = parts_of c.add_areas.new.slots c.add_areas.new.sibs c.add_areas.new.uses c.add_areas.new.cells.items in
     second_wide p c.requires c.row_count-slot.result c.row_count-slot.ensures (row_spare 0 0 0) refl _ _ c.in-Ok.ensures q c.in-Err-add_areas.ensures.wider
 
 pub returns-in-Err-add_run-clause-wider : goal.returns-in-Err-add_run-clause-wider
 returns-in-Err-add_run-clause-wider c =
-    let p = parts_of c.args.rows.now c.args.sibs.now c.args.uses.now c.args.cells.now.items in
-    let q = parts_of c.add_areas.new.rows c.add_areas.new.sibs c.add_areas.new.uses c.add_areas.new.cells.items in
+    let p = parts_of c.args.slots.now c.args.sibs.now c.args.uses.now c.args.cells.now.items in
+    let q = parts_of c.add_areas.new.slots c.add_areas.new.sibs c.add_areas.new.uses c.add_areas.new.cells.items in
     third_wide p c.requires c.row_count-slot.result c.row_count-slot.ensures (row_spare 0 0 0) refl _ _ c.in-Ok.ensures q c.in-Ok-add_areas.ensures.wider c.in-Err-add_run.ensures.0 _ _ c.in-Err-add_run.ensures.1
 
 pub add_run-requires-2-clause-even : goal.add_run-requires-2-clause-even
 add_run-requires-2-clause-even c =
-    let p = parts_of c.args.rows.now c.args.sibs.now c.args.uses.now c.args.cells.now.items in
-    let q = parts_of c.add_areas.new.rows c.add_areas.new.sibs c.add_areas.new.uses c.add_areas.new.cells.items in
+    let p = parts_of c.args.slots.now c.args.sibs.now c.args.uses.now c.args.cells.now.items in
+    let q = parts_of c.add_areas.new.slots c.add_areas.new.sibs c.add_areas.new.uses c.add_areas.new.cells.items in
     let w = third_wide p c.requires c.row_count-slot.result c.row_count-slot.ensures (row_spare 0 0 0) refl _ _ c.in-Ok.ensures q c.in-Ok-add_areas.ensures.wider c.type_count.result _ _ c.in-Ok-add_run.ensures.1 in
     sym w.even.counted ∙ length-map c.add_run.new.cells.items _
 
 pub returns-in-Err-add_run-2-clause-wider : goal.returns-in-Err-add_run-2-clause-wider
 returns-in-Err-add_run-2-clause-wider c =
-    let p = parts_of c.args.rows.now c.args.sibs.now c.args.uses.now c.args.cells.now.items in
-    let q = parts_of c.add_areas.new.rows c.add_areas.new.sibs c.add_areas.new.uses c.add_areas.new.cells.items in
+    let p = parts_of c.args.slots.now c.args.sibs.now c.args.uses.now c.args.cells.now.items in
+    let q = parts_of c.add_areas.new.slots c.add_areas.new.sibs c.add_areas.new.uses c.add_areas.new.cells.items in
     fourth_wide p c.requires c.row_count-slot.result c.row_count-slot.ensures (row_spare 0 0 0) refl _ _ c.in-Ok.ensures q c.in-Ok-add_areas.ensures.wider c.type_count.result _ _ c.in-Ok-add_run.ensures.1
     c.in-Err-add_run-2.ensures.0 _ _ c.in-Err-add_run-2.ensures.1
 
 pub returns-in-Ok-new-clause-wider : goal.returns-in-Ok-new-clause-wider
 returns-in-Ok-new-clause-wider c =
-    let p = parts_of c.args.rows.now c.args.sibs.now c.args.uses.now c.args.cells.now.items in
-    let q = parts_of c.add_areas.new.rows c.add_areas.new.sibs c.add_areas.new.uses c.add_areas.new.cells.items in
+    let p = parts_of c.args.slots.now c.args.sibs.now c.args.uses.now c.args.cells.now.items in
+    let q = parts_of c.add_areas.new.slots c.add_areas.new.sibs c.add_areas.new.uses c.add_areas.new.cells.items in
     fourth_wide p c.requires c.row_count-slot.result c.row_count-slot.ensures (row_spare 0 0 0) refl _ _ c.in-Ok.ensures q c.in-Ok-add_areas.ensures.wider c.type_count.result _ _ c.in-Ok-add_run.ensures.1
     c.operand_count.result _ _ c.in-Ok-add_run-2.ensures.1
 
 pub returns-in-Ok-new-clause-grown : goal.returns-in-Ok-new-clause-grown
 returns-in-Ok-new-clause-grown c =
-    let p = parts_of c.args.rows.now c.args.sibs.now c.args.uses.now c.args.cells.now.items in
-    let q = parts_of c.add_areas.new.rows c.add_areas.new.sibs c.add_areas.new.uses c.add_areas.new.cells.items in
+    let p = parts_of c.args.slots.now c.args.sibs.now c.args.uses.now c.args.cells.now.items in
+    let q = parts_of c.add_areas.new.slots c.add_areas.new.sibs c.add_areas.new.uses c.add_areas.new.cells.items in
     is_grown p c.requires c.row_count-slot.result c.row_count-slot.ensures (row_spare 0 0 0) refl _ _ c.in-Ok.ensures q c.in-Ok-add_areas.ensures.wider c.type_count.result _ _ c.in-Ok-add_run.ensures.1
     c.operand_count.result _ _ c.in-Ok-add_run-2.ensures.1 c.args.op c.args.header.now (map region_view c.header.inside.regions.items)
     ((λ i. op (head (sym c.header.view_is i)) (regions_of (map region_view c.header.inside.regions.items))) ∙ c.header.view_is)
@@ -56,7 +56,7 @@ returns-in-Ok-new-clause-grown c =
 
 pub returns-in-Err-new-clause-wider : goal.returns-in-Err-new-clause-wider
 returns-in-Err-new-clause-wider c =
-    let p = parts_of c.args.rows.now c.args.sibs.now c.args.uses.now c.args.cells.now.items in
-    let q = parts_of c.add_areas.new.rows c.add_areas.new.sibs c.add_areas.new.uses c.add_areas.new.cells.items in
+    let p = parts_of c.args.slots.now c.args.sibs.now c.args.uses.now c.args.cells.now.items in
+    let q = parts_of c.add_areas.new.slots c.add_areas.new.sibs c.add_areas.new.uses c.add_areas.new.cells.items in
     fourth_wide p c.requires c.row_count-slot.result c.row_count-slot.ensures (row_spare 0 0 0) refl _ _ c.in-Ok.ensures q c.in-Ok-add_areas.ensures.wider c.type_count.result _ _ c.in-Ok-add_run.ensures.1
     c.operand_count.result _ _ c.in-Ok-add_run-2.ensures.1

@@ -5,7 +5,7 @@ use Rattle.ir_store_slots.proofs.Marking.{can_put}
 use Rattle.ir_store_slots.proofs.marks.link_slot.Goals as goal
 
 pub set_home-requires : goal.set_home-requires
-set_home-requires c = can_put c.args.marks.now.homes c.args.key (row_at c.args.rows.now c.args.key) (c.args.key + 2) c.mark_at.result c.laws.ensures.few (omega arith) c.mark_at.ensures c.requires
+set_home-requires c = can_put c.args.marks.now.homes c.args.key (row_at c.args.slots.now c.args.key) (c.args.key + 2) c.mark_at.result c.laws.ensures.few (omega arith) c.mark_at.ensures c.requires
 
 pub returns : goal.returns
 returns c =

@@ -6,7 +6,7 @@ use Rattle.ir_store_slots.proofs.Listed.{Sweeps}
 use Rattle.ir_store_slots.proofs.release.release_held.Given as goal
 
 abbrev pub invariant-held : goal.invariant-held
-invariant-held l = Sweeps l.from l.initial.rows l.rows (finmap.get l.initial.keys) (finmap.get l.keys) (list_at l.marks.lists 0) l.marks.homes l.at
+invariant-held l = Sweeps l.from l.initial.slots l.slots (finmap.get l.initial.keys) (finmap.get l.keys) (list_at l.marks.lists 0) l.marks.homes l.at
 
 abbrev pub decreases-held : goal.decreases-held
 decreases-held l = length (from_slot l.at (list_at l.marks.lists 0))

@@ -5,8 +5,8 @@ use Rattle.ir_store_slots.proofs.use_lists.args_idle.Given as goal
 
 abbrev pub invariant-areas : goal.invariant-areas
 invariant-areas l =
-    ArgHeads l.rows l.uses.homes (map shape_of l.rest)
-    × (args_idle l.rows l.uses.lists (map shape_of l.rest) ≡ args_idle l.rows l.uses.lists (map shape_of l.areas))
+    ArgHeads l.slots l.uses.homes (map shape_of l.rest)
+    × (args_idle l.slots l.uses.lists (map shape_of l.rest) ≡ args_idle l.slots l.uses.lists (map shape_of l.areas))
 
 abbrev pub decreases-areas : goal.decreases-areas
 decreases-areas l = length l.rest

@@ -7,7 +7,7 @@ use Rattle.ir_text_types.specs.Laws.{IsFull}
 use Rattle.ir_text_operations.specs.Free.{free_term}
 use Rattle.ir_text_operations.specs.Spelling.{SpellsOp}
 use Rattle.ir_text_operations.specs.Claims.{IsNone}
-use Rattle.ir_text.proofs.Errors.{refused_so, full_so, text_visited, told_of_op}
+use Rattle.ir_text.proofs.Errors.{refused_so, full_so, text_visited, reported_of_op}
 use Rattle.ir_text.proofs.reader.read_op.Goals as goal
 
 pub returns-in-Err-Text-clause-refused : goal.returns-in-Err-Text-clause-refused
@@ -15,8 +15,8 @@ returns-in-Err-Text-clause-refused g c =
     refused_so {X = Op} (length c.args.bytes.now) c.in-Err-Text.e c.at.result (IsNone (SpellsOp c.args.ctx.now.opaque (free_term (g.O.Outer.types c.args.outer.now) c.args.ctx.now) (g.O.Outer.next c.args.outer.now) c.args.bytes.now))
     (λ f k. c.in-Err-Text.ensures.refused f (text_visited c.in-Err-Text.field-0 c.in-Err-Text.e (inner.Refused f) c.in-Err-Text.field-0-is k)) c.at.ensures.is
 
-pub returns-in-Err-Text-clause-told : goal.returns-in-Err-Text-clause-told
-returns-in-Err-Text-clause-told g c = told_of_op c.args.bytes.now c.at.result c.at.ensures.told
+pub returns-in-Err-Text-clause-reported : goal.returns-in-Err-Text-clause-reported
+returns-in-Err-Text-clause-reported g c = reported_of_op c.args.bytes.now c.at.result c.at.ensures.reported
 
 pub returns-in-Err-Text-clause-full : goal.returns-in-Err-Text-clause-full
 returns-in-Err-Text-clause-full g c =

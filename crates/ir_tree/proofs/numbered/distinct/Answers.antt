@@ -16,5 +16,5 @@ returns-clause-distinct c =
     let mapped = hash_set_len-Decides unsigned_Decides nat_eq_equiv (map (λ x. x) xs) c.in_ok-different.different h in
     let same = subst (λ (l : List ℕ). Decides (eqb k (length l)) (AllPairs (λ x y. x ≢ y) l)) (map-id xs) mapped in
     let count : c.len-2.result ≡ length xs = search rules in
-    let told = distinct_by_count xs c.len.result c.len-2.result k same c.len.ensures.len count in
-    subst (λ (l : List ℕ). IsTrue (eqb c.len.result c.len-2.result) ↔ IsDistinct eqb l) c.in_ok-ids.ensures told
+    let reported = distinct_by_count xs c.len.result c.len-2.result k same c.len.ensures.len count in
+    subst (λ (l : List ℕ). IsTrue (eqb c.len.result c.len-2.result) ↔ IsDistinct eqb l) c.in_ok-ids.ensures reported

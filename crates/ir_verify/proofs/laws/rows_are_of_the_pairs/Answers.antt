@@ -1,5 +1,5 @@
-use Rattle.ir_verify.proofs.Pairs.{pairs_told}
+use Rattle.ir_verify.proofs.Pairs.{pairs_reported}
 use Rattle.ir_verify.proofs.laws.rows_are_of_the_pairs.Goals as goal
 
 pub returns : goal.returns
-returns _ t = pairs_told t
+returns _ t = pairs_reported t

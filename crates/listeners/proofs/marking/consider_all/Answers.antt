@@ -2,7 +2,7 @@ use Rattle.std.proofs.Common.{◌∙◌, ap, sym, subst, [], ◌∷◌, ◌++◌
 use Rattle.std.specs.Map.{keys_of}
 use Rattle.listeners_symbols.specs.Lines.{numbers_at}
 use Rattle.listeners.specs.Marks.{ConsideredIn, IsDefinition, Reaches, IsUnder, left_at, queue_of}
-use Rattle.listeners.proofs.Silent.{considered_others, told_or_quiet}
+use Rattle.listeners.proofs.Silent.{considered_others, reported_or_quiet}
 use Rattle.listeners.proofs.Taken.{considered_more}
 use Rattle.listeners.proofs.marking.consider_all.Goals as goal
 
@@ -25,5 +25,5 @@ returns c =
     let inv = c.loop-op.invariant in
     let all = sym (append-nil inv.0) ∙ ap (λ l. inv.0 ++ l) (sym c.in-None.ensures.steps.0) ∙ inv.1 in
     considered_others (IsDefinition roles) (IsUnder roles) (Reaches roles ds) (keys_of m.all.entries) m.symbol_ops.keys (queue_of c.args.pending.now) (queue_of c.loop-op.pending) (left_at c.args.left.now) (left_at c.loop-op.left)
-    (told_or_quiet m ds)
+    (reported_or_quiet m ds)
     (subst (λ (ys : List ℕ). ConsideredIn roles ds ys c.args.pending.now c.args.left.now c.loop-op.pending c.loop-op.left) all inv.2)

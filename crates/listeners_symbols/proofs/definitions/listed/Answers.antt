@@ -1,7 +1,7 @@
 use Rattle.std.proofs.Common.{◌∙◌, sym}
 use Rattle.listeners_symbols.specs.Listeners.{kept_at}
 use Rattle.listeners_symbols.specs.Lines.{defined_by}
-use Rattle.listeners_symbols.proofs.Telling.{definitions_told, none_listed, one_listed}
+use Rattle.listeners_symbols.proofs.Telling.{definitions_reported, none_listed, one_listed}
 use Rattle.listeners_symbols.proofs.definitions.listed.Goals as goal
 
 pub loop-op-preserved : goal.loop-op-preserved
@@ -11,4 +11,4 @@ loop-op-preserved c =
 pub returns : goal.returns
 returns c =
     none_listed defined_by (kept_at c.args.roles.now) c.loop-op.op-iterator c.loop-op.out.items _ c.in-None.ensures.steps.0 c.loop-op.invariant
-    ∙ definitions_told c.args.roles.now c.ordered.ensures.all c.ordered.ensures.symbol_ops
+    ∙ definitions_reported c.args.roles.now c.ordered.ensures.all c.ordered.ensures.symbol_ops

@@ -4,7 +4,7 @@ use Rattle.listeners_symbols.specs.Listeners.{kept_at}
 use Rattle.listeners_symbols.specs.Lines.{undefined_by}
 use Rattle.listeners_symbols.specs.Telling.{contributions}
 use Rattle.listeners_symbols.proofs.NamesAdded.{none_named, one_named}
-use Rattle.listeners_symbols.proofs.Telling.{names_told}
+use Rattle.listeners_symbols.proofs.Telling.{names_reported}
 use Rattle.listeners_symbols.proofs.names.undefined_names.Goals as goal
 
 pub loop-op-preserved : goal.loop-op-preserved
@@ -16,4 +16,4 @@ pub returns : goal.returns
 returns c n =
     let kept = kept_at c.args.roles.now in
     none_named kept c.loop-op.op-iterator c.loop-op.names (is_among eqb (contributions undefined_by kept c.args.roles.now.naming.keys)) c.in-None.ensures.steps.0 c.loop-op.invariant n
-    ∙ ap (λ (l : List ℕ). is_among eqb l n) (names_told c.args.roles.now c.ordered.ensures.all c.ordered.ensures.naming)
+    ∙ ap (λ (l : List ℕ). is_among eqb l n) (names_reported c.args.roles.now c.ordered.ensures.all c.ordered.ensures.naming)

@@ -53,29 +53,29 @@ pub returns-in-Err-live_step-clause-ended : goal.returns-in-Err-live_step-clause
 unfolding most_script_bytes
 returns-in-Err-live_step-clause-ended g c =
     let line = c.in-Ok-Some.line.items in
-    let told = c.in-Err-live_step.ensures.answered in
+    let reported = c.in-Err-live_step.ensures.answered in
     let is : c.in-Some.more ≡ c.lines.read + length line = (let sum = c.in-Some.ensures in let long = c.len.ensures in omega (arith, sum, long)) in
     lived_cut (setting_with g.L.AnalysisSource.supply c.args.options (registry_model c.args.registry.now)) c.args.before (sitting_of g.L.Analysis.meaning c.args.bench.now c.args.registry.now) (waiting c.args.kept.now.items (g.R.Source.intake c.args.reader.now).remaining) (waiting c.lines.kept.items (g.R.Source.intake c.lines.reader).remaining) (waiting c.take_line.new.kept.items (g.R.Source.intake c.take_line.new.reader).remaining)
-    c.lines.read c.in-Some.more c.lines.n (sitting_of g.L.Analysis.meaning c.lines.bench c.lines.registry) (sitting_of g.L.Analysis.meaning c.live_step.new.bench c.live_step.new.registry) c.lines.accepted (g.W.Sink.handed c.live_step.new.writer) (g.W.Sink.stream c.args.writer.now) (g.W.Sink.stream c.lines.writer) (g.W.Sink.stream c.live_step.new.writer) line told.1 told.0 c.lines.invariant.lived
-    (rw c.in-Ok-Some.field-0-is at c.in-Ok-Some.ensures.line) (rw c.in-Ok-Some.field-0-is at c.in-Ok-Some.ensures.some) (rw c.in-Ok-Some.field-0-is at c.in-Ok-Some.ensures.short) is (rw (c.session_options_of-session_options.ensures, c.deref.ensures.value) at told.2) told.3
+    c.lines.read c.in-Some.more c.lines.n (sitting_of g.L.Analysis.meaning c.lines.bench c.lines.registry) (sitting_of g.L.Analysis.meaning c.live_step.new.bench c.live_step.new.registry) c.lines.accepted (g.W.Sink.handed c.live_step.new.writer) (g.W.Sink.stream c.args.writer.now) (g.W.Sink.stream c.lines.writer) (g.W.Sink.stream c.live_step.new.writer) line reported.1 reported.0 c.lines.invariant.lived
+    (rw c.in-Ok-Some.field-0-is at c.in-Ok-Some.ensures.line) (rw c.in-Ok-Some.field-0-is at c.in-Ok-Some.ensures.some) (rw c.in-Ok-Some.field-0-is at c.in-Ok-Some.ensures.short) is (rw (c.session_options_of-session_options.ensures, c.deref.ensures.value) at reported.2) reported.3
 
 pub lines-preserved : goal.lines-preserved
 unfolding most_script_bytes
 lines-preserved g c =
     let line = c.in-Ok-Some.line.items in
-    let told = c.in-Ok.ensures.answered in
+    let reported = c.in-Ok.ensures.answered in
     let some = rw c.in-Ok-Some.field-0-is at c.in-Ok-Some.ensures.some in
     let is : c.in-Some.more ≡ c.lines.read + length line = (let sum = c.in-Some.ensures in let long = c.len.ensures in omega (arith, sum, long)) in
     record {
       kept = c.live_step.ensures.kept;
       mode = c.live_step.ensures.mode ∙ c.lines.invariant.mode;
       handed = c.in-Ok.ensures.handed;
-      wrote = told.2.1 ∙ c.lines.invariant.wrote;
-      count = (let had = c.lines.invariant.count in let one = one_number c.lines.n c.in-Ok.told in let next = c.next_number-n.ensures in omega (arith, had, one, next, is, some));
+      wrote = reported.2.1 ∙ c.lines.invariant.wrote;
+      count = (let had = c.lines.invariant.count in let one = one_number c.lines.n c.in-Ok.reported in let next = c.next_number-n.ensures in omega (arith, had, one, next, is, some));
       failed = c.in-Ok-Some.ensures.failed ∙ c.lines.invariant.failed;
       lived = rw (c.next_number-n.ensures, c.accepted_so_far-accepted.ensures) (lived_step (setting_with g.L.AnalysisSource.supply c.args.options (registry_model c.args.registry.now)) c.args.before (sitting_of g.L.Analysis.meaning c.args.bench.now c.args.registry.now) (waiting c.args.kept.now.items (g.R.Source.intake c.args.reader.now).remaining) (waiting c.lines.kept.items (g.R.Source.intake c.lines.reader).remaining) (waiting c.take_line.new.kept.items (g.R.Source.intake c.take_line.new.reader).remaining)
-          c.lines.read c.in-Some.more c.lines.n (sitting_of g.L.Analysis.meaning c.lines.bench c.lines.registry) (sitting_of g.L.Analysis.meaning c.live_step.new.bench c.live_step.new.registry) c.lines.accepted (g.W.Sink.stream c.args.writer.now) (g.W.Sink.stream c.lines.writer) (g.W.Sink.stream c.live_step.new.writer) line told.0 c.in-Ok.told c.lines.invariant.lived
-          (rw c.in-Ok-Some.field-0-is at c.in-Ok-Some.ensures.line) some (rw c.in-Ok-Some.field-0-is at c.in-Ok-Some.ensures.short) is (rw (c.session_options_of-session_options.ensures, c.deref.ensures.value) at told.1) told.2);
+          c.lines.read c.in-Some.more c.lines.n (sitting_of g.L.Analysis.meaning c.lines.bench c.lines.registry) (sitting_of g.L.Analysis.meaning c.live_step.new.bench c.live_step.new.registry) c.lines.accepted (g.W.Sink.stream c.args.writer.now) (g.W.Sink.stream c.lines.writer) (g.W.Sink.stream c.live_step.new.writer) line reported.0 c.in-Ok.reported c.lines.invariant.lived
+          (rw c.in-Ok-Some.field-0-is at c.in-Ok-Some.ensures.line) some (rw c.in-Ok-Some.field-0-is at c.in-Ok-Some.ensures.short) is (rw (c.session_options_of-session_options.ensures, c.deref.ensures.value) at reported.1) reported.2);
     }
 
 pub live_step-requires-clause-mode : goal.live_step-requires-clause-mode

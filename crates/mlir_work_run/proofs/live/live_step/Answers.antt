@@ -7,10 +7,10 @@ returns-in-Err-clause-answered g c = rw c.split_line.ensures.line at c.in-Err.en
 
 pub returns-in-Ok-flush-clause-answered : goal.returns-in-Ok-flush-clause-answered
 returns-in-Ok-flush-clause-answered g c =
-    let told = rw c.split_line.ensures.line at c.in-Ok.ensures.answered in
-    (told.0, told.1, grows_stays (g.W.Sink.stream c.args.writer.now) (g.W.Sink.stream c.answer_line.new.writer) (g.W.Sink.stream c.flush.new.writer) told.0 told.2 c.in-Ok-flush.ensures.stays)
+    let reported = rw c.split_line.ensures.line at c.in-Ok.ensures.answered in
+    (reported.0, reported.1, grows_stays (g.W.Sink.stream c.args.writer.now) (g.W.Sink.stream c.answer_line.new.writer) (g.W.Sink.stream c.flush.new.writer) reported.0 reported.2 c.in-Ok-flush.ensures.stays)
 
 pub returns-in-Err-flush-clause-answered : goal.returns-in-Err-flush-clause-answered
 returns-in-Err-flush-clause-answered g c =
-    let told = rw c.split_line.ensures.line at c.in-Ok.ensures.answered in
-    (c.in-Ok.told, told.0, told.1, grows_fails (g.W.Sink.stream c.args.writer.now) (g.W.Sink.stream c.answer_line.new.writer) (g.W.Sink.stream c.flush.new.writer) told.0 told.0 [] (sym (append-nil told.0)) told.2 c.in-Err-flush.ensures.stays)
+    let reported = rw c.split_line.ensures.line at c.in-Ok.ensures.answered in
+    (c.in-Ok.reported, reported.0, reported.1, grows_fails (g.W.Sink.stream c.args.writer.now) (g.W.Sink.stream c.answer_line.new.writer) (g.W.Sink.stream c.flush.new.writer) reported.0 reported.0 [] (sym (append-nil reported.0)) reported.2 c.in-Err-flush.ensures.stays)

@@ -28,7 +28,7 @@ returns-clause-fulfils g c supply proved =
     let names = names_of c.args.rules.now in
     let rules = rw c.in-Ok-Some.field-0-is at c.in-Ok-Some.ensures.rules in
     fulfils_fired (session_setting supply c.args.session_options.now) (Some names) proved c.args.limit (rewriting (by_rules c.in-Ok-Some.rules.items) c.limit_of-limit.result) _ _ _ _ _ (rules_rewrite names _ _ _ rules c.limit_of-limit.ensures) c.fired_reply.ensures.reply (rw c.deref.ensures.value at c.rewrite_fired-called.ensures.does)
-    (fired_named names c.in-Ok-Some.rules.items _ _ _ _ _ _ _ _ rules c.limit_of-limit.ensures c.of_rules-lines.ensures.text (ap (λ (ns : List (Vec ℕ Global)). map (λ n. n.items) ns) c.of_rules-lines.ensures.names) (rw c.deref.ensures.value at c.rewrite_fired-called.ensures.told) c.fired_reply.ensures.shows)
+    (fired_named names c.in-Ok-Some.rules.items _ _ _ _ _ _ _ _ rules c.limit_of-limit.ensures c.of_rules-lines.ensures.text (ap (λ (ns : List (Vec ℕ Global)). map (λ n. n.items) ns) c.of_rules-lines.ensures.names) (rw c.deref.ensures.value at c.rewrite_fired-called.ensures.reported) c.fired_reply.ensures.shows)
 
 pub returns-clause-headroom : goal.returns-clause-headroom
 returns-clause-headroom g c f is =

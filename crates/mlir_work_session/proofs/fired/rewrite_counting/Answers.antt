@@ -13,7 +13,7 @@ returns-clause-follows g c = follows_called _ _ _ _ _ c.fired_reply.ensures.repl
 pub returns-clause-shows : goal.returns-clause-shows
 returns-clause-shows g c =
     shows_fired _ _ c.args.lines.text.items _ _ (map (λ n. n.items) c.args.lines.names.items) (trace_of (pattern_set_from (patterns_of c.args.candidates.now)) c.args.limit (state_of g.L.Analysis.meaning c.args.bench.now).held)
-    c.fired_reply.ensures.reply (rw (c.new-lines.ensures.text, c.new-lines.ensures.names) at c.rewrite_with_patterns_fired-called.ensures.told) c.fired_reply.ensures.shows
+    c.fired_reply.ensures.reply (rw (c.new-lines.ensures.text, c.new-lines.ensures.names) at c.rewrite_with_patterns_fired-called.ensures.reported) c.fired_reply.ensures.shows
 
 pub returns-clause-headroom : goal.returns-clause-headroom
 returns-clause-headroom g c = replied _ (state_of g.L.Analysis.meaning c.args.bench.now) (rewriting (pattern_set_from (patterns_of c.args.candidates.now)) c.args.limit) _ _ c.fired_reply.ensures.reply (λ e. widened (λ more. inr more) (c.rewrite_with_patterns_fired-called.ensures.headroom e))

@@ -11,7 +11,7 @@ returns-then-eq-clause-attr c bytes opaque text small none =
     absurd (ids_are_late c.args.refusal is small)
 
 pub returns-then-eq-clause-op : goal.returns-then-eq-clause-op
-returns-then-eq-clause-op c bytes opaque m text told none =
+returns-then-eq-clause-op c bytes opaque m text reported none =
     let is : c.args.refusal ≡ IdsExhausted = search rules in
     ids_refused bytes (SpellsNextTo opaque m text) c.args.refusal is none
 
@@ -19,7 +19,7 @@ pub returns-clause-attr : goal.returns-clause-attr
 returns-clause-attr c bytes opaque text small none = unparsed_at bytes (SpellsAttr opaque text) c.args.refusal c.args.offset small none
 
 pub returns-clause-op : goal.returns-clause-op
-returns-clause-op c bytes opaque m text told none = elim told [
+returns-clause-op c bytes opaque m text reported none = elim reported [
   | inl small ↦ unparsed_at_op bytes (SpellsNextTo opaque m text) c.args.refusal c.args.offset small none
   | inr is ↦ absurd (search (rules, is))
 ]

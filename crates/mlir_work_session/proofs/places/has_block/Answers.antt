@@ -3,7 +3,7 @@ use Rattle.std.specs.Prelude.{option_map, is_some}
 use Rattle.ir_event.specs.trees.Ids.{has_id}
 use Rattle.ir_event.specs.store.Nodes.{node_of}
 use Rattle.ir_event.specs.store.Stored.{Stored, known}
-use Rattle.mlir_work_session.proofs.Placed.{block_told, no_block}
+use Rattle.mlir_work_session.proofs.Placed.{block_reported, no_block}
 use Rattle.mlir_work_session.proofs.places.has_block.Goals as goal
 use Rattle.ir_event.proofs.of_tree_laws.Contents.{some_map}
 
@@ -18,4 +18,4 @@ returns-in-Some c =
     let s : Stored = c.args.store.now in
     let there : has_id c.args.op s.module_of.tree ≡ true = search rules in
     let shown : option_map node_of (known c.args.op s) ≡ Some c.in-Some.node = search rules in
-    c.is_some.ensures ∙ sym (some_map (λ a. a.now) c.arguments.result) ∙ ap is_some c.arguments.ensures ∙ block_told c.args.op c.args.region s c.in-Some.node there shown
+    c.is_some.ensures ∙ sym (some_map (λ a. a.now) c.arguments.result) ∙ ap is_some c.arguments.ensures ∙ block_reported c.args.op c.args.region s c.in-Some.node there shown

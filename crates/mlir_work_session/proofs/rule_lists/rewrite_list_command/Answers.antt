@@ -4,7 +4,7 @@ use Rattle.ir_event.specs.types.declared.refusal.Refusal.TheVariants.{Memory}
 use Rattle.mlir_work_transforms.specs.Unproved.{unproved_of}
 use Rattle.mlir_work_transforms.specs.registry.Registry.{registry_model}
 use Rattle.mlir_work_session.specs.ListCommandViews.{list_command_view}
-use Rattle.mlir_work_session.proofs.AnswersRuleList.{bytes_fired, bytes_told, bytes_untold, mixes_found, unless_forgot, unless_proved, unless_unnamed, unless_unproved}
+use Rattle.mlir_work_session.proofs.AnswersRuleList.{bytes_fired, bytes_reported, bytes_untold, mixes_found, unless_forgot, unless_proved, unless_unnamed, unless_unproved}
 use Rattle.mlir_work_session.proofs.Reading.{held_bytes}
 use Rattle.mlir_work_session.proofs.rule_lists.rewrite_list_command.Goals as goal
 
@@ -26,7 +26,7 @@ returns-in-EachRewrite-clause-mixes g c =
     let m = rw c.in-Ok-Some.field-0-is at c.in-Ok-Some.ensures.rule_list in
     let these = held_bytes c.args.bench.now.transaction c.world.result.now c.world.ensures.ctx c.world.ensures.store (unproved_of (registry_model c.args.registry.now) (list_command_view c.args.list_command.now).names) c.in-Ok.text.items c.in-Ok.ensures in
     unless_proved c.args.session_options.now (registry_model c.args.registry.now) (list_command_view c.args.list_command.now) _ _ _ _ m.0 c.in-Ok.text.items _ m.1 these (rw c.deref.ensures.value at c.is_refused.ensures) c.if-is_refused.false (mixes_found c.args.session_options.now (registry_model c.args.registry.now) (list_command_view c.args.list_command.now) _ _ _ _ m.0 _ _ m.1 m.2.rules_and_patterns c.limit_of-limit.ensures (rw c.deref-in-EachRewrite.ensures.value at c.rewrite_and_trace.ensures.follows)
-    (bytes_told c.args.session_options.now (registry_model c.args.registry.now) (list_command_view c.args.list_command.now) _ _ _ c.in-Ok.text.items m.0 _ _ _ these c.in-EachRewrite.is m.1 m.2.rules_and_patterns m.2.names c.limit_of-limit.ensures (rw c.deref-in-EachRewrite.ensures.value at c.rewrite_and_trace.ensures.shows)))
+    (bytes_reported c.args.session_options.now (registry_model c.args.registry.now) (list_command_view c.args.list_command.now) _ _ _ c.in-Ok.text.items m.0 _ _ _ these c.in-EachRewrite.is m.1 m.2.rules_and_patterns m.2.names c.limit_of-limit.ensures (rw c.deref-in-EachRewrite.ensures.value at c.rewrite_and_trace.ensures.shows)))
 
 pub returns-in-Off-clause-mixes : goal.returns-in-Off-clause-mixes
 returns-in-Off-clause-mixes g c =

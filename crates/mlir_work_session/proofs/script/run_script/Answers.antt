@@ -11,12 +11,12 @@ returns-in-Err g c =
     let meaning = g.L.Analysis.meaning in
     let setting : SessionSetting = session_setting g.L.AnalysisSource.supply c.args.session_options.now in
     let preceding = c.loop-text.invariant.preceding in
-    let told = c.in-Err.ensures.answered.0 in
+    let reported = c.in-Err.ensures.answered.0 in
     let out = c.in-Err.ensures.answered.1 in
-    let rest = some_runs setting (lines_of c.split_line.result.1.now) (number_after c.loop-text.n told) (sitting_of meaning c.answer_line.new.bench c.answer_line.new.registry) in
-    let step = run_answered setting c.loop-text.n (sitting_of meaning c.loop-text.bench c.loop-text.registry) c.loop-text.text.now c.split_line.result.0.now c.split_line.result.1.now (sitting_of meaning c.answer_line.new.bench c.answer_line.new.registry) told out
+    let rest = some_runs setting (lines_of c.split_line.result.1.now) (number_after c.loop-text.n reported) (sitting_of meaning c.answer_line.new.bench c.answer_line.new.registry) in
+    let step = run_answered setting c.loop-text.n (sitting_of meaning c.loop-text.bench c.loop-text.registry) c.loop-text.text.now c.split_line.result.0.now c.split_line.result.1.now (sitting_of meaning c.answer_line.new.bench c.answer_line.new.registry) reported out
     (c.split_line.ensures.lines (filled c.loop-text.text.now _ c.is_empty.ensures c.loop-text-test.true)) c.in-Err.ensures.answered.2 rest.0 rest.1 rest.2 in
-    (worse c.loop-text.accepted (status_before told rest.0), preceding ++ (out ++ rest.1), c.loop-text.invariant.whole _ (out ++ rest.1) step, preceding_within _ _ _ _ preceding out rest.1 refl c.loop-text.invariant.wrote c.in-Err.ensures.answered.3)
+    (worse c.loop-text.accepted (status_before reported rest.0), preceding ++ (out ++ rest.1), c.loop-text.invariant.whole _ (out ++ rest.1) step, preceding_within _ _ _ _ preceding out rest.1 refl c.loop-text.invariant.wrote c.in-Err.ensures.answered.3)
 
 pub loop-text-preserved : goal.loop-text-preserved
 loop-text-preserved g c =
@@ -24,12 +24,12 @@ loop-text-preserved g c =
     let setting : SessionSetting = session_setting g.L.AnalysisSource.supply c.args.session_options.now in
     let preceding = c.loop-text.invariant.preceding in
     let out = c.in-Ok.ensures.answered.0 in
-    let step = run_answered setting c.loop-text.n (sitting_of meaning c.loop-text.bench c.loop-text.registry) c.loop-text.text.now c.split_line.result.0.now c.split_line.result.1.now (sitting_of meaning c.answer_line.new.bench c.answer_line.new.registry) c.in-Ok.told out
+    let step = run_answered setting c.loop-text.n (sitting_of meaning c.loop-text.bench c.loop-text.registry) c.loop-text.text.now c.split_line.result.0.now c.split_line.result.1.now (sitting_of meaning c.answer_line.new.bench c.answer_line.new.registry) c.in-Ok.reported out
     (c.split_line.ensures.lines (filled c.loop-text.text.now _ c.is_empty.ensures c.loop-text-test.true)) c.in-Ok.ensures.answered.1 in
     record {
       kept = c.answer_line.ensures.kept;
       mode = c.answer_line.ensures.mode ∙ c.loop-text.invariant.mode;
-      count = (let h = c.split_line.ensures.shorter (filled c.loop-text.text.now _ c.is_empty.ensures c.loop-text-test.true) in let had = c.loop-text.invariant.count in let next = c.next_number-n.ensures in let one = one_number c.loop-text.n c.in-Ok.told in omega (arith, h, had, next, one));
+      count = (let h = c.split_line.ensures.shorter (filled c.loop-text.text.now _ c.is_empty.ensures c.loop-text-test.true) in let had = c.loop-text.invariant.count in let next = c.next_number-n.ensures in let one = one_number c.loop-text.n c.in-Ok.reported in omega (arith, h, had, next, one));
       preceding = preceding ++ out;
       wrote = grows_join _ _ _ preceding out c.loop-text.invariant.wrote c.in-Ok.ensures.answered.2;
       whole = λ later rest h. rw (append_assoc, c.accepted_so_far-accepted.ensures, ← worse_after) (c.loop-text.invariant.whole _ (out ++ rest) (step later rest (rw c.next_number-n.ensures at h)));

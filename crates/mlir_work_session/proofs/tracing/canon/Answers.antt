@@ -2,14 +2,14 @@ use Rattle.std.proofs.Common.{ap, sym, inr, map, ℕ, List, Some, None, Vec, Glo
 use Rattle.mlir_work_transforms.specs.greedy.Changes.{canonicalizing}
 use Rattle.mlir_work_transforms.specs.rewriter.RewriterCalls.{state_of}
 use Rattle.mlir_work_session.specs.Machine.{session_setting}
-use Rattle.mlir_work_session.proofs.Fulfilling.{fulfils_told, told_trace}
+use Rattle.mlir_work_session.proofs.Fulfilling.{fulfils_reported, reported_trace}
 use Rattle.mlir_work_session.proofs.Headroom.{traced_headroom}
 use Rattle.mlir_work_session.proofs.tracing.canon.Goals as goal
 
 pub returns-clause-fulfils : goal.returns-clause-fulfils
 returns-clause-fulfils g c supply proved =
-    fulfils_told (session_setting supply c.args.session_options.now) None proved c.args.limit (canonicalizing c.limit_of.result) _ _ _ _ _ (ap (λ n. Some (canonicalizing n)) (sym c.limit_of.ensures)) c.trace_reply.ensures.reply c.canon_traced-called.ensures.does
-    (told_trace _ _ _ _ _ _ _ _ _ c.limit_of.ensures c.new-lines.ensures.text (ap (λ (ns : List (Vec ℕ Global)). map (λ n. n.items) ns) c.new-lines.ensures.names) c.canon_traced-called.ensures.told c.trace_reply.ensures.shows)
+    fulfils_reported (session_setting supply c.args.session_options.now) None proved c.args.limit (canonicalizing c.limit_of.result) _ _ _ _ _ (ap (λ n. Some (canonicalizing n)) (sym c.limit_of.ensures)) c.trace_reply.ensures.reply c.canon_traced-called.ensures.does
+    (reported_trace _ _ _ _ _ _ _ _ _ c.limit_of.ensures c.new-lines.ensures.text (ap (λ (ns : List (Vec ℕ Global)). map (λ n. n.items) ns) c.new-lines.ensures.names) c.canon_traced-called.ensures.reported c.trace_reply.ensures.shows)
 
 pub returns-clause-headroom : goal.returns-clause-headroom
 returns-clause-headroom g c f is =

@@ -5,7 +5,7 @@ use Rattle.mlir_work_transforms.specs.greedy.Changes.{rewriting}
 use Rattle.mlir_work_transforms.specs.greedy.PatternSet.{by_rules}
 use Rattle.mlir_work_transforms.specs.registry.RuleLists.{names_of}
 use Rattle.mlir_work_session.specs.Machine.{limit_or, session_setting}
-use Rattle.mlir_work_session.proofs.Fulfilling.{fulfils_forgot, fulfils_told, fulfils_untold, told_named}
+use Rattle.mlir_work_session.proofs.Fulfilling.{fulfils_forgot, fulfils_reported, fulfils_untold, reported_named}
 use Rattle.mlir_work_session.proofs.Headroom.{other_headroom, rules_rewrite, traced_headroom}
 use Rattle.mlir_work_session.proofs.tracing.rewrite.Goals as goal
 
@@ -27,8 +27,8 @@ pub returns-clause-fulfils : goal.returns-clause-fulfils
 returns-clause-fulfils g c supply proved =
     let names = names_of c.args.rules.now in
     let rules = rw c.in-Ok-Some.field-0-is at c.in-Ok-Some.ensures.rules in
-    fulfils_told (session_setting supply c.args.session_options.now) (Some names) proved c.args.limit (rewriting (by_rules c.in-Ok-Some.rules.items) c.limit_of.result) _ _ _ _ _ (rules_rewrite names _ _ _ rules c.limit_of.ensures) c.trace_reply.ensures.reply (rw c.deref.ensures.value at c.rewrite_traced-called.ensures.does)
-    (told_named names c.in-Ok-Some.rules.items _ _ _ _ _ _ _ _ rules c.limit_of.ensures c.new-lines.ensures.text (ap (λ (ns : List (Vec ℕ Global)). map (λ n. n.items) ns) c.new-lines.ensures.names) (rw c.deref.ensures.value at c.rewrite_traced-called.ensures.told) c.trace_reply.ensures.shows)
+    fulfils_reported (session_setting supply c.args.session_options.now) (Some names) proved c.args.limit (rewriting (by_rules c.in-Ok-Some.rules.items) c.limit_of.result) _ _ _ _ _ (rules_rewrite names _ _ _ rules c.limit_of.ensures) c.trace_reply.ensures.reply (rw c.deref.ensures.value at c.rewrite_traced-called.ensures.does)
+    (reported_named names c.in-Ok-Some.rules.items _ _ _ _ _ _ _ _ rules c.limit_of.ensures c.new-lines.ensures.text (ap (λ (ns : List (Vec ℕ Global)). map (λ n. n.items) ns) c.new-lines.ensures.names) (rw c.deref.ensures.value at c.rewrite_traced-called.ensures.reported) c.trace_reply.ensures.shows)
 
 pub returns-clause-headroom : goal.returns-clause-headroom
 returns-clause-headroom g c f is =

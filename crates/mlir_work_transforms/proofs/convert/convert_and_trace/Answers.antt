@@ -5,7 +5,7 @@ use Rattle.conversion.specs.Converting.{command_aim}
 use Rattle.conversion.specs.Targets.{target_model}
 use Rattle.conversion.specs.declared.match_failure.MatchFailure.{MatchFailure}
 use Rattle.conversion_base.specs.declared.applied_rule.AppliedRule.{AppliedRule}
-use Rattle.mlir_work_transforms.proofs.Converted.{refused_converts, refused_does, then_converts, then_does, then_journal, then_led, then_stays, then_told, unaimed_converts, unaimed_does}
+use Rattle.mlir_work_transforms.proofs.Converted.{refused_converts, refused_does, then_converts, then_does, then_journal, then_led, then_stays, then_reported, unaimed_converts, unaimed_does}
 use Rattle.mlir_work_transforms.proofs.convert.convert_and_trace.Goals as goal
 
 pub returns-in-Err-clause-does : goal.returns-in-Err-clause-does
@@ -72,10 +72,10 @@ returns-in-Err-clause-stays g c = g.T.Tracer.untouched c.args.tracer.now
 pub returns-in_default-clause-stays : goal.returns-in_default-clause-stays
 returns-in_default-clause-stays g c = g.T.Tracer.untouched c.args.tracer.now
 
-pub returns-clause-told : goal.returns-clause-told
-returns-clause-told g c =
-    then_told g.L.Analysis.meaning (command_aim (said_target c.args.full (clauses_of c.args.clauses.now))) c.args.bench.now c.target_of.new.bench c.target_of.ensures.interned c.convert_traced.new.bench _
-    (ap (option_map (target_model c.target_of.new.bench.transaction.ctx)) (sym c.in-Some.is) ∙ c.in-Ok.ensures.aim) c.convert_traced.result (λ (ks : List AppliedRule). g.T.Tracer.told ks c.args.tracer.now c.convert_traced.new.tracer) c.convert_traced.ensures.told
+pub returns-clause-reported : goal.returns-clause-reported
+returns-clause-reported g c =
+    then_reported g.L.Analysis.meaning (command_aim (said_target c.args.full (clauses_of c.args.clauses.now))) c.args.bench.now c.target_of.new.bench c.target_of.ensures.interned c.convert_traced.new.bench _
+    (ap (option_map (target_model c.target_of.new.bench.transaction.ctx)) (sym c.in-Some.is) ∙ c.in-Ok.ensures.aim) c.convert_traced.result (λ (ks : List AppliedRule). g.T.Tracer.reported ks c.args.tracer.now c.convert_traced.new.tracer) c.convert_traced.ensures.reported
 
 pub returns-clause-stays : goal.returns-clause-stays
 returns-clause-stays g c =

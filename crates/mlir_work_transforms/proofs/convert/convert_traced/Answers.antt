@@ -35,7 +35,7 @@ returns-clause-lines g c =
     let shown : Shown r c.traced_conversion.result.called new.tracer.text.items c.traced_conversion.result.lines.items new.tracer.failure = record { ok = c.traced_conversion.ensures.ok; fault = c.traced_conversion.ensures.fault } in
     let begun = c.new-lines.result in
     traced_lines o (seen c.args.bench.now) (seen new.bench) r c.traced_conversion.result.called begun.text.items new.tracer.text.items c.traced_conversion.result.lines.items begun.failure new.tracer.failure c.convert_and_trace-called.ensures.converts
-    (record { nothing = c.new-lines.ensures.text; unset = c.new-lines.ensures.failure; told = c.convert_and_trace-called.ensures.told; stays = c.convert_and_trace-called.ensures.stays }) shown
+    (record { nothing = c.new-lines.ensures.text; unset = c.new-lines.ensures.failure; reported = c.convert_and_trace-called.ensures.reported; stays = c.convert_and_trace-called.ensures.stays }) shown
 
 pub returns-clause-none : goal.returns-clause-none
 returns-clause-none g c =

@@ -2,7 +2,7 @@ use Rattle.std.proofs.Common.{◌∙◌, refl, inl}
 use Rattle.patterns_soundness.specs.base.Rewrites.{rewrite_of}
 use Rattle.patterns_lowering.specs.Held.{module_held}
 use Rattle.patterns.specs.Planned.{planned_edits}
-use Rattle.patterns.proofs.Applying.{edits_due, gave, is_there, not_there, rewrite_due, stopped, was_none}
+use Rattle.patterns.proofs.Applying.{edits_due, gave, is_there, not_there, rewrite_due, aborted, was_none}
 use Rattle.patterns.proofs.Carrying.{applied_none, journaled_none}
 use Rattle.patterns_lowering.proofs.Journals.{recorded_none}
 use Rattle.patterns.proofs.Acceptance.{accepted_of}
@@ -36,7 +36,7 @@ returns-in-Err-clause-err g c = c.in-Err.ensures.carried.0
 
 pub returns-in-Err-clause-refused : goal.returns-in-Err-clause-refused
 returns-in-Err-clause-refused g c =
-    stopped (rewrite_of c.args.rule (module_held c.args.bench.now.transaction) c.args.op) (planned_edits c.args.bench.now.transaction.ctx (module_held c.args.bench.now.transaction).next c.args.op c.in-Some.planned) c.args.op (module_held c.args.bench.now.transaction) c.apply_plan.new.bench.transaction.ctx c.in-Err.refusal
+    aborted (rewrite_of c.args.rule (module_held c.args.bench.now.transaction) c.args.op) (planned_edits c.args.bench.now.transaction.ctx (module_held c.args.bench.now.transaction).next c.args.op c.in-Some.planned) c.args.op (module_held c.args.bench.now.transaction) c.apply_plan.new.bench.transaction.ctx c.in-Err.refusal
     (rewrite_due c.world-world.result.now c.args.bench.now.transaction c.world-world.ensures.ctx c.world-world.ensures.store c.args.op (λ d n p. planned_edits d n c.args.op p) c.args.rule c.in-Ok.found c.in-Ok.ensures.edits c.in-Some.planned c.in-Some.is) c.in-Err.ensures.carried.1
 
 pub returns-in_default-found-clause-journal : goal.returns-in_default-found-clause-journal

@@ -4,7 +4,7 @@ use Rattle.patterns_lowering.specs.Held.{module_held}
 use Rattle.patterns.specs.Rows.{IsFirstOf}
 use Rattle.patterns.specs.Planned.{planned_edits}
 use Rattle.patterns_lowering.proofs.Journals.{recorded_none}
-use Rattle.patterns.proofs.Applying.{gave, is_there, not_there, stopped}
+use Rattle.patterns.proofs.Applying.{gave, is_there, not_there, aborted}
 use Rattle.patterns.proofs.Carrying.{applied_none, journaled_none}
 use Rattle.patterns.proofs.ByList.{none_applied, none_held, applied_held, fits_held, free_held, rule_held, first_due}
 use Rattle.patterns.proofs.apply_first.apply_first.Goals as goal
@@ -44,7 +44,7 @@ returns-in-Err-clause-err g c = c.in-Err.ensures.carried.0
 
 pub returns-in-Err-clause-refused : goal.returns-in-Err-clause-refused
 returns-in-Err-clause-refused g c =
-    stopped (first_rule c.args.rows.now.rules.now (module_held c.args.bench.now.transaction) c.args.op) (planned_edits c.args.bench.now.transaction.ctx (module_held c.args.bench.now.transaction).next c.args.op c.in-Some.found.planned) c.args.op (module_held c.args.bench.now.transaction) c.apply_plan.new.bench.transaction.ctx c.in-Err.refusal
+    aborted (first_rule c.args.rows.now.rules.now (module_held c.args.bench.now.transaction) c.args.op) (planned_edits c.args.bench.now.transaction.ctx (module_held c.args.bench.now.transaction).next c.args.op c.in-Some.found.planned) c.args.op (module_held c.args.bench.now.transaction) c.apply_plan.new.bench.transaction.ctx c.in-Err.refusal
     (first_due c.world-world.result.now c.args.bench.now.transaction c.world-world.ensures.ctx c.world-world.ensures.store c.args.op c.args.rows.now.rules.now c.in-Some.found (subst (IsFirstOf c.args.rows.now.rules.now c.world-world.result.now c.args.op) c.in-Some.is c.in-Ok.ensures)) c.in-Err.ensures.carried.1
 
 pub returns-in_default-first-clause-journal : goal.returns-in_default-first-clause-journal

@@ -4,7 +4,7 @@ use Rattle.patterns_lowering.specs.Held.{module_held}
 use Rattle.patterns.specs.HighestPriority.{IsHighestPriority}
 use Rattle.patterns.specs.Planned.{planned_edits}
 use Rattle.patterns_lowering.proofs.Journals.{recorded_none}
-use Rattle.patterns.proofs.Applying.{gave, is_there, not_there, stopped}
+use Rattle.patterns.proofs.Applying.{gave, is_there, not_there, aborted}
 use Rattle.patterns.proofs.Carrying.{applied_none, journaled_none}
 use Rattle.patterns.proofs.Lowering.{none_applied, none_held, applied_held, fits_held, free_held, rule_held, highest_priority_due}
 use Rattle.patterns.proofs.apply_highest_priority.apply_highest_priority.Goals as goal
@@ -21,11 +21,11 @@ returns-in_default-clause-refused g c = inl refl
 pub returns-in_default-clause-stays : goal.returns-in_default-clause-stays
 returns-in_default-clause-stays g c = applied_none g.L.Analysis.meaning c.args.bench.now
 
-pub returns-in_default-lowest-clause-ok : goal.returns-in_default-lowest-clause-ok
-returns-in_default-lowest-clause-ok g c = none_held c.world-world.result.now c.args.bench.now.transaction c.world-world.ensures.ctx c.world-world.ensures.store c.args.op (subst (IsHighestPriority c.world-world.result.now c.args.op) c.in_default-lowest.is c.in-Ok.ensures)
+pub returns-in_default-highest_rule-clause-ok : goal.returns-in_default-highest_rule-clause-ok
+returns-in_default-highest_rule-clause-ok g c = none_held c.world-world.result.now c.args.bench.now.transaction c.world-world.ensures.ctx c.world-world.ensures.store c.args.op (subst (IsHighestPriority c.world-world.result.now c.args.op) c.in_default-highest_rule.is c.in-Ok.ensures)
 
-pub returns-in_default-lowest-clause-stays : goal.returns-in_default-lowest-clause-stays
-returns-in_default-lowest-clause-stays g c = applied_none g.L.Analysis.meaning c.args.bench.now
+pub returns-in_default-highest_rule-clause-stays : goal.returns-in_default-highest_rule-clause-stays
+returns-in_default-highest_rule-clause-stays g c = applied_none g.L.Analysis.meaning c.args.bench.now
 
 pub apply_plan-requires-clause-of : goal.apply_plan-requires-clause-of
 apply_plan-requires-clause-of g c = fits_held c.world-world.result.now c.args.bench.now.transaction c.world-world.ensures.ctx c.world-world.ensures.store c.args.op c.in-Some.found (subst (IsHighestPriority c.world-world.result.now c.args.op) c.in-Some.is c.in-Ok.ensures)
@@ -44,11 +44,11 @@ returns-in-Err-clause-err g c = c.in-Err.ensures.carried.0
 
 pub returns-in-Err-clause-refused : goal.returns-in-Err-clause-refused
 returns-in-Err-clause-refused g c =
-    stopped (highest_priority (module_held c.args.bench.now.transaction) c.args.op) (planned_edits c.args.bench.now.transaction.ctx (module_held c.args.bench.now.transaction).next c.args.op c.in-Some.found.planned) c.args.op (module_held c.args.bench.now.transaction) c.apply_plan.new.bench.transaction.ctx c.in-Err.refusal
+    aborted (highest_priority (module_held c.args.bench.now.transaction) c.args.op) (planned_edits c.args.bench.now.transaction.ctx (module_held c.args.bench.now.transaction).next c.args.op c.in-Some.found.planned) c.args.op (module_held c.args.bench.now.transaction) c.apply_plan.new.bench.transaction.ctx c.in-Err.refusal
     (highest_priority_due c.world-world.result.now c.args.bench.now.transaction c.world-world.ensures.ctx c.world-world.ensures.store c.args.op c.in-Some.found (subst (IsHighestPriority c.world-world.result.now c.args.op) c.in-Some.is c.in-Ok.ensures)) c.in-Err.ensures.carried.1
 
-pub returns-in_default-lowest-clause-journal : goal.returns-in_default-lowest-clause-journal
-returns-in_default-lowest-clause-journal g c = journaled_none g.L.Analysis.meaning c.args.bench.now
+pub returns-in_default-highest_rule-clause-journal : goal.returns-in_default-highest_rule-clause-journal
+returns-in_default-highest_rule-clause-journal g c = journaled_none g.L.Analysis.meaning c.args.bench.now
 
 pub returns-then-not-in_tree-clause-journal : goal.returns-then-not-in_tree-clause-journal
 returns-then-not-in_tree-clause-journal g c = recorded_none c.args.bench.now.transaction
@@ -64,8 +64,8 @@ apply_plan-requires-clause-free g c =
 pub returns-in_default-clause-there : goal.returns-in_default-clause-there
 returns-in_default-clause-there g c gone = absurd (is_there c.world-world.result.now c.args.bench.now.transaction c.world-world.ensures.ctx c.world-world.ensures.store c.args.op c.in_tree.result c.in_tree.ensures c.if-not-in_tree.false gone)
 
-pub returns-in_default-lowest-clause-there : goal.returns-in_default-lowest-clause-there
-returns-in_default-lowest-clause-there g c gone = absurd (is_there c.world-world.result.now c.args.bench.now.transaction c.world-world.ensures.ctx c.world-world.ensures.store c.args.op c.in_tree.result c.in_tree.ensures c.if-not-in_tree.false gone)
+pub returns-in_default-highest_rule-clause-there : goal.returns-in_default-highest_rule-clause-there
+returns-in_default-highest_rule-clause-there g c gone = absurd (is_there c.world-world.result.now c.args.bench.now.transaction c.world-world.ensures.ctx c.world-world.ensures.store c.args.op c.in_tree.result c.in_tree.ensures c.if-not-in_tree.false gone)
 
 pub returns-in-Ok-apply_plan-clause-there : goal.returns-in-Ok-apply_plan-clause-there
 returns-in-Ok-apply_plan-clause-there g c gone = absurd (is_there c.world-world.result.now c.args.bench.now.transaction c.world-world.ensures.ctx c.world-world.ensures.store c.args.op c.in_tree.result c.in_tree.ensures c.if-not-in_tree.false gone)
@@ -73,8 +73,8 @@ returns-in-Ok-apply_plan-clause-there g c gone = absurd (is_there c.world-world.
 pub returns-in-Err-clause-there : goal.returns-in-Err-clause-there
 returns-in-Err-clause-there g c gone = absurd (is_there c.world-world.result.now c.args.bench.now.transaction c.world-world.ensures.ctx c.world-world.ensures.store c.args.op c.in_tree.result c.in_tree.ensures c.if-not-in_tree.false gone)
 
-pub returns-in_default-lowest-clause-applied : goal.returns-in_default-lowest-clause-applied
-returns-in_default-lowest-clause-applied g c = sym (none_applied c.world-world.result.now c.args.bench.now.transaction c.world-world.ensures.ctx c.world-world.ensures.store c.args.op (subst (IsHighestPriority c.world-world.result.now c.args.op) c.in_default-lowest.is c.in-Ok.ensures))
+pub returns-in_default-highest_rule-clause-applied : goal.returns-in_default-highest_rule-clause-applied
+returns-in_default-highest_rule-clause-applied g c = sym (none_applied c.world-world.result.now c.args.bench.now.transaction c.world-world.ensures.ctx c.world-world.ensures.store c.args.op (subst (IsHighestPriority c.world-world.result.now c.args.op) c.in_default-highest_rule.is c.in-Ok.ensures))
 
 pub returns-in-Ok-apply_plan-clause-applied : goal.returns-in-Ok-apply_plan-clause-applied
 returns-in-Ok-apply_plan-clause-applied g c = sym (applied_held c.world-world.result.now c.args.bench.now.transaction c.world-world.ensures.ctx c.world-world.ensures.store c.args.op c.in-Some.found (subst (IsHighestPriority c.world-world.result.now c.args.op) c.in-Some.is c.in-Ok.ensures))

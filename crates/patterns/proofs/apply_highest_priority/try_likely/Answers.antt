@@ -15,7 +15,7 @@ returns-then-not-allows c =
     let w = c.args.world.now in
     let m = module_in w in
     let h = header_of_node w.ctx c.args.node.now in
-    left_out c.args.rule m c.args.op c.requires.likely.tried
+    left_out c.args.rule m c.args.op c.requires.likely.attempted
     (none_suited c.args.rule m c.args.op h c.allows.result c.requires.shown (c.allows.ensures m.tree (record h { id = c.args.op }) c.requires.eligibility) c.if-not-allows.true)
 
 pub made_dead-requires-clause-eligible : goal.made_dead-requires-clause-eligible
@@ -36,9 +36,9 @@ pub returns-in-EraseDead : goal.returns-in-EraseDead
 returns-in-EraseDead c =
     let w = c.args.world.now in
     let m = module_in w in
-    tried_ok w c.args.op c.args.point.now c.args.rule c.requires.likely.tried c.made_dead.result
+    tried_ok w c.args.op c.args.point.now c.args.rule c.requires.likely.attempted c.made_dead.result
     (subst (λ r. IfOk c.made_dead.result (λ p. option_map (made_edits w.ctx m.next c.args.op c.args.point.now) p ≡ edits_of r m c.args.op)) (sym c.in-EraseDead.is) c.made_dead.ensures.edits)
     c.made_dead.ensures.of
 
 pub returns-in_default : goal.returns-in_default
-returns-in_default c = tried_ok c.args.world.now c.args.op c.args.point.now c.args.rule c.requires.likely.tried c.made_at.result c.made_at.ensures.edits c.made_at.ensures.of
+returns-in_default c = tried_ok c.args.world.now c.args.op c.args.point.now c.args.rule c.requires.likely.attempted c.made_at.result c.made_at.ensures.edits c.made_at.ensures.of

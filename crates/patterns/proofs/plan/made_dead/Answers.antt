@@ -16,4 +16,4 @@ returns-clause-edits c =
     (λ o f. ap Some (c.in_ok-plan.ensures.edits w.ctx m.next c.args.point.now) ∙ one_dead c.args.op m.tree o true (sym c.requires.dead) refl f m.next c.args.point.now)
 
 pub returns-clause-of : goal.returns-clause-of
-returns-clause-of c = c.in_ok-plan.ensures.fit c.args.world.now.ctx
+returns-clause-of c = c.in_ok-plan.ensures.fits_in c.args.world.now.ctx

@@ -25,5 +25,5 @@ pub returns-in_default : goal.returns-in_default
 returns-in_default c =
     record {
       edits = IfOk-weaker c.plan.result _ _ (λ p h o f. h o f (module_in c.args.world.now).next c.args.point.now) c.plan.ensures.edits;
-      of = c.plan.ensures.fit;
+      of = c.plan.ensures.fits_in;
     }

@@ -21,18 +21,18 @@ pub returns-in-EraseDead : goal.returns-in-EraseDead
 returns-in-EraseDead c =
     let pattern_set = ap is_canonical c.in-EraseDead.is in
     record {
-      likely = λ e. record { tried = pattern_set; dead = λ f. c.is_dead.ensures.dead e };
+      likely = λ e. record { attempted = pattern_set; dead = λ f. c.is_dead.ensures.dead e };
       left_out = λ e. never c.args.world.now c.args.op c.args.rule pattern_set (subst (λ r. IsPlanAt r c.args.world.now c.args.op None) (sym c.in-EraseDead.is) (c.is_dead.ensures.left_out e));
     }
 
 pub returns-in-OpenBranch-clause-likely : goal.returns-in-OpenBranch-clause-likely
-returns-in-OpenBranch-clause-likely c e = record { tried = ap is_canonical c.in-OpenBranch.is; dead = λ f. other c.args.rule (ap erases c.in-OpenBranch.is) f }
+returns-in-OpenBranch-clause-likely c e = record { attempted = ap is_canonical c.in-OpenBranch.is; dead = λ f. other c.args.rule (ap erases c.in-OpenBranch.is) f }
 
 pub returns-in-OpenLoop-clause-likely : goal.returns-in-OpenLoop-clause-likely
-returns-in-OpenLoop-clause-likely c e = record { tried = ap is_canonical c.in-OpenLoop.is; dead = λ f. other c.args.rule (ap erases c.in-OpenLoop.is) f }
+returns-in-OpenLoop-clause-likely c e = record { attempted = ap is_canonical c.in-OpenLoop.is; dead = λ f. other c.args.rule (ap erases c.in-OpenLoop.is) f }
 
 pub returns-in-StopLoop-clause-likely : goal.returns-in-StopLoop-clause-likely
-returns-in-StopLoop-clause-likely c e = record { tried = ap is_canonical c.in-StopLoop.is; dead = λ f. other c.args.rule (ap erases c.in-StopLoop.is) f }
+returns-in-StopLoop-clause-likely c e = record { attempted = ap is_canonical c.in-StopLoop.is; dead = λ f. other c.args.rule (ap erases c.in-StopLoop.is) f }
 
 pub returns-in-OpenBranch-clause-left_out : goal.returns-in-OpenBranch-clause-left_out
 returns-in-OpenBranch-clause-left_out c e =
@@ -55,6 +55,6 @@ pub returns-then-is_canonical : goal.returns-then-is_canonical
 returns-then-is_canonical c =
     let pattern_set = sym c.is_canonical.ensures ∙ c.if-is_canonical.true in
     record {
-      likely = λ e. record { tried = pattern_set; dead = λ f. absurd (c.in_default.not-EraseDead f) };
+      likely = λ e. record { attempted = pattern_set; dead = λ f. absurd (c.in_default.not-EraseDead f) };
       left_out = λ e. never c.args.world.now c.args.op c.args.rule pattern_set (c.may_match.ensures e);
     }

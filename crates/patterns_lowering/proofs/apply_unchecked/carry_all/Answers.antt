@@ -8,7 +8,7 @@ use Rattle.patterns_lowering.proofs.Freely.{free_more}
 use Rattle.patterns_lowering.proofs.apply_unchecked.carry_all.Goals as goal
 
 pub edits-init : goal.edits-init
-edits-init g c = record { carrying = carrying_none g.L.Analysis.meaning c.led_benches_are_kept.ensures.none c.args.edits.now c.args.bench.now c.requires.fit; free = c.requires.free }
+edits-init g c = record { carrying = carrying_none g.L.Analysis.meaning c.led_benches_are_kept.ensures.none c.args.edits.now c.args.bench.now c.requires.fits_in; free = c.requires.free }
 
 pub carry_unchecked-requires-clause-fits : goal.carry_unchecked-requires-clause-fits
 carry_unchecked-requires-clause-fits g c =
@@ -29,7 +29,7 @@ pub returns-in-Err-clause-refused : goal.returns-in-Err-clause-refused
 returns-in-Err-clause-refused g c =
     let u = uncons c.edits.rest.now c.edit-item.result _ c.in-len1-up.len_at_least c.edit-item.is in
     carrying_why g.L.Analysis.meaning c.args.edits.now _ c.edit-item.result c.in-Err.refusal c.args.bench.now c.edits.bench c.carry_unchecked.new.bench
-    (subst (λ (z : List Coded). Carrying g.L.Analysis.meaning c.args.edits.now z c.args.bench.now c.edits.bench) u c.edits.invariant.carrying) c.in-Err.ensures.tried
+    (subst (λ (z : List Coded). Carrying g.L.Analysis.meaning c.args.edits.now z c.args.bench.now c.edits.bench) u c.edits.invariant.carrying) c.in-Err.ensures.attempted
 
 pub edits-preserved : goal.edits-preserved
 edits-preserved g c =
@@ -37,10 +37,10 @@ edits-preserved g c =
     record {
       carrying =
           carrying_more g.L.Analysis.meaning c.led_benches_are_kept.ensures.more c.args.edits.now _ c.edit-item.result c.args.bench.now c.edits.bench c.carry_unchecked.new.bench c.is_wellformed.ensures.context.holds
-          (subst (λ (z : List Coded). Carrying g.L.Analysis.meaning c.args.edits.now z c.args.bench.now c.edits.bench) u c.edits.invariant.carrying) c.in_default-carry_unchecked.ensures.tried c.in_default-carry_unchecked.ensures.along c.in_default-carry_unchecked.ensures.journal;
+          (subst (λ (z : List Coded). Carrying g.L.Analysis.meaning c.args.edits.now z c.args.bench.now c.edits.bench) u c.edits.invariant.carrying) c.in_default-carry_unchecked.ensures.attempted c.in_default-carry_unchecked.ensures.along c.in_default-carry_unchecked.ensures.journal;
       free =
           free_more g.L.Analysis.meaning _ c.edit-item.result c.edits.bench c.carry_unchecked.new.bench
-          (subst (λ (z : List Coded). Free (edits_meaning c.edits.bench.transaction.ctx z) (module_held c.edits.bench.transaction)) u c.edits.invariant.free) c.in_default-carry_unchecked.ensures.tried c.in_default-carry_unchecked.ensures.along;
+          (subst (λ (z : List Coded). Free (edits_meaning c.edits.bench.transaction.ctx z) (module_held c.edits.bench.transaction)) u c.edits.invariant.free) c.in_default-carry_unchecked.ensures.attempted c.in_default-carry_unchecked.ensures.along;
     }
 
 pub returns-clause-ok : goal.returns-clause-ok

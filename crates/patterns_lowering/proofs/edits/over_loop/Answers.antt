@@ -22,8 +22,8 @@ returns-in-Ok-loop_edits-clause-edits g c =
     c.args.of.now c.requires.of c.in-Ok.ensures.properties
     c.world-2.result.now.ctx c.next_id-next.result c.world-2.ensures.ctx (c.next_id-next.ensures ∙ ap (λ (s : Stored). s.module_of.next) c.world.ensures.store) c.in-Ok-loop_edits.ensures
 
-pub returns-in-Ok-loop_edits-clause-fit : goal.returns-in-Ok-loop_edits-clause-fit
-returns-in-Ok-loop_edits-clause-fit g c =
+pub returns-in-Ok-loop_edits-clause-fits_in : goal.returns-in-Ok-loop_edits-clause-fits_in
+returns-in-Ok-loop_edits-clause-fits_in g c =
     loop_fitting c.args.bench.now.transaction.ctx c.interned.new.bench.transaction.ctx c.is_wellformed.ensures.context.holds c.is_wellformed-2.ensures.context c.in-Ok.ensures.interned.grown.grows
     c.in-Ok.numbers.wide c.in-Ok.numbers.index c.in-Ok.numbers.properties.items c.in-Ok.ensures.types c.args.bench.now.transaction.store.module_of.next c.args.point.now c.in-Ok-loop_edits.edits.items
     c.args.of.now c.requires.of c.in-Ok.ensures.properties

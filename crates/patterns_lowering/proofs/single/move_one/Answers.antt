@@ -3,5 +3,5 @@ use Rattle.rewriter.specs.RewriterCalls.{state_of}
 use Rattle.patterns_lowering.proofs.Carrying.{tried_by}
 use Rattle.patterns_lowering.proofs.single.move_one.Goals as goal
 
-pub returns-clause-tried : goal.returns-clause-tried
-returns-clause-tried g c = (tried_by (state_of g.L.Analysis.meaning c.args.bench.now) (state_of g.L.Analysis.meaning c.move_op.new.self) _ c.move_op.result c.move_op.result c.move_op.ensures.does refl).0
+pub returns-clause-attempted : goal.returns-clause-attempted
+returns-clause-attempted g c = (tried_by (state_of g.L.Analysis.meaning c.args.bench.now) (state_of g.L.Analysis.meaning c.move_op.new.self) _ c.move_op.result c.move_op.result c.move_op.ensures.does refl).0

@@ -3,8 +3,8 @@ use Rattle.rewriter.specs.RewriterCalls.{state_of}
 use Rattle.patterns_lowering.proofs.Carrying.{tried_by}
 use Rattle.patterns_lowering.proofs.single.replace_one.Goals as goal
 
-pub returns-clause-tried : goal.returns-clause-tried
-returns-clause-tried g c = (tried_by (state_of g.L.Analysis.meaning c.args.bench.now) (state_of g.L.Analysis.meaning c.replace_all.new.self) _ c.replace_all.result c.replace_all.result c.replace_all.ensures.does refl).0
+pub returns-clause-attempted : goal.returns-clause-attempted
+returns-clause-attempted g c = (tried_by (state_of g.L.Analysis.meaning c.args.bench.now) (state_of g.L.Analysis.meaning c.replace_all.new.self) _ c.replace_all.result c.replace_all.result c.replace_all.ensures.does refl).0
 
 pub returns-clause-along : goal.returns-clause-along
 returns-clause-along g c = record {

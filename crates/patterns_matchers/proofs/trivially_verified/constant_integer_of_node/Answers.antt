@@ -7,8 +7,8 @@ use Rattle.patterns_matchers.proofs.Pairs.{one_in, integer_is}
 use Rattle.patterns_matchers.proofs.trivially_verified.constant_integer_of_node.Goals as goal
 use Rattle.ir_event.proofs.of_types.Truths.{none_left}
 
-pub returns-then-is_number-clause-plain : goal.returns-then-is_number-clause-plain
-returns-then-is_number-clause-plain c =
+pub returns-then-is_number-clause-simple : goal.returns-then-is_number-clause-simple
+returns-then-is_number-clause-simple c =
     let k = c.args.ctx.now in
     let n = c.args.node.now in
     let ty = c.ty-item.result in

@@ -10,5 +10,5 @@ pub returns-clause-edits : goal.returns-clause-edits
 returns-clause-edits c o f n insertion =
     ap Some (c.in_ok-plan.ensures.edits c.args.world.now.ctx n insertion) ∙ one_dead c.args.op (module_in c.args.world.now).tree o c.dead_op.result c.dead_op.ensures c.if-not-dead_op.false f n insertion
 
-pub returns-clause-fit : goal.returns-clause-fit
-returns-clause-fit c = c.in_ok-plan.ensures.fit c.args.world.now.ctx
+pub returns-clause-fits_in : goal.returns-clause-fits_in
+returns-clause-fits_in c = c.in_ok-plan.ensures.fits_in c.args.world.now.ctx

@@ -8,8 +8,8 @@ returns-clause-edits c t =
     ap (edits_meaning t) (built t c.args.op c.args.point.now c.args.ops.now c.args.values.now c.args.handed.now _ _ _ _ _ c.new-edits.ensures.items c.in_ok-replace_arguments.ensures c.in_ok-move_all.ensures c.in_ok-replace_results.ensures c.in_ok-push.ensures.items)
     ∙ opening_meant t c.args.op c.args.point.now c.args.ops.now c.args.values.now c.args.handed.now
 
-pub returns-clause-fit : goal.returns-clause-fit
-returns-clause-fit c t =
+pub returns-clause-fits_in : goal.returns-clause-fits_in
+returns-clause-fits_in c t =
     subst (AllFit t)
     (sym (built t c.args.op c.args.point.now c.args.ops.now c.args.values.now c.args.handed.now _ _ _ _ _ c.new-edits.ensures.items c.in_ok-replace_arguments.ensures c.in_ok-move_all.ensures c.in_ok-replace_results.ensures c.in_ok-push.ensures.items))
     (opening_fits t c.args.op c.args.point.now c.args.ops.now c.args.values.now c.args.handed.now)

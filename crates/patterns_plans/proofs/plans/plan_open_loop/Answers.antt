@@ -19,7 +19,7 @@ returns-in_ok-go_never-in-Zero-clause-edits c =
     (ap Some (sym c.in-Zero.is) ∙ sym c.in-Some-2.is ∙ c.in_ok-times.ensures) _ (c.in_ok-go_never-in-Zero.ensures.edits w.ctx)
 
 pub returns-in_ok-go_never-in-Zero-clause-of : goal.returns-in_ok-go_never-in-Zero-clause-of
-returns-in_ok-go_never-in-Zero-clause-of c = c.in_ok-go_never-in-Zero.ensures.fit c.args.world.now.ctx
+returns-in_ok-go_never-in-Zero-clause-of c = c.in_ok-go_never-in-Zero.ensures.fits_in c.args.world.now.ctx
 
 pub returns-in-One-clause-edits : goal.returns-in-One-clause-edits
 returns-in-One-clause-edits c =

@@ -22,4 +22,4 @@ returns-clause-edits c =
     c.if-not-branch.false _ (c.in_ok-edits.ensures.edits w.ctx ∙ (λ i. opening c.args.op c.args.point.now (c.deref.ensures.value i) (c.operands-2.ensures i) handed))
 
 pub returns-clause-of : goal.returns-clause-of
-returns-clause-of c = c.in_ok-edits.ensures.fit c.args.world.now.ctx
+returns-clause-of c = c.in_ok-edits.ensures.fits_in c.args.world.now.ctx

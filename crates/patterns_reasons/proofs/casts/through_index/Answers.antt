@@ -7,4 +7,4 @@ use Rattle.patterns_reasons.proofs.casts.through_index.Goals as goal
 pub returns-in_default-unary_op : goal.returns-in_default-unary_op
 returns-in_default-unary_op c =
     no_index_cast (module_in c.args.world.now).tree (one_in c.args.world.now.ctx c.args.p.now) _ (header_of_node c.args.world.now.ctx c.in-Some.inside) c.in_ok-inside.ensures.node
-    (ap (option_map (header_of_node c.args.world.now.ctx)) c.in-Some.is) (c.in_default-unary_op.ensures.shape c.args.world.now.ctx)
+    (ap (option_map (header_of_node c.args.world.now.ctx)) c.in-Some.is) (c.in_default-unary_op.ensures.shaped_as c.args.world.now.ctx)

@@ -1,5 +1,5 @@
 use Rattle.std.proofs.Common.{arith}
-use Rattle.rewriter.proofs.Undo.{undoing_none, undoing_more, undoing_free, undone_to, undone_told}
+use Rattle.rewriter.proofs.Undo.{undoing_none, undoing_more, undoing_free, undone_to, undone_notified}
 use Rattle.rewriter.proofs.marks.undo_to.Goals as goal
 
 pub loop-transaction-init : goal.loop-transaction-init
@@ -14,5 +14,5 @@ loop-transaction-preserved g c = undoing_more g.L.Analysis.meaning _ _ _ _ _ _ c
 pub returns-clause-undone : goal.returns-clause-undone
 returns-clause-undone g c = undone_to g.L.Analysis.meaning _ _ _ _ _ (omega arith) c.loop-transaction.invariant
 
-pub returns-clause-told : goal.returns-clause-told
-returns-clause-told g c = undone_told g.L.Analysis.meaning _ _ _ _ _ (omega arith) c.loop-transaction.invariant
+pub returns-clause-reported : goal.returns-clause-reported
+returns-clause-reported g c = undone_notified g.L.Analysis.meaning _ _ _ _ _ (omega arith) c.loop-transaction.invariant

@@ -6,7 +6,7 @@ use Rattle.user_patterns_apply.specs.Own.{user_pattern_rewrite}
 use Rattle.user_patterns_apply.specs.Planned.{planned_edits}
 use Rattle.user_patterns_apply.proofs.Found.{edits_due, rewrite_due, was_none}
 use Rattle.ir_event.proofs.Steps.{wellformed_meaning}
-use Rattle.patterns.proofs.Applying.{gave, is_there, not_there, stopped}
+use Rattle.patterns.proofs.Applying.{gave, is_there, not_there, aborted}
 use Rattle.patterns.proofs.Carrying.{applied_none, journaled_none}
 use Rattle.patterns_lowering.proofs.Journals.{recorded_none}
 use Rattle.user_patterns_apply.proofs.apply.apply_pattern.Goals as goal
@@ -39,7 +39,7 @@ returns-clause-err g c = c.in-Err.ensures.carried.0
 
 pub returns-clause-refused : goal.returns-clause-refused
 returns-clause-refused g c =
-    stopped (user_pattern_rewrite (pattern_model c.args.pattern.now) (module_held c.args.bench.now.transaction) c.args.op) (planned_edits c.args.bench.now.transaction.ctx (module_held c.args.bench.now.transaction).next c.args.op c.in-Ok-found.planned) c.args.op (module_held c.args.bench.now.transaction) c.apply_plan.new.bench.transaction.ctx c.in-Err.refusal
+    aborted (user_pattern_rewrite (pattern_model c.args.pattern.now) (module_held c.args.bench.now.transaction) c.args.op) (planned_edits c.args.bench.now.transaction.ctx (module_held c.args.bench.now.transaction).next c.args.op c.in-Ok-found.planned) c.args.op (module_held c.args.bench.now.transaction) c.apply_plan.new.bench.transaction.ctx c.in-Err.refusal
     (rewrite_due c.world-world.result.now c.args.bench.now.transaction c.world-world.ensures.ctx c.world-world.ensures.store c.args.op (pattern_model c.args.pattern.now) (result_ok c.in-Ok.found) c.in-Ok.ensures.edits c.in-Ok-found.planned (ap (λ r. result_ok r) c.in-Ok-found.is)) c.in-Err.ensures.carried.1
 
 pub returns-in_default-found-clause-journal : goal.returns-in_default-found-clause-journal

@@ -16,4 +16,4 @@ made-preserved g c =
     let split = from_item c.made.rest.now c.first-item.result _ c.in-len1-up.len_at_least c.first-item.is in
     making_more g.L.Analysis.meaning c.args.next c.args.point.now c.args.made.now c.args.bench.now c.first-item.result _ c.made.bench c.push_making.new.bench c.made.edits.items c.push_making.new.edits.items
     (subst (λ (z : List NewOp). Making g.L.Analysis.meaning c.args.next c.args.point.now c.args.made.now c.args.bench.now z c.made.bench c.made.edits.items) split c.made.invariant)
-    c.is_wellformed-in-len1-up.ensures.context.holds c.in_default-push_making.ensures.added c.in_default-push_making.ensures.fit c.in_default-push_making.ensures.meaning
+    c.is_wellformed-in-len1-up.ensures.context.holds c.in_default-push_making.ensures.added c.in_default-push_making.ensures.fits_in c.in_default-push_making.ensures.meaning

@@ -11,9 +11,9 @@ use Rattle.user_patterns_data.specs.Planning.{planned}
 use Rattle.user_patterns_data.proofs.laws.a_product_becomes_a_shift.Goals as goal
 
 pub returns-clause-planned : goal.returns-clause-planned
-unfolding planned log_of first_below folds.fold_of folds.rule_of folds.rules words.operations words.is_inherent words.is_listed properties.is_allowed properties.is_of_kind properties.kind_of properties.kinds named.flagged registry.row_of rows.rows
+unfolding planned log_of first_below folds.fold_of folds.rule_of folds.rules words.operations words.is_inherent words.is_listed properties.is_allowed properties.is_of_kind properties.kind_of properties.property_kinds named.flagged registry.row_of rows.rows
 returns-clause-planned c = refl
 
 pub returns-clause-nothing : goal.returns-clause-nothing
-unfolding planned log_of first_below folds.fold_of folds.rule_of folds.rules words.operations words.is_inherent words.is_listed properties.is_allowed properties.is_of_kind properties.kind_of properties.kinds named.flagged registry.row_of rows.rows
+unfolding planned log_of first_below folds.fold_of folds.rule_of folds.rules words.operations words.is_inherent words.is_listed properties.is_allowed properties.is_of_kind properties.kind_of properties.property_kinds named.flagged registry.row_of rows.rows
 returns-clause-nothing c = refl

@@ -3,7 +3,7 @@ use Rattle.user_patterns_check.specs.declared.verdict.Verdict.TheVariants as ver
 use Rattle.user_patterns_data.specs.Fitting.{content_at}
 use Rattle.user_patterns_data.specs.Shapes.{pattern_model}
 use Rattle.user_patterns_registry.specs.Shown.{IsShown, counterexample_width}
-use Rattle.user_patterns_registry.proofs.Telling.{fails_told}
+use Rattle.user_patterns_registry.proofs.Telling.{fails_reported}
 use Rattle.user_patterns_registry.proofs.check_command.check_result.Goals as goal
 
 pub returns-in-Ok-clause-ok : goal.returns-in-Ok-clause-ok
@@ -12,7 +12,7 @@ returns-in-Ok-clause-ok c =
     let found = c.in-Ok.found in
     let widths = sym c.in-Ok.ensures.widths in
     let values = sym c.in-Ok.ensures.values in
-    fails_told p c.args.requested c.args.most c.requires.most c.args.verdict found (c.in-Fails.is ∙ (λ i. verdict.Fails (widths i) (values i)))
+    fails_reported p c.args.requested c.args.most c.requires.most c.args.verdict found (c.in-Fails.is ∙ (λ i. verdict.Fails (widths i) (values i)))
     c.requires.verdict c.requires.first
     (c.in-Ok.ensures.width ∙ ap (λ us. counterexample_width p us.items) widths)
     (subst (λ us. IsShown (content_at p us.items) found) widths c.in-Ok.ensures.shown)

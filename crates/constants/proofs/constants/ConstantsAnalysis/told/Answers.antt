@@ -9,7 +9,7 @@ returns-else-not-follow-clause-notified c =
     let w = c.args.view.world.now in
     let yes : c.follow.result ≡ true = search rules in
     record {
-      told = record {
+      reported = record {
         same = record { kind = refl; analysis = λ t. refl; most = λ e m n. refl };
         agrees = λ m step shows held. inl (held.0, (step.after.distinct, followed_facts w.ctx m (module_in w) (c.follow.result ≡ true) (known_in c.args.self.now.table) (known_in c.follow.new.table) c.args.event step c.follow.ensures.followed yes held.1.1));
         stale = λ h. h;
@@ -31,7 +31,7 @@ pub returns-then-not-follow-clause-notified : goal.returns-then-not-follow-claus
 returns-then-not-follow-clause-notified c =
     let w = c.args.view.world.now in
     record {
-      told = record {
+      reported = record {
         same = record { kind = refl; analysis = λ t. refl; most = λ e m n. refl };
         agrees = λ m step shows held. inr refl;
         stale = λ h. refl;

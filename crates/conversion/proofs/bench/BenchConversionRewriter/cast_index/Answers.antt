@@ -24,7 +24,7 @@ returns-in_default-found-clause-leads g c = failure g.L.Analysis.meaning c.args.
 
 pub carry-requires : goal.carry-requires
 carry-requires g c = record {
-  fit = subst (AllFit c.args.self.now.transaction.ctx) (sym c.deref.ensures.value) (index_fits c.world-world.result.now c.args.self.now.transaction c.world-world.ensures.ctx c.world-world.ensures.store c.in-Ok.found c.in-Ok.ensures.fit c.in-Some.edits c.in-Some.is);
+  fits_in = subst (AllFit c.args.self.now.transaction.ctx) (sym c.deref.ensures.value) (index_fits c.world-world.result.now c.args.self.now.transaction c.world-world.ensures.ctx c.world-world.ensures.store c.in-Ok.found c.in-Ok.ensures.fits_in c.in-Some.edits c.in-Some.is);
   one = ap (λ (es : List Coded). made_by (edits_meaning c.args.self.now.transaction.ctx es)) c.deref.ensures.value ∙ index_one c.world-world.result.now c.args.self.now.transaction c.world-world.ensures.ctx c.world-world.ensures.store c.args.op c.in-Ok.found c.in-Ok.ensures.edits c.in-Some.edits c.in-Some.is;
 }
 

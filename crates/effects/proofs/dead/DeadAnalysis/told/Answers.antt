@@ -19,10 +19,10 @@ returns-clause-notified c =
     let is : c.if-stale.self ≡ (c.told-view.new.self.stale || not c.follow_counts-followed.result) = search rules in
     let counts = subst (λ (z : World). OnTrue c.follow_counts-followed.result (CountsFollowed (node_of_op z) c.args.event a b)) c.told-view.ensures.notified.world c.follow_counts-followed.ensures.followed in
     record {
-      told = record {
+      reported = record {
         same = record { kind = refl; analysis = λ t. refl; most = λ e m n. refl };
         agrees = λ m step shows held. elim (both_followed w.ctx c.args.event m (module_in w) (node_of_op w) a b step (shown_there w) shows held.1.1 (own.agrees w.ctx (module_in w)) c.told-view.new.self.stale c.follow_counts-followed.result counts (own.fresh w.ctx (module_in w))
-            (c.told-view.ensures.notified.told.agrees m step shows held.1.0)) [ inl h ↦ inl (is ∙ h.0, h.1) | inr h ↦ inr (is ∙ h) ];
+            (c.told-view.ensures.notified.reported.agrees m step shows held.1.0)) [ inl h ↦ inl (is ∙ h.0, h.1) | inr h ↦ inr (is ∙ h) ];
         stale = λ h. absurd (true≢false (sym h ∙ c.if-self.false));
         notified = inl refl;
       };

@@ -16,8 +16,8 @@ returns-in_default c =
     let a = c.self.inside in
     absurd (false≢true (ap is_some c.in_default.ensures ∙ in_tree_is (rows_in a) (keys_in a) a.sibs a.root a.represented.0 c.self.invariant.right a.represented.1 c.args.op ∙ ap (λ s. has_id c.args.op s.module_of.tree) c.self.view_is ∙ c.requires.op))
 
-pub op_fits-requires-clause-rows : goal.op_fits-requires-clause-rows
-op_fits-requires-clause-rows c = let a = c.self.inside in heads_of (rows_in a) (keys_in a) a.sibs a.root a.represented.0 c.self.invariant.right
+pub op_fits-requires-clause-slots : goal.op_fits-requires-clause-slots
+op_fits-requires-clause-slots c = let a = c.self.inside in heads_of (rows_in a) (keys_in a) a.sibs a.root a.represented.0 c.self.invariant.right
 
 pub returns : goal.returns
 returns c =

@@ -9,5 +9,5 @@ pub returns : goal.returns
 returns c =
     let a = c.self.inside in
     c.is_some.ensures ∙ ap is_some c.find.ensures
-    ∙ in_tree_is a.rows (finmap.get a.keys) a.sibs a.root a.represented.0 c.self.invariant.right a.represented.1 c.args.op
+    ∙ in_tree_is a.slots (finmap.get a.keys) a.sibs a.root a.represented.0 c.self.invariant.right a.represented.1 c.args.op
     ∙ ap (λ s. has_id c.args.op s.module_of.tree) c.self.view_is

@@ -5,7 +5,7 @@ use Rattle.ir_store_reads.specs.Rows.{row_at}
 use Rattle.ir_store_reads.specs.Stored.{known}
 use Rattle.ir_store_reads.specs.Emptied.{after_grow}
 use Rattle.ir_store_reads.specs.Grows.{Wider, Grown}
-use Rattle.ir_store_reads.proofs.Fitting.{some_told}
+use Rattle.ir_store_reads.proofs.Fitting.{some_reported}
 use Rattle.ir_store.proofs.Called.{keys_in, same_inside}
 use Rattle.ir_store.proofs.OneRow.{put_long, put_own, put_other}
 use Rattle.ir_store_reads.proofs.Marking.{grow_there}
@@ -44,7 +44,7 @@ insert-requires c =
     let none = no_key a w c.args.op (ap (known c.args.op) c.self.view_is ∙ c.requires) in
     let k = c.in-Ok-Some.found.slot in
     let v = c.in-Ok-Some.found.draft in
-    let grown = some_told (λ p. Grown 0 q c.args.op c.args.header.now p.slot p.draft) c.in-Ok-Some.field-0 c.in-Ok-Some.found c.in-Ok-Some.field-0-is c.in-Ok-Some.ensures in
+    let grown = some_reported (λ p. Grown 0 q c.args.op c.args.header.now p.slot p.draft) c.in-Ok-Some.field-0 c.in-Ok-Some.found c.in-Ok-Some.field-0-is c.in-Ok-Some.ensures in
     let ready = grown.ready (keys_in a) none in
     omega (arith, ready.inside, wide.even.long, c.laws.ensures.few)
 
@@ -81,7 +81,7 @@ write_op-requires c =
     let none = no_key a w c.args.op (ap (known c.args.op) c.self.view_is ∙ c.requires) in
     let k = c.in-Ok-Some.found.slot in
     let v = c.in-Ok-Some.found.draft in
-    let grown = some_told (λ p. Grown 0 q c.args.op c.args.header.now p.slot p.draft) c.in-Ok-Some.field-0 c.in-Ok-Some.found c.in-Ok-Some.field-0-is c.in-Ok-Some.ensures in
+    let grown = some_reported (λ p. Grown 0 q c.args.op c.args.header.now p.slot p.draft) c.in-Ok-Some.field-0 c.in-Ok-Some.found c.in-Ok-Some.field-0-is c.in-Ok-Some.ensures in
     let ready = grown.ready (keys_in a) none in
     ready.inside
 
@@ -94,11 +94,11 @@ invariant_of-self-inside-in-Err-write_op c =
     let none = no_key a w c.args.op (ap (known c.args.op) c.self.view_is ∙ c.requires) in
     let k = c.in-Ok-Some.found.slot in
     let v = c.in-Ok-Some.found.draft in
-    let grown = some_told (λ p. Grown 0 q c.args.op c.args.header.now p.slot p.draft) c.in-Ok-Some.field-0 c.in-Ok-Some.found c.in-Ok-Some.field-0-is c.in-Ok-Some.ensures in
+    let grown = some_reported (λ p. Grown 0 q c.args.op c.args.header.now p.slot p.draft) c.in-Ok-Some.field-0 c.in-Ok-Some.found c.in-Ok-Some.field-0-is c.in-Ok-Some.ensures in
     let ready = grown.ready (keys_in a) none in
     let back = key_back a.keys c.insert.new.self c.remove.new.self c.args.op c.number.result c.number-in-Err-write_op.result k c.number.ensures c.number-in-Err-write_op.ensures c.in-Ok-insert.ensures.inserted c.remove.ensures none in
-    let q2 = record q { rows = c.write_op.new.self } in
-    let wide2 : Wider q q2 = subst (λ z. Wider q (record q { rows = z })) (sym c.in-Err-write_op.ensures.err) wide in
+    let q2 = record q { slots = c.write_op.new.self } in
+    let wide2 : Wider q q2 = subst (λ z. Wider q (record q { slots = z })) (sym c.in-Err-write_op.ensures.err) wide in
     wide_given a w q2 wide2 c.laws.ensures.few c.laws-2.ensures.few (finmap.get c.remove.new.self) back
 
 pub invariant_of-self-in-Err-write_op : goal.invariant_of-self-in-Err-write_op
@@ -110,11 +110,11 @@ invariant_of-self-in-Err-write_op c =
     let none = no_key a w c.args.op (ap (known c.args.op) c.self.view_is ∙ c.requires) in
     let k = c.in-Ok-Some.found.slot in
     let v = c.in-Ok-Some.found.draft in
-    let grown = some_told (λ p. Grown 0 q c.args.op c.args.header.now p.slot p.draft) c.in-Ok-Some.field-0 c.in-Ok-Some.found c.in-Ok-Some.field-0-is c.in-Ok-Some.ensures in
+    let grown = some_reported (λ p. Grown 0 q c.args.op c.args.header.now p.slot p.draft) c.in-Ok-Some.field-0 c.in-Ok-Some.found c.in-Ok-Some.field-0-is c.in-Ok-Some.ensures in
     let ready = grown.ready (keys_in a) none in
     let back = key_back a.keys c.insert.new.self c.remove.new.self c.args.op c.number.result c.number-in-Err-write_op.result k c.number.ensures c.number-in-Err-write_op.ensures c.in-Ok-insert.ensures.inserted c.remove.ensures none in
-    let q2 = record q { rows = c.write_op.new.self } in
-    let wide2 : Wider q q2 = subst (λ z. Wider q (record q { rows = z })) (sym c.in-Err-write_op.ensures.err) wide in
+    let q2 = record q { slots = c.write_op.new.self } in
+    let wide2 : Wider q q2 = subst (λ z. Wider q (record q { slots = z })) (sym c.in-Err-write_op.ensures.err) wide in
     wide_fits a w q2 wide2 c.laws.ensures.few c.laws-2.ensures.few (finmap.get c.remove.new.self) back c.self-in-Err-write_op-1.given.0 c.reach.new.marks.homes c.reach.ensures.nodes
 
 pub returns-in-Err-write_op-clause-err : goal.returns-in-Err-write_op-clause-err
@@ -126,11 +126,11 @@ returns-in-Err-write_op-clause-err c =
     let none = no_key a w c.args.op (ap (known c.args.op) c.self.view_is ∙ c.requires) in
     let k = c.in-Ok-Some.found.slot in
     let v = c.in-Ok-Some.found.draft in
-    let grown = some_told (λ p. Grown 0 q c.args.op c.args.header.now p.slot p.draft) c.in-Ok-Some.field-0 c.in-Ok-Some.found c.in-Ok-Some.field-0-is c.in-Ok-Some.ensures in
+    let grown = some_reported (λ p. Grown 0 q c.args.op c.args.header.now p.slot p.draft) c.in-Ok-Some.field-0 c.in-Ok-Some.found c.in-Ok-Some.field-0-is c.in-Ok-Some.ensures in
     let ready = grown.ready (keys_in a) none in
     let back = key_back a.keys c.insert.new.self c.remove.new.self c.args.op c.number.result c.number-in-Err-write_op.result k c.number.ensures c.number-in-Err-write_op.ensures c.in-Ok-insert.ensures.inserted c.remove.ensures none in
-    let q2 = record q { rows = c.write_op.new.self } in
-    let wide2 : Wider q q2 = subst (λ z. Wider q (record q { rows = z })) (sym c.in-Err-write_op.ensures.err) wide in
+    let q2 = record q { slots = c.write_op.new.self } in
+    let wide2 : Wider q q2 = subst (λ z. Wider q (record q { slots = z })) (sym c.in-Err-write_op.ensures.err) wide in
     wide_done a w q2 wide2 c.laws.ensures.few c.laws-2.ensures.few (finmap.get c.remove.new.self) back c.self-in-Err-write_op-1.given.0 c.self-in-Err-write_op-1.given.1.0 c.self-in-Err-write_op-1.given.1.1.0 ∙ c.self.view_is
 
 pub link_slot-requires : goal.link_slot-requires
@@ -142,9 +142,9 @@ link_slot-requires c =
     let none = no_key a w c.args.op (ap (known c.args.op) c.self.view_is ∙ c.requires) in
     let k = c.in-Ok-Some.found.slot in
     let v = c.in-Ok-Some.found.draft in
-    let grown = some_told (λ p. Grown 0 q c.args.op c.args.header.now p.slot p.draft) c.in-Ok-Some.field-0 c.in-Ok-Some.found c.in-Ok-Some.field-0-is c.in-Ok-Some.ensures in
+    let grown = some_reported (λ p. Grown 0 q c.args.op c.args.header.now p.slot p.draft) c.in-Ok-Some.field-0 c.in-Ok-Some.found c.in-Ok-Some.field-0-is c.in-Ok-Some.ensures in
     let ready = grown.ready (keys_in a) none in
-    let there = grow_there k q.rows c.reach.new.marks.homes c.len.result ready.inside (omega (arith, c.len.ensures)) c.in-Ok.ensures.there in
+    let there = grow_there k q.slots c.reach.new.marks.homes c.len.result ready.inside (omega (arith, c.len.ensures)) c.in-Ok.ensures.there in
     grow_can_mark a w q wide c.laws.ensures.few c.laws-2.ensures.few c.reach.new.marks.homes c.reach.ensures.nodes k there
 
 pub invariant_of-self-inside-2 : goal.invariant_of-self-inside-2
@@ -156,17 +156,17 @@ invariant_of-self-inside-2 c =
     let none = no_key a w c.args.op (ap (known c.args.op) c.self.view_is ∙ c.requires) in
     let k = c.in-Ok-Some.found.slot in
     let v = c.in-Ok-Some.found.draft in
-    let grown = some_told (λ p. Grown 0 q c.args.op c.args.header.now p.slot p.draft) c.in-Ok-Some.field-0 c.in-Ok-Some.found c.in-Ok-Some.field-0-is c.in-Ok-Some.ensures in
+    let grown = some_reported (λ p. Grown 0 q c.args.op c.args.header.now p.slot p.draft) c.in-Ok-Some.field-0 c.in-Ok-Some.found c.in-Ok-Some.field-0-is c.in-Ok-Some.ensures in
     let ready = grown.ready (keys_in a) none in
     let look : (y : ℕ) → finmap.get c.insert.new.self y ≡ cond (eqb c.args.op y) (Some k) (keys_in a y) = key_put a.keys c.insert.new.self c.args.op c.number.result k c.number.ensures c.in-Ok-insert.ensures.inserted in
     let here = look c.args.op ∙ cond-true (eqb c.args.op c.args.op) (Some k) (keys_in a c.args.op) (eq-eqb c.args.op c.args.op refl) in
     let others : (y : ℕ) → (y ≡ c.args.op → ⊥) → finmap.get c.insert.new.self y ≡ keys_in a y = λ y ne. look y ∙ cond-false (eqb c.args.op y) (Some k) (keys_in a y) (ne_eqb c.args.op y (λ e. ne (sym e))) in
-    let rows' = c.take_spare-self-inside.new.rows in
-    let er : rows' ≡ slice_set q.rows k v = c.take_spare-self-inside.ensures ∙ c.in-Ok-write_op.ensures.ok in
-    let long' = put_long q.rows rows' k v er in
-    let same : (y : ℕ) → (y ≡ k → ⊥) → row_at rows' y ≡ row_at q.rows y = put_other q.rows rows' k v er in
-    let own = put_own q.rows rows' k v er ready.inside in
-    grow_given a w q wide c.laws.ensures.few c.laws-2.ensures.few c.args.op c.args.header.now k v none 0 grown (spare_apart a w q wide c.laws.ensures.few c.laws-2.ensures.few 0 k c.args.op v ready) (finmap.get c.insert.new.self) here others rows' long' same own
+    let slots' = c.take_spare-self-inside.new.slots in
+    let er : slots' ≡ slice_set q.slots k v = c.take_spare-self-inside.ensures ∙ c.in-Ok-write_op.ensures.ok in
+    let long' = put_long q.slots slots' k v er in
+    let same : (y : ℕ) → (y ≡ k → ⊥) → row_at slots' y ≡ row_at q.slots y = put_other q.slots slots' k v er in
+    let own = put_own q.slots slots' k v er ready.inside in
+    grow_given a w q wide c.laws.ensures.few c.laws-2.ensures.few c.args.op c.args.header.now k v none 0 grown (spare_apart a w q wide c.laws.ensures.few c.laws-2.ensures.few 0 k c.args.op v ready) (finmap.get c.insert.new.self) here others slots' long' same own
 
 pub invariant_of-self-2 : goal.invariant_of-self-2
 invariant_of-self-2 c =
@@ -177,18 +177,18 @@ invariant_of-self-2 c =
     let none = no_key a w c.args.op (ap (known c.args.op) c.self.view_is ∙ c.requires) in
     let k = c.in-Ok-Some.found.slot in
     let v = c.in-Ok-Some.found.draft in
-    let grown = some_told (λ p. Grown 0 q c.args.op c.args.header.now p.slot p.draft) c.in-Ok-Some.field-0 c.in-Ok-Some.found c.in-Ok-Some.field-0-is c.in-Ok-Some.ensures in
+    let grown = some_reported (λ p. Grown 0 q c.args.op c.args.header.now p.slot p.draft) c.in-Ok-Some.field-0 c.in-Ok-Some.found c.in-Ok-Some.field-0-is c.in-Ok-Some.ensures in
     let ready = grown.ready (keys_in a) none in
     let look : (y : ℕ) → finmap.get c.insert.new.self y ≡ cond (eqb c.args.op y) (Some k) (keys_in a y) = key_put a.keys c.insert.new.self c.args.op c.number.result k c.number.ensures c.in-Ok-insert.ensures.inserted in
     let here = look c.args.op ∙ cond-true (eqb c.args.op c.args.op) (Some k) (keys_in a c.args.op) (eq-eqb c.args.op c.args.op refl) in
     let others : (y : ℕ) → (y ≡ c.args.op → ⊥) → finmap.get c.insert.new.self y ≡ keys_in a y = λ y ne. look y ∙ cond-false (eqb c.args.op y) (Some k) (keys_in a y) (ne_eqb c.args.op y (λ e. ne (sym e))) in
-    let rows' = c.take_spare-self-inside.new.rows in
-    let er : rows' ≡ slice_set q.rows k v = c.take_spare-self-inside.ensures ∙ c.in-Ok-write_op.ensures.ok in
-    let long' = put_long q.rows rows' k v er in
-    let same : (y : ℕ) → (y ≡ k → ⊥) → row_at rows' y ≡ row_at q.rows y = put_other q.rows rows' k v er in
-    let own = put_own q.rows rows' k v er ready.inside in
-    let there = grow_there k q.rows c.reach.new.marks.homes c.len.result ready.inside (omega (arith, c.len.ensures)) c.in-Ok.ensures.there in
-    grow_fits a w q wide c.laws.ensures.few c.laws-2.ensures.few c.args.op c.args.header.now k v none 0 grown (spare_apart a w q wide c.laws.ensures.few c.laws-2.ensures.few 0 k c.args.op v ready) (finmap.get c.insert.new.self) here others rows' long' same own c.self-2-1.given.0 c.reach.new.marks.homes c.link_slot.new.marks.homes c.reach.ensures.nodes there c.link_slot.ensures
+    let slots' = c.take_spare-self-inside.new.slots in
+    let er : slots' ≡ slice_set q.slots k v = c.take_spare-self-inside.ensures ∙ c.in-Ok-write_op.ensures.ok in
+    let long' = put_long q.slots slots' k v er in
+    let same : (y : ℕ) → (y ≡ k → ⊥) → row_at slots' y ≡ row_at q.slots y = put_other q.slots slots' k v er in
+    let own = put_own q.slots slots' k v er ready.inside in
+    let there = grow_there k q.slots c.reach.new.marks.homes c.len.result ready.inside (omega (arith, c.len.ensures)) c.in-Ok.ensures.there in
+    grow_fits a w q wide c.laws.ensures.few c.laws-2.ensures.few c.args.op c.args.header.now k v none 0 grown (spare_apart a w q wide c.laws.ensures.few c.laws-2.ensures.few 0 k c.args.op v ready) (finmap.get c.insert.new.self) here others slots' long' same own c.self-2-1.given.0 c.reach.new.marks.homes c.link_slot.new.marks.homes c.reach.ensures.nodes there c.link_slot.ensures
 
 pub returns-clause-ok : goal.returns-clause-ok
 returns-clause-ok c =
@@ -199,15 +199,15 @@ returns-clause-ok c =
     let none = no_key a w c.args.op (ap (known c.args.op) c.self.view_is ∙ c.requires) in
     let k = c.in-Ok-Some.found.slot in
     let v = c.in-Ok-Some.found.draft in
-    let grown = some_told (λ p. Grown 0 q c.args.op c.args.header.now p.slot p.draft) c.in-Ok-Some.field-0 c.in-Ok-Some.found c.in-Ok-Some.field-0-is c.in-Ok-Some.ensures in
+    let grown = some_reported (λ p. Grown 0 q c.args.op c.args.header.now p.slot p.draft) c.in-Ok-Some.field-0 c.in-Ok-Some.found c.in-Ok-Some.field-0-is c.in-Ok-Some.ensures in
     let ready = grown.ready (keys_in a) none in
     let look : (y : ℕ) → finmap.get c.insert.new.self y ≡ cond (eqb c.args.op y) (Some k) (keys_in a y) = key_put a.keys c.insert.new.self c.args.op c.number.result k c.number.ensures c.in-Ok-insert.ensures.inserted in
     let here = look c.args.op ∙ cond-true (eqb c.args.op c.args.op) (Some k) (keys_in a c.args.op) (eq-eqb c.args.op c.args.op refl) in
     let others : (y : ℕ) → (y ≡ c.args.op → ⊥) → finmap.get c.insert.new.self y ≡ keys_in a y = λ y ne. look y ∙ cond-false (eqb c.args.op y) (Some k) (keys_in a y) (ne_eqb c.args.op y (λ e. ne (sym e))) in
-    let rows' = c.take_spare-self-inside.new.rows in
-    let er : rows' ≡ slice_set q.rows k v = c.take_spare-self-inside.ensures ∙ c.in-Ok-write_op.ensures.ok in
-    let long' = put_long q.rows rows' k v er in
-    let same : (y : ℕ) → (y ≡ k → ⊥) → row_at rows' y ≡ row_at q.rows y = put_other q.rows rows' k v er in
-    let own = put_own q.rows rows' k v er ready.inside in
-    grow_done a w q wide c.laws.ensures.few c.laws-2.ensures.few c.args.op c.args.header.now k v none 0 grown (spare_apart a w q wide c.laws.ensures.few c.laws-2.ensures.few 0 k c.args.op v ready) (finmap.get c.insert.new.self) here others rows' long' same own c.self-2-1.given.0 c.self-2-1.given.1.0 c.self-2-1.given.1.1.0
+    let slots' = c.take_spare-self-inside.new.slots in
+    let er : slots' ≡ slice_set q.slots k v = c.take_spare-self-inside.ensures ∙ c.in-Ok-write_op.ensures.ok in
+    let long' = put_long q.slots slots' k v er in
+    let same : (y : ℕ) → (y ≡ k → ⊥) → row_at slots' y ≡ row_at q.slots y = put_other q.slots slots' k v er in
+    let own = put_own q.slots slots' k v er ready.inside in
+    grow_done a w q wide c.laws.ensures.few c.laws-2.ensures.few c.args.op c.args.header.now k v none 0 grown (spare_apart a w q wide c.laws.ensures.few c.laws-2.ensures.few 0 k c.args.op v ready) (finmap.get c.insert.new.self) here others slots' long' same own c.self-2-1.given.0 c.self-2-1.given.1.0 c.self-2-1.given.1.1.0
     ∙ ap (after_grow c.args.op c.args.header.now) c.self.view_is

@@ -21,8 +21,8 @@ op_keeps-requires-clause-there c =
     let a = c.self.inside in
     sym (ap is_some c.in-Some.ensures ∙ in_tree_is (rows_in a) (keys_in a) a.sibs a.root a.represented.0 c.self.invariant.right a.represented.1 c.args.op ∙ ap (λ s. has_id c.args.op s.module_of.tree) c.self.view_is)
 
-pub op_keeps-requires-clause-rows : goal.op_keeps-requires-clause-rows
-op_keeps-requires-clause-rows c = let a = c.self.inside in heads_of (rows_in a) (keys_in a) a.sibs a.root a.represented.0 c.self.invariant.right
+pub op_keeps-requires-clause-slots : goal.op_keeps-requires-clause-slots
+op_keeps-requires-clause-slots c = let a = c.self.inside in heads_of (rows_in a) (keys_in a) a.sibs a.root a.represented.0 c.self.invariant.right
 
 pub op_keeps-requires-clause-values : goal.op_keeps-requires-clause-values
 op_keeps-requires-clause-values c = find_values c.self.inside c.self.invariant

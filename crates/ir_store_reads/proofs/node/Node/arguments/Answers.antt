@@ -9,5 +9,5 @@ pub returns : goal.returns
 returns c =
     c.block_arguments.ensures
     ∙ ap (λ z. option_and_then shape_arguments (slice_get z c.args.region)) c.areas.ensures
-    ∙ node_arguments (row_at c.self.inside.rows.now c.self.inside.slot).shapes c.args.region
+    ∙ node_arguments (row_at c.self.inside.slots.now c.self.inside.slot).shapes c.args.region
     ∙ ap (λ (z : Node). option_and_then {T = Option (List ℕ)} (λ a. a) (slice_get z.arguments c.args.region)) c.self.view_is

@@ -8,18 +8,18 @@ pub invariant_of-self : goal.invariant_of-self
 invariant_of-self c =
     let a = c.self.inside in
     let item = subst (IsNode a.uses.now.homes) c.in-Some.is c.self.invariant in
-    next_node a.rows.now (cells_of a.cells.now.items) a.uses.now c.laws.ensures c.in-Some.node item c.next-self-inside.result c.next-self-inside.ensures
+    next_node a.slots.now (cells_of a.cells.now.items) a.uses.now c.laws.ensures c.in-Some.node item c.next-self-inside.result c.next-self-inside.ensures
 
 pub returns-clause-steps : goal.returns-clause-steps
 returns-clause-steps c =
     let a = c.self.inside in
-    let rows = a.rows.now in
+    let slots = a.slots.now in
     let cells = cells_of a.cells.now.items in
     let item = subst (IsNode a.uses.now.homes) c.in-Some.is c.self.invariant in
     sym c.self.view_is
-    ∙ ap (uses_left rows cells a.uses.now) c.in-Some.is
-    ∙ next_left rows cells a.uses.now c.laws.ensures c.in-Some.node item c.next-self-inside.result c.next-self-inside.ensures
-    ∙ ap (λ u. u ∷ uses_left rows cells a.uses.now c.next-self-inside.result) (sym c.user_at.ensures)
+    ∙ ap (uses_left slots cells a.uses.now) c.in-Some.is
+    ∙ next_left slots cells a.uses.now c.laws.ensures c.in-Some.node item c.next-self-inside.result c.next-self-inside.ensures
+    ∙ ap (λ u. u ∷ uses_left slots cells a.uses.now c.next-self-inside.result) (sym c.user_at.ensures)
 
 pub returns-clause-goes : goal.returns-clause-goes
 returns-clause-goes c = record { on = λ _. (tt, tt, omega (arith, ap length (returns-clause-steps c))); keeps = tt; rests = λ _. tt }

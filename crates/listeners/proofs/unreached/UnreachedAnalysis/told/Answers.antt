@@ -11,7 +11,7 @@ returns-in-Ok c =
     let w = c.args.view.world.now in
     record {
       notified = record {
-        told = record {
+        reported = record {
           same = record { kind = refl; analysis = λ t. refl; most = λ e m n. refl };
           agrees = λ m step shows held. inl (held.0, step.after.distinct, followed_is_kept w.ctx c.args.event m (module_in w) (subst IsSound c.context.ensures c.sound.ensures) step (kept_at c.args.self.now.roles) (kept_at c.follow.new.roles) held.2 c.in-Ok.ensures.followed);
           stale = λ h. h;
@@ -25,7 +25,7 @@ returns-in-Ok c =
 pub returns-in-Err : goal.returns-in-Err
 returns-in-Err c = record {
   notified = record {
-    told = record {
+    reported = record {
       same = record { kind = refl; analysis = λ t. refl; most = λ e m n. refl };
       agrees = λ m step shows held. inr refl;
       stale = λ h. refl;

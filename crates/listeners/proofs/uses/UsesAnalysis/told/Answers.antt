@@ -6,7 +6,7 @@ pub returns-else-not-follow-clause-notified : goal.returns-else-not-follow-claus
 returns-else-not-follow-clause-notified c =
     let w = c.args.view.world.now in
     record {
-      told = record {
+      reported = record {
         same = record { kind = refl; analysis = λ t. refl; most = λ e m n. refl };
         agrees = λ m step shows held. inl (held.0, followed_agrees w.ctx c.args.event w.store m _ _ step shows c.if-not-follow.ensures.followed held.1);
         stale = λ h. h;

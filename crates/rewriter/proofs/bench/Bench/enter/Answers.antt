@@ -7,25 +7,25 @@ use Rattle.rewriter.specs.Edits.{part_for}
 use Rattle.rewriter.specs.RewriterCalls.{Made}
 use Rattle.rewriter.specs.Held.{TransactionModel}
 use Rattle.rewriter.proofs.Noted.{made_ctx, made_journaled, recorded_left}
-use Rattle.rewriter.proofs.Notified.{made_told, made_led, led_left}
+use Rattle.rewriter.proofs.Notified.{made_notified, made_led, led_left}
 use Rattle.rewriter.proofs.bench.Bench.enter.Goals as goal
 
 pub returns-in-Ok-clause-ok : goal.returns-in-Ok-clause-ok
 returns-in-Ok-clause-ok g c =
     let there : c.part_for-part.result ≡ part_for (tests_in c.self.inside.transaction.ctx) c.args.op c.args.key c.self.inside.transaction.store.module_of.tree = search rules in
-    rw (← c.self.view_is) (subst (λ (p : Part). Made g.L.Analysis.meaning (after_entry (key_before_in c.self.inside.transaction.ctx) c.args.op p c.args.key c.args.value c.self.inside.transaction.store) (record { transaction = c.self.inside.transaction; listeners = c.self.inside.panel }) (record { transaction = c.settle.new.transaction; listeners = c.tell.new.self })) there (made_told g.L.Analysis.meaning _ _ _ _ _ c.world.result.now _ _ c.in-Ok.ensures.ok c.world.ensures.ctx c.world.ensures.store c.tell.ensures c.settle.ensures))
+    rw (← c.self.view_is) (subst (λ (p : Part). Made g.L.Analysis.meaning (after_entry (key_before_in c.self.inside.transaction.ctx) c.args.op p c.args.key c.args.value c.self.inside.transaction.store) (record { transaction = c.self.inside.transaction; listeners = c.self.inside.panel }) (record { transaction = c.settle.new.transaction; listeners = c.tell.new.self })) there (made_notified g.L.Analysis.meaning _ _ _ _ _ c.world.result.now _ _ c.in-Ok.ensures.ok c.world.ensures.ctx c.world.ensures.store c.tell.ensures c.settle.ensures))
 
 pub returns-in-Ok-clause-led : goal.returns-in-Ok-clause-led
-returns-in-Ok-clause-led g c = rw (← c.self.view_is) (made_led g.L.Analysis.meaning _ _ _ (made_told g.L.Analysis.meaning _ _ _ _ _ c.world.result.now _ _ c.in-Ok.ensures.ok c.world.ensures.ctx c.world.ensures.store c.tell.ensures c.settle.ensures))
+returns-in-Ok-clause-led g c = rw (← c.self.view_is) (made_led g.L.Analysis.meaning _ _ _ (made_notified g.L.Analysis.meaning _ _ _ _ _ c.world.result.now _ _ c.in-Ok.ensures.ok c.world.ensures.ctx c.world.ensures.store c.tell.ensures c.settle.ensures))
 
 pub returns-in-Err-clause-led : goal.returns-in-Err-clause-led
 returns-in-Err-clause-led g c = rw (← c.self.view_is) (led_left g.L.Analysis.meaning _ _ _ c.in-Err.ensures.err)
 
 pub returns-in-Ok-clause-ctx : goal.returns-in-Ok-clause-ctx
-returns-in-Ok-clause-ctx g c = rw (← c.self.view_is) (made_ctx g.L.Analysis.meaning _ _ _ (made_told g.L.Analysis.meaning _ _ _ _ _ c.world.result.now _ _ c.in-Ok.ensures.ok c.world.ensures.ctx c.world.ensures.store c.tell.ensures c.settle.ensures))
+returns-in-Ok-clause-ctx g c = rw (← c.self.view_is) (made_ctx g.L.Analysis.meaning _ _ _ (made_notified g.L.Analysis.meaning _ _ _ _ _ c.world.result.now _ _ c.in-Ok.ensures.ok c.world.ensures.ctx c.world.ensures.store c.tell.ensures c.settle.ensures))
 
 pub returns-in-Ok-clause-journal : goal.returns-in-Ok-clause-journal
-returns-in-Ok-clause-journal g c = rw (← c.self.view_is) (made_journaled g.L.Analysis.meaning _ _ _ (made_told g.L.Analysis.meaning _ _ _ _ _ c.world.result.now _ _ c.in-Ok.ensures.ok c.world.ensures.ctx c.world.ensures.store c.tell.ensures c.settle.ensures))
+returns-in-Ok-clause-journal g c = rw (← c.self.view_is) (made_journaled g.L.Analysis.meaning _ _ _ (made_notified g.L.Analysis.meaning _ _ _ _ _ c.world.result.now _ _ c.in-Ok.ensures.ok c.world.ensures.ctx c.world.ensures.store c.tell.ensures c.settle.ensures))
 
 pub returns-in-Err-clause-ctx : goal.returns-in-Err-clause-ctx
 returns-in-Err-clause-ctx g c = rw (← c.self.view_is) (ap (λ (h : TransactionModel). h.ctx) c.in-Err.ensures.err)

@@ -1,17 +1,17 @@
 use Rattle.std.proofs.Common.{[]}
-use Rattle.rewriter.proofs.Rolled.{dropped_undone, given_settled, rollback_goes, rollback_led, rollback_told, rollback_none}
+use Rattle.rewriter.proofs.Rolled.{dropped_undone, given_settled, rollback_goes, rollback_led, rollback_notified, rollback_none}
 use Rattle.rewriter.proofs.Notified.{notified_none}
 use Rattle.rewriter.proofs.ContextLaws.{rollback_ctx}
 use Rattle.rewriter.proofs.bench.Bench.rollback.Goals as goal
 
 pub returns-clause-does : goal.returns-clause-does
-returns-clause-does g c = rw (← c.self.view_is) (rollback_goes g.L.Analysis.meaning _ _ _ _ _ _ _ c.in-Some.ensures.some c.undo_to.ensures.undone c.close.ensures c.give_up.ensures c.undo_to.ensures.told)
+returns-clause-does g c = rw (← c.self.view_is) (rollback_goes g.L.Analysis.meaning _ _ _ _ _ _ _ c.in-Some.ensures.some c.undo_to.ensures.undone c.close.ensures c.give_up.ensures c.undo_to.ensures.reported)
 
-pub returns-clause-told : goal.returns-clause-told
-returns-clause-told g c = rw (← c.self.view_is) (rollback_told g.L.Analysis.meaning _ _ _ _ _ _ _ c.in-Some.ensures.some c.undo_to.ensures.undone c.close.ensures c.give_up.ensures c.undo_to.ensures.told)
+pub returns-clause-reported : goal.returns-clause-reported
+returns-clause-reported g c = rw (← c.self.view_is) (rollback_notified g.L.Analysis.meaning _ _ _ _ _ _ _ c.in-Some.ensures.some c.undo_to.ensures.undone c.close.ensures c.give_up.ensures c.undo_to.ensures.reported)
 
 pub returns-clause-led : goal.returns-clause-led
-returns-clause-led g c = rw (← c.self.view_is) (rollback_led g.L.Analysis.meaning _ _ _ _ _ _ _ c.in-Some.ensures.some c.undo_to.ensures.undone c.close.ensures c.give_up.ensures c.undo_to.ensures.told)
+returns-clause-led g c = rw (← c.self.view_is) (rollback_led g.L.Analysis.meaning _ _ _ _ _ _ _ c.in-Some.ensures.some c.undo_to.ensures.undone c.close.ensures c.give_up.ensures c.undo_to.ensures.reported)
 
 pub returns-in_default-clause-led : goal.returns-in_default-clause-led
 returns-in_default-clause-led g c = ([], notified_none g.L.Analysis.meaning _)

@@ -3,29 +3,29 @@ use Rattle.rewriter.specs.Edits as edit
 use Rattle.rewriter.proofs.Going.{edit_goes, refused_marked}
 use Rattle.rewriter.specs.Held.{TransactionModel}
 use Rattle.rewriter.proofs.Noted.{made_ctx, made_journaled, recorded_left}
-use Rattle.rewriter.proofs.Notified.{made_told, made_led, led_left}
+use Rattle.rewriter.proofs.Notified.{made_notified, made_led, led_left}
 use Rattle.rewriter.proofs.bench.Bench.set_operand.Goals as goal
 
 pub returns-in-Ok-clause-ok : goal.returns-in-Ok-clause-ok
-returns-in-Ok-clause-ok g c = rw (← c.self.view_is) (made_told g.L.Analysis.meaning _ _ _ _ _ c.world.result.now _ _ c.in-Ok.ensures.ok c.world.ensures.ctx c.world.ensures.store c.tell.ensures c.settle.ensures)
+returns-in-Ok-clause-ok g c = rw (← c.self.view_is) (made_notified g.L.Analysis.meaning _ _ _ _ _ c.world.result.now _ _ c.in-Ok.ensures.ok c.world.ensures.ctx c.world.ensures.store c.tell.ensures c.settle.ensures)
 
 pub returns-in-Ok-clause-led : goal.returns-in-Ok-clause-led
-returns-in-Ok-clause-led g c = rw (← c.self.view_is) (made_led g.L.Analysis.meaning _ _ _ (made_told g.L.Analysis.meaning _ _ _ _ _ c.world.result.now _ _ c.in-Ok.ensures.ok c.world.ensures.ctx c.world.ensures.store c.tell.ensures c.settle.ensures))
+returns-in-Ok-clause-led g c = rw (← c.self.view_is) (made_led g.L.Analysis.meaning _ _ _ (made_notified g.L.Analysis.meaning _ _ _ _ _ c.world.result.now _ _ c.in-Ok.ensures.ok c.world.ensures.ctx c.world.ensures.store c.tell.ensures c.settle.ensures))
 
 pub returns-in-Err-clause-led : goal.returns-in-Err-clause-led
 returns-in-Err-clause-led g c = rw (← c.self.view_is) (led_left g.L.Analysis.meaning _ _ _ c.in-Err.ensures.err)
 
 pub returns-in-Ok-clause-does : goal.returns-in-Ok-clause-does
-returns-in-Ok-clause-does g c = rw (← c.self.view_is) (edit_goes g.L.Analysis.meaning (edit.SetOperand c.args.op c.args.k c.args.value) _ _ _ _ refl c.in-Ok.ensures.refused refl (made_told g.L.Analysis.meaning _ _ _ _ _ c.world.result.now _ _ c.in-Ok.ensures.ok c.world.ensures.ctx c.world.ensures.store c.tell.ensures c.settle.ensures))
+returns-in-Ok-clause-does g c = rw (← c.self.view_is) (edit_goes g.L.Analysis.meaning (edit.SetOperand c.args.op c.args.k c.args.value) _ _ _ _ refl c.in-Ok.ensures.refused refl (made_notified g.L.Analysis.meaning _ _ _ _ _ c.world.result.now _ _ c.in-Ok.ensures.ok c.world.ensures.ctx c.world.ensures.store c.tell.ensures c.settle.ensures))
 
 pub returns-in-Err-clause-does : goal.returns-in-Err-clause-does
 returns-in-Err-clause-does g c = rw (← c.self.view_is) (refused_marked g.L.Analysis.meaning (edit.SetOperand c.args.op c.args.k c.args.value) _ _ _ _ c.in-Err.ensures.refused c.in-Err.ensures.err)
 
 pub returns-in-Ok-clause-ctx : goal.returns-in-Ok-clause-ctx
-returns-in-Ok-clause-ctx g c = rw (← c.self.view_is) (made_ctx g.L.Analysis.meaning _ _ _ (made_told g.L.Analysis.meaning _ _ _ _ _ c.world.result.now _ _ c.in-Ok.ensures.ok c.world.ensures.ctx c.world.ensures.store c.tell.ensures c.settle.ensures))
+returns-in-Ok-clause-ctx g c = rw (← c.self.view_is) (made_ctx g.L.Analysis.meaning _ _ _ (made_notified g.L.Analysis.meaning _ _ _ _ _ c.world.result.now _ _ c.in-Ok.ensures.ok c.world.ensures.ctx c.world.ensures.store c.tell.ensures c.settle.ensures))
 
 pub returns-in-Ok-clause-journal : goal.returns-in-Ok-clause-journal
-returns-in-Ok-clause-journal g c = rw (← c.self.view_is) (made_journaled g.L.Analysis.meaning _ _ _ (made_told g.L.Analysis.meaning _ _ _ _ _ c.world.result.now _ _ c.in-Ok.ensures.ok c.world.ensures.ctx c.world.ensures.store c.tell.ensures c.settle.ensures))
+returns-in-Ok-clause-journal g c = rw (← c.self.view_is) (made_journaled g.L.Analysis.meaning _ _ _ (made_notified g.L.Analysis.meaning _ _ _ _ _ c.world.result.now _ _ c.in-Ok.ensures.ok c.world.ensures.ctx c.world.ensures.store c.tell.ensures c.settle.ensures))
 
 pub returns-in-Err-clause-ctx : goal.returns-in-Err-clause-ctx
 returns-in-Err-clause-ctx g c = rw (← c.self.view_is) (ap (λ (h : TransactionModel). h.ctx) c.in-Err.ensures.err)

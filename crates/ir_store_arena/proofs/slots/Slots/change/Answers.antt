@@ -8,15 +8,15 @@ use Rattle.ir_store_arena.specs.Gone.{none_gone}
 use Rattle.ir_store_arena.specs.Rows.{Row, row_at, row_with_operand, row_with_entry, slots_in, vacated}
 use Rattle.ir_store_arena.specs.Slots.{Slots, with_change, NeedsNoSlot}
 use Rattle.ir_store_arena.specs.trees.Meaning.{key_before_in, rises}
-use Rattle.ir_store_arena.proofs.Keys.{swaps_none, add_take, give_swaps, give_told, spare_swaps, row_inside, operand_inside, row_stands, old_row, entry_told, slots_told, written_sound, written_rows, in_both, where_ok, where_err, kept_rows, popped_sound, popped_is}
-use Rattle.ir_store_arena.proofs.rows.Slots.change.Goals as goal
+use Rattle.ir_store_arena.proofs.Keys.{swaps_none, add_take, give_swaps, give_reported, spare_swaps, row_inside, operand_inside, row_stands, old_row, entry_reported, slots_reported, written_sound, written_rows, in_both, where_ok, where_err, kept_rows, popped_sound, popped_is}
+use Rattle.ir_store_arena.proofs.slots.Slots.change.Goals as goal
 
 pub change-requires-clause-there : goal.change-requires-clause-there
 change-requires-clause-there c =
     let s = c.self.inside.registry in
-    let rows = c.self.inside.rows.items in
-    let l = row_inside s rows c.args.self.now c.args.slot c.self.view_is c.requires.inside in
-    row_stands s rows c.self.invariant c.args.slot c.index_mut-row.result.now l c.index_mut-row.ensures.value
+    let slots = c.self.inside.slots.items in
+    let l = row_inside s slots c.args.self.now c.args.slot c.self.view_is c.requires.inside in
+    row_stands s slots c.self.invariant c.args.slot c.index_mut-row.result.now l c.index_mut-row.ensures.value
 
 pub invariant_of-self : goal.invariant_of-self
 invariant_of-self c =
@@ -24,15 +24,15 @@ invariant_of-self c =
     let m = record n { held = c.change.new.held } in
     let s = c.self.inside.registry in
     let t = c.change.new.self in
-    let rows = c.self.inside.rows.items in
+    let slots = c.self.inside.slots.items in
     let k = c.args.slot in
     let was = contents_at s n.held in
     let will = with_dictionary c.args.part (with_change (key_before_in c.args.ctx.now) c.args.key c.args.value (dictionary_in c.args.part was)) was in
-    let l = row_inside s rows c.args.self.now k c.self.view_is c.requires.inside in
+    let l = row_inside s slots c.args.self.now k c.self.view_is c.requires.inside in
     let is = c.index_mut-row.ensures.value in
     in_both c.change.result (Swaps s t n.held m.held will) (Swaps s t n.held m.held was) _ c.change.ensures.swaps
-    (λ w. written_sound s t rows c.self.invariant k n m l is will w)
-    (λ w. written_sound s t rows c.self.invariant k n m l is was w)
+    (λ w. written_sound s t slots c.self.invariant k n m l is will w)
+    (λ w. written_sound s t slots c.self.invariant k n m l is was w)
 
 pub returns-clause-ok : goal.returns-clause-ok
 returns-clause-ok c =
@@ -40,17 +40,17 @@ returns-clause-ok c =
     let m = record n { held = c.change.new.held } in
     let s = c.self.inside.registry in
     let t = c.change.new.self in
-    let rows = c.self.inside.rows.items in
+    let slots = c.self.inside.slots.items in
     let old = c.args.self.now in
     let k = c.args.slot in
     let before = key_before_in c.args.ctx.now in
     let was = contents_at s n.held in
     let will = with_dictionary c.args.part (with_change before c.args.key c.args.value (dictionary_in c.args.part was)) was in
-    let l = row_inside s rows old k c.self.view_is c.requires.inside in
+    let l = row_inside s slots old k c.self.view_is c.requires.inside in
     let is = c.index_mut-row.ensures.value in
     where_ok c.change.result (Swaps s t n.held m.held will) (Swaps s t n.held m.held was) _ c.change.ensures.swaps
-    (λ w. written_rows s t rows c.self.invariant k n m l is will w old c.self.view_is (row_with_entry before c.args.part c.args.key c.args.value (row_at old k))
-    (entry_told m before c.args.part c.args.key c.args.value was ∙ ap (row_with_entry before c.args.part c.args.key c.args.value) (sym (old_row s rows old k n c.self.view_is l is))))
+    (λ w. written_rows s t slots c.self.invariant k n m l is will w old c.self.view_is (row_with_entry before c.args.part c.args.key c.args.value (row_at old k))
+    (entry_reported m before c.args.part c.args.key c.args.value was ∙ ap (row_with_entry before c.args.part c.args.key c.args.value) (sym (old_row s slots old k n c.self.view_is l is))))
 
 pub returns-clause-err : goal.returns-clause-err
 returns-clause-err c =
@@ -58,27 +58,27 @@ returns-clause-err c =
     let m = record n { held = c.change.new.held } in
     let s = c.self.inside.registry in
     let t = c.change.new.self in
-    let rows = c.self.inside.rows.items in
+    let slots = c.self.inside.slots.items in
     let old = c.args.self.now in
     let k = c.args.slot in
     let was = contents_at s n.held in
     let will = with_dictionary c.args.part (with_change (key_before_in c.args.ctx.now) c.args.key c.args.value (dictionary_in c.args.part was)) was in
-    let l = row_inside s rows old k c.self.view_is c.requires.inside in
+    let l = row_inside s slots old k c.self.view_is c.requires.inside in
     let is = c.index_mut-row.ensures.value in
     where_err c.change.result (Swaps s t n.held m.held will) (Swaps s t n.held m.held was) _ c.change.ensures.swaps
-    (λ w. written_rows s t rows c.self.invariant k n m l is was w old c.self.view_is (row_at old k) (sym (old_row s rows old k n c.self.view_is l is)) ∙ set-get_or old k no_row)
+    (λ w. written_rows s t slots c.self.invariant k n m l is was w old c.self.view_is (row_at old k) (sym (old_row s slots old k n c.self.view_is l is)) ∙ set-get_or old k no_row)
 
 pub returns-clause-slot : goal.returns-clause-slot
 returns-clause-slot c sorted wants =
     let n = c.index_mut-row.result.now in
     let s = c.self.inside.registry in
-    let rows = c.self.inside.rows.items in
+    let slots = c.self.inside.slots.items in
     let old = c.args.self.now in
     let k = c.args.slot in
     let part = c.args.part in
     let before = key_before_in c.args.ctx.now in
-    let l = row_inside s rows old k c.self.view_is c.requires.inside in
-    let e : slots_in part (row_at old k) ≡ dictionary_in part (contents_at s n.held) = ap (slots_in part) (old_row s rows old k n c.self.view_is l c.index_mut-row.ensures.value) ∙ slots_told n part (contents_at s n.held) in
+    let l = row_inside s slots old k c.self.view_is c.requires.inside in
+    let e : slots_in part (row_at old k) ≡ dictionary_in part (contents_at s n.held) = ap (slots_in part) (old_row s slots old k n c.self.view_is l c.index_mut-row.ensures.value) ∙ slots_reported n part (contents_at s n.held) in
     c.change.ensures.slot
     (subst (λ z. rises before z.present ≡ true) e sorted)
     (subst (NeedsNoSlot c.args.key c.args.value) e wants)

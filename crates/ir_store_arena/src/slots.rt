@@ -24,7 +24,7 @@ use std::marker::Model;
 /// Slots: operations of the module, held operations, heads of blocks, and free slots.
 #[derive(Drop)]
 pub struct Slots {
-    rows: Vec<Slot>,
+    slots: Vec<Slot>,
     registry: OpArena,
 }
 
@@ -37,9 +37,9 @@ impl Model for Slots {
 
     ghost coded = { coded_list row_code };
 
-    ghost view = { λ s. rows_in s.registry s.rows.items };
+    ghost view = { λ s. rows_in s.registry s.slots.items };
 
-    ghost invariant = { λ s. IsSound s.registry s.rows.items };
+    ghost invariant = { λ s. IsSound s.registry s.slots.items };
 }
 
 impl Slots {
@@ -48,10 +48,10 @@ impl Slots {
         ensures { result ≡ [] }
     {
         Slots {
-            rows: Vec::new(alloc),
+            slots: Vec::new(alloc),
             registry: OpArena {
                 short: Slab::new(alloc),
-                plain: Slab::new(alloc),
+                simple: Slab::new(alloc),
                 entered: Slab::new(alloc),
                 whole: Slab::new(alloc),
             },
@@ -62,14 +62,14 @@ impl Slots {
     pub fn len(&self) -> usize
         ensures { result ≡ length self.now }
     {
-        self.rows.len()
+        self.slots.len()
     }
 
     /// Returns whether a slot has an operation.
     pub fn is_used(&self, slot: usize) -> bool
         ensures { result ≡ (row_at self.now slot).used }
     {
-        match self.rows.get(slot) {
+        match self.slots.get(slot) {
             None => false,
             Some(row) => row.used,
         }
@@ -79,7 +79,7 @@ impl Slots {
     pub fn is_live(&self, slot: usize) -> bool
         ensures { result ≡ (row_at self.now slot).live }
     {
-        match self.rows.get(slot) {
+        match self.slots.get(slot) {
             None => false,
             Some(row) => row.live,
         }
@@ -89,7 +89,7 @@ impl Slots {
     pub fn id(&self, slot: usize) -> OpId
         ensures { result ≡ (row_at self.now slot).head.id }
     {
-        match self.rows.get(slot) {
+        match self.slots.get(slot) {
             None => OpId::new(0),
             Some(row) => row.id,
         }
@@ -99,7 +99,7 @@ impl Slots {
     pub fn name(&self, slot: usize) -> NameId
         ensures { result ≡ (row_at self.now slot).head.name }
     {
-        match self.rows.get(slot) {
+        match self.slots.get(slot) {
             None => NameId::new(0),
             Some(row) => row.name,
         }
@@ -109,7 +109,7 @@ impl Slots {
     pub fn uses(&self, slot: usize) -> usize
         ensures { result ≡ (row_at self.now slot).uses }
     {
-        match self.rows.get(slot) {
+        match self.slots.get(slot) {
             None => 0,
             Some(row) => row.uses as usize,
         }
@@ -119,7 +119,7 @@ impl Slots {
     pub fn values(&self, slot: usize) -> usize
         ensures { result ≡ (row_at self.now slot).values }
     {
-        match self.rows.get(slot) {
+        match self.slots.get(slot) {
             None => 0,
             Some(row) => row.values as usize,
         }
@@ -129,7 +129,7 @@ impl Slots {
     pub fn owner(&self, slot: usize) -> u32
         ensures { result ≡ (row_at self.now slot).owner }
     {
-        match self.rows.get(slot) {
+        match self.slots.get(slot) {
             None => 0,
             Some(row) => match row.held {
                 SlotKind::BlockHead { owner, .. } => owner,
@@ -142,7 +142,7 @@ impl Slots {
     pub fn region(&self, slot: usize) -> u32
         ensures { result ≡ (row_at self.now slot).region }
     {
-        match self.rows.get(slot) {
+        match self.slots.get(slot) {
             None => 0,
             Some(row) => match row.held {
                 SlotKind::BlockHead { region, .. } => region,
@@ -156,7 +156,7 @@ impl Slots {
     pub fn operands(&self, slot: usize) -> &[Value]
         ensures { result.now ≡ (row_at self.now slot).head.operands }
     {
-        match self.rows.get(slot) {
+        match self.slots.get(slot) {
             None => &[],
             Some(row) => self.registry.operands(&row.held),
         }
@@ -167,7 +167,7 @@ impl Slots {
     pub fn results(&self, slot: usize) -> &[TypeId]
         ensures { result.now ≡ (row_at self.now slot).head.results }
     {
-        match self.rows.get(slot) {
+        match self.slots.get(slot) {
             None => &[],
             Some(row) => self.registry.results(&row.held),
         }
@@ -177,7 +177,7 @@ impl Slots {
     pub fn areas(&self, slot: usize) -> &[RegionData]
         ensures { map shape_of result.now ≡ (row_at self.now slot).shapes }
     {
-        match self.rows.get(slot) {
+        match self.slots.get(slot) {
             None => &[],
             Some(row) => self.registry.areas(&row.held),
         }
@@ -187,7 +187,7 @@ impl Slots {
     pub fn dictionary(&self, slot: usize, part: Part) -> Option<&Dictionary>
         ensures { MatchOption result (slots_in part (row_at self.now slot) ≡ no_slots) (λ d. d.now ≡ slots_in part (row_at self.now slot)) }
     {
-        match self.rows.get(slot) {
+        match self.slots.get(slot) {
             None => None,
             Some(row) => self.registry.dictionary(&row.held, part),
         }
@@ -207,7 +207,7 @@ impl Slots {
     pub fn has_gone(&self, slot: usize) -> bool
         ensures { result ≡ (nat_lt 0 (length (row_at self.now slot).gone.properties) || nat_lt 0 (length (row_at self.now slot).gone.attributes)) }
     {
-        match self.rows.get(slot) {
+        match self.slots.get(slot) {
             None => false,
             Some(row) => self.registry.has_gone(&row.held),
         }
@@ -215,7 +215,7 @@ impl Slots {
 
     /// Returns the next slot of the free list, for a free slot.
     pub fn spare(&self, slot: usize) -> Option<u32> {
-        match self.rows.get(slot) {
+        match self.slots.get(slot) {
             None => None,
             Some(row) => match row.held {
                 SlotKind::Free(before) => Some(before),
@@ -258,7 +258,7 @@ impl Slots {
             values,
             held,
         };
-        match push_row(&mut self.rows, row) {
+        match push_row(&mut self.slots, row) {
             Ok(()) => {}
             Err(e) => return Err(e),
         }
@@ -267,9 +267,9 @@ impl Slots {
 
     /// Removes the last slot.
     pub fn pop(&mut self)
-        ensures { (rows : List RowModel) (r : RowModel) → self.old ≡ rows ++ r ∷ [] → self.new ≡ rows }
+        ensures { (slots : List RowModel) (r : RowModel) → self.old ≡ slots ++ r ∷ [] → self.new ≡ slots }
     {
-        if let Some(row) = self.rows.pop() {
+        if let Some(row) = self.slots.pop() {
             self.registry.remove(&row.held);
         }
     }
@@ -279,7 +279,7 @@ impl Slots {
         requires { slot < length self.old }
         ensures { self.new ≡ slice_set self.old slot (record (row_at self.old slot) { live = live }) }
     {
-        let row = &mut self.rows[slot];
+        let row = &mut self.slots[slot];
         row.live = live;
     }
 
@@ -289,7 +289,7 @@ impl Slots {
         ensures put { self.new ≡ slice_set self.old slot (row_with_operand place value (row_at self.old slot)) }
         ensures was { slice_get (row_at self.old slot).head.operands place ≡ Some result }
     {
-        let held = self.rows[slot].held;
+        let held = self.slots[slot].held;
         self.registry.put_operand(&held, place, value)
     }
 
@@ -309,7 +309,7 @@ impl Slots {
         ensures err { OnErr result (self.new ≡ self.old) }
         ensures slot { rises (key_before_in ctx.now) (slots_in part (row_at self.old slot)).present ≡ true → NeedsNoSlot key value (slots_in part (row_at self.old slot)) → IsOk result }
     {
-        let row = &mut self.rows[slot];
+        let row = &mut self.slots[slot];
         self.registry
             .change(alloc, ctx, &mut row.held, part, key, value)
     }
@@ -329,7 +329,7 @@ impl Slots {
         requires entry { value ≡ None → has_key key (slots_in part (row_at self.old slot)).present ≡ true }
         ensures { self.new ≡ slice_set self.old slot (row_with_entry (key_before_in ctx.now) part key value (row_at self.old slot)) }
     {
-        let held = self.rows[slot].held;
+        let held = self.slots[slot].held;
         self.registry.revert(ctx, &held, part, key, value);
     }
 
@@ -338,7 +338,7 @@ impl Slots {
         requires { slot < length self.old }
         ensures { self.new ≡ slice_set self.old slot (record (row_at self.old slot) { gone = none_gone }) }
     {
-        let held = self.rows[slot].held;
+        let held = self.slots[slot].held;
         self.registry.drop_gone(&held);
     }
 
@@ -359,8 +359,8 @@ impl Slots {
             Ok(held) => held,
             Err(e) => return Err(e),
         };
-        let old = self.rows[slot].held;
-        self.rows[slot] = Slot {
+        let old = self.slots[slot].held;
+        self.slots[slot] = Slot {
             used: true,
             live: false,
             id,
@@ -378,7 +378,7 @@ impl Slots {
         requires { slot < length self.old }
         ensures { self.new ≡ slice_set self.old slot (vacated (row_at self.old slot)) }
     {
-        let row = &mut self.rows[slot];
+        let row = &mut self.slots[slot];
         let given = row.held;
         row.used = false;
         row.held = vacated(&given, before);
@@ -389,29 +389,29 @@ impl Slots {
     pub fn set_spare(&mut self, slot: usize, before: u32)
         ensures { self.new ≡ self.old }
     {
-        if slot >= self.rows.len() {
+        if slot >= self.slots.len() {
             return;
         }
-        let row = &mut self.rows[slot];
+        let row = &mut self.slots[slot];
         row.held = spare_before(&row.held, before);
     }
 
     /// Returns no slots, with the given capacity for slots and for the operations of each of the four kinds.
     pub fn with_capacity(
         alloc: Global,
-        slots: usize,
+        slot_map: usize,
         short: usize,
-        plain: usize,
+        simple: usize,
         entered: usize,
         whole: usize,
     ) -> Result<Slots, AllocError>
         ensures { IfOk result (λ r. r ≡ []) }
     {
         Ok(Slots {
-            rows: Vec::with_capacity(alloc, slots)?,
+            slots: Vec::with_capacity(alloc, slot_map)?,
             registry: OpArena {
                 short: Slab::with_capacity(alloc, short)?,
-                plain: Slab::with_capacity(alloc, plain)?,
+                simple: Slab::with_capacity(alloc, simple)?,
                 entered: Slab::with_capacity(alloc, entered)?,
                 whole: Slab::with_capacity(alloc, whole)?,
             },
@@ -420,17 +420,17 @@ impl Slots {
 }
 
 /// Adds a row.
-fn push_row(rows: &mut Vec<Slot>, row: Slot) -> Result<(), AllocError>
-    ensures ok { OnOk result (rows.new.items ≡ rows.old.items ++ row ∷ []) }
-    ensures err { OnErr result (rows.new.items ≡ rows.old.items) }
+fn push_row(slots: &mut Vec<Slot>, row: Slot) -> Result<(), AllocError>
+    ensures ok { OnOk result (slots.new.items ≡ slots.old.items ++ row ∷ []) }
+    ensures err { OnErr result (slots.new.items ≡ slots.old.items) }
 {
-    if rows.len() == rows.capacity() {
-        match rows.reserve_exact(growth(rows.len())) {
+    if slots.len() == slots.capacity() {
+        match slots.reserve_exact(growth(slots.len())) {
             Ok(()) => {}
             Err(e) => return Err(e),
         }
     }
-    match rows.push(row) {
+    match slots.push(row) {
         Ok(()) => Ok(()),
         Err(_) => Err(AllocError),
     }
