@@ -45,7 +45,8 @@ use Rattle.patterns_refinement.specs.Observing.{Shows, is_computed}
 use Rattle.patterns_refinement.specs.After.{or_new, rewritten, with_made}
 use Rattle.patterns_refinement.specs.Better.{AllBetter, AllSure, AreKinded, is_poison_by_ones, is_signed_quotient}
 use Rattle.patterns_refinement.specs.Applying.{RewritesCompute}
-use Rattle.patterns_refinement.specs.Improving.{RewritesComputeBetter, is_quotient, makes_no_quotient}
+use Rattle.patterns_refinement.specs.Improving.{RewritesComputeBetter}
+use Rattle.user_patterns_claims.specs.Quotients.{is_quotient, makes_no_quotient}
 use Rattle.patterns_refinement.proofs.Applying.{applies}
 use Rattle.patterns_refinement.proofs.EditsForm.{all_wellformed, made_plain}
 use Rattle.patterns_refinement.proofs.Wellformed.{each_stands, is_below, operands_stand}

@@ -32,7 +32,7 @@ use Rattle.greedy.specs.Rewriting.{IsOfItsRules}
 use Rattle.greedy.specs.PatternSet.{RuleOrPatternModel, OfUserPattern, OfRule, rewrite_by_entry}
 use Rattle.patterns_refinement.specs.Applied.{IsProper, all_named}
 use Rattle.patterns_refinement.specs.Better.{kind_in, takes, takes_its}
-use Rattle.patterns_refinement.specs.Improving.{is_without_quotients}
+use Rattle.user_patterns_claims.specs.Quotients.{is_without_quotients}
 use Rattle.patterns_refinement.specs.Keeping.{IsReady, done_after}
 use Rattle.patterns_refinement.specs.Runs.{KeptAreKept, kept_rules}
 use Rattle.patterns_refinement.specs.RuleListRuns.{KeptThrough}

@@ -33,7 +33,7 @@ use Rattle.user_patterns_apply.specs.Own.{UserPatternsAreAccepted}
 use Rattle.patterns_refinement.specs.Meaning.{Assignment, IsOfType, Obeys, is_arithmetic, makes}
 use Rattle.patterns_refinement.specs.Applied.{IsProper, extra_kind, kinds_after, kinds_given, kinds_matched}
 use Rattle.patterns_refinement.specs.Better.{IsSure, kind_in, may_overflow}
-use Rattle.patterns_refinement.specs.Improving.{makes_no_quotient}
+use Rattle.user_patterns_claims.specs.Quotients.{makes_no_quotient}
 use Rattle.patterns_refinement.specs.Keeping.{Computing, IsReady, done_after, is_there}
 use Rattle.patterns_refinement.specs.Passing.{FoundAt, is_kinded_at}
 use Rattle.patterns_refinement.specs.ForOutcomes.{KeepsForOutcomes, OutcomesKeepThere}

@@ -45,7 +45,7 @@ use Rattle.patterns_refinement.proofs.Flags.{AreUnflagged}
 use Rattle.patterns_refinement.specs.Meaning.{Assignment, IsOfType, is_arithmetic, owner, makes, Obeys, breaks_by, breaks_flags, flags_of, result_kind}
 use Rattle.patterns_refinement.specs.Applied.{Goes, IsFound, IsProper, kinds_matched, matched}
 use Rattle.patterns_refinement.specs.Better.{kind_in}
-use Rattle.patterns_refinement.specs.Improving.{makes_no_quotient, is_quotient}
+use Rattle.user_patterns_claims.specs.Quotients.{makes_no_quotient, is_quotient}
 use Rattle.patterns_refinement.specs.Keeping.{Computing, Improves, IsFed, IsReady, done_after, is_there}
 use Rattle.patterns_refinement.specs.Passing.{AppliedIsFound, CheckedPassingKeep, FoundAt, PassingKeep, is_kinded_at, kinds_there, new_is_defined, pattern_op_passes, is_always_defined, passes_poison}
 use Rattle.patterns_refinement.proofs.Applying.{Applies, applies}

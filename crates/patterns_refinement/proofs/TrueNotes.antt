@@ -21,7 +21,7 @@ use Rattle.user_patterns_registry.specs.declared.check_result.CheckSummary.TheVa
 use Rattle.user_patterns_registry.specs.Registry.{AreApart, ForgettingKeepsARegistry, IsReady, IsRegistry, Kept, NotingKeepsARegistry, RegistryModel, ReplacingKeepsARegistry, StaysARegistry, added, and_kept, defined, forgotten, found, headroom_for, is_named, kept_as, kept_of, made_ready, noted, noted_one, model_of_parts, variables_of, with_said}
 use Rattle.greedy.specs.PatternSet.{RuleOrPatternModel, OfUserPattern, OfRule}
 use Rattle.patterns_refinement.specs.Applied.{all_named}
-use Rattle.patterns_refinement.specs.Improving.{is_without_quotients}
+use Rattle.user_patterns_claims.specs.Quotients.{is_without_quotients}
 use Rattle.patterns_refinement.specs.UsedTypes.{uses_only}
 use Rattle.patterns_refinement.specs.ByForm.{is_kinded_by_form}
 use Rattle.patterns_refinement.specs.ForOutcomes.{HoldsByForm, HoldsForOutcomes, ProvedApplyRefines, ProvedRewriteRefines, has_widths, is_had, numbered}
@@ -199,11 +199,11 @@ module _ (stays : StaysARegistry) (noting : NotingKeepsARegistry) (forgetting : 
 
 -- ---- the premises of the laws of proved patterns
 -- a pattern holds by the form of both sides, or for all outcomes
-proved_pattern : PolynomialsKeep → FormsAreSound → (b : RegistryModel) → IsReached b → (name : List ℕ) (k : Kept) → found name b ≡ Some k → IsTrulyNoted k → is_without_quotients k.rewrite_pattern ≡ true
+proved_pattern : PolynomialsKeep → FormsAreSound → (b : RegistryModel) → IsReached b → (name : List ℕ) (k : Kept) → found name b ≡ Some k → IsTrulyNoted k
     → HoldsByForm k.rewrite_pattern ⊎ HoldsForOutcomes k.rewrite_pattern
-proved_pattern polynomials forms b reached name k e h none = elim h.checked.3 [
+proved_pattern polynomials forms b reached name k e h = elim h.checked.3 [
   | inl f ↦ inl (record { proper = registered_proper polynomials k.rewrite_pattern (IsReady.stands h.applies) (IsReady.buildable h.applies) f.0; for_all_widths = f.0; refines = f.1 })
-  | inr o ↦ inr (record { wellformed = IsReady.stands h.applies; buildable = IsReady.buildable h.applies; form = forms b reached name k e none; holds = o })
+  | inr o ↦ inr (record { wellformed = IsReady.stands h.applies; buildable = IsReady.buildable h.applies; form = forms b reached name k e o.1; holds = o.0 })
 ]
 
 pub noted_are_proved : PolynomialsKeep → NotesAreTrue → FormsAreSound → NotedAreProved
@@ -211,8 +211,7 @@ noted_are_proved polynomials notes forms b reached (OfRule r) is = is
 noted_are_proved polynomials notes forms b reached (OfUserPattern p) is =
     let k = is.1 in
     let same : k.rewrite_pattern ≡ p = is.4 in
-    let none : is_without_quotients k.rewrite_pattern ≡ true = ap is_without_quotients same ∙ is.5 in
-    subst (λ (p : PatternModel). HoldsByForm p ⊎ HoldsForOutcomes p) same (proved_pattern polynomials forms b reached is.0 k is.2 (notes b reached is.0 k is.2 is.3) none)
+    subst (λ (p : PatternModel). HoldsByForm p ⊎ HoldsForOutcomes p) same (proved_pattern polynomials forms b reached is.0 k is.2 (notes b reached is.0 k is.2 is.3))
 
 pub noted_apply_refines : NotedAreProved → ProvedApplyRefines → NotedApplyRefines
 noted_apply_refines proved refines b reached t is m n x ready range e = refines t (proved b reached t is) m n x ready range e
@@ -234,5 +233,5 @@ never_noted notes refutes b reached name k e same f =
     let h = notes b reached name k e f in
     elim h.checked.3 [
       | inl g ↦ true≢false (sym (sym (ap holds_at_all_widths same) ∙ g.0))
-      | inr o ↦ refutes.3 (subst HoldsAtAllWidths same o)
+      | inr o ↦ refutes.3 (subst HoldsAtAllWidths same o.0)
     ]

@@ -29,7 +29,7 @@ use Rattle.user_patterns_apply.specs.Own.{user_pattern_rewrite}
 use Rattle.greedy.specs.Rewriting.{rewriting_of}
 use Rattle.greedy.specs.PatternSet.{RuleOrPatternModel, OfUserPattern, OfRule, pattern_set_from}
 use Rattle.patterns_refinement.specs.Applied.{IsProper, all_named}
-use Rattle.patterns_refinement.specs.Improving.{is_without_quotients}
+use Rattle.user_patterns_claims.specs.Quotients.{is_without_quotients}
 use Rattle.patterns_refinement.specs.Keeping.{IsReady}
 use Rattle.patterns_refinement.specs.Runs.{kept_rules}
 use Rattle.patterns_refinement.specs.Canonical.{IsPlain}

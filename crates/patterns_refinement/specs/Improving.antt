@@ -1,19 +1,14 @@
 -- The module after a user pattern is applied, if the root's outcome may be poison. Then the new outcome may be known,
 -- and so may the outcomes of its users.
 use Rattle.std.specs.Prelude.{◌≡◌, ℕ, Bool, true, false, not, ◌<◌}
-use Rattle.std.specs.List.{list_all}
 use Rattle.ir_tree.specs.declared.value.Value.{Value}
 use Rattle.ir_types.specs.Words.{is_isolated}
 use Rattle.ir_tree.specs.WellFormed.{IsWellFormed}
 use Rattle.ir_tree.specs.Meaning.{Operation}
 use Rattle.ir_event.specs.Modules.{Module}
-use Rattle.dialects_int.specs.declared.operations.Arithmetic.TheVariants as op
 use Rattle.patterns_base.specs.Rewrites.{becomes}
-use Rattle.user_patterns_data.specs.declared.pattern.Expression.{Expression}
-use Rattle.user_patterns_data.specs.declared.pattern.Expression.TheVariants as form
-use Rattle.user_patterns_data.specs.declared.pattern.NewValue.{NewValue}
-use Rattle.user_patterns_data.specs.declared.pattern.NewValue.TheVariants as new
 use Rattle.user_patterns_data.specs.Shapes.{PatternModel}
+use Rattle.user_patterns_claims.specs.Quotients.{is_without_quotients}
 use Rattle.user_patterns_apply.specs.Own.{user_pattern_rewrite}
 use Rattle.patterns_refinement.specs.Meaning.{AreOfTypes, Assignment, FitsAll, owner}
 use Rattle.patterns_refinement.specs.Better.{AllSure, AreKinded, Better, gives}
@@ -32,18 +27,6 @@ pub record ComputesBetter (a : Assignment) (done : ℕ → Bool) (m : Module) (l
   pub typed : AreOfTypes now t
   pub sure : AllSure now later t
   pub shows : Shows a now m later t
-
--- the pattern creates no signed division
-abbrev pub is_quotient : Expression → Bool
-is_quotient (form.Binary op.DivideSigned i j) = true
-is_quotient _ = false
-
-abbrev pub makes_no_quotient : NewValue → Bool
-makes_no_quotient (new.Operation o) = not (is_quotient o.form)
-makes_no_quotient (new.Constant i t) = true
-
-abbrev pub is_without_quotients : PatternModel → Bool
-is_without_quotients p = list_all makes_no_quotient p.new
 
 -- a well-formed module after a rewrite by a pattern that refines computes a refinement, also if the root is poison;
 -- the premises are that no signed division of poison by -1 is executed, and that each arithmetic operation of the new

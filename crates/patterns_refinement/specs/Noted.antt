@@ -9,7 +9,7 @@ use Rattle.user_patterns_registry.specs.declared.check_result.CheckSummary.TheVa
 use Rattle.user_patterns_registry.specs.Registry.{IsReady as CanBeApplied, Kept, RegistryModel, found}
 use Rattle.greedy.specs.Rewriting.{rewriting_of}
 use Rattle.greedy.specs.PatternSet.{RuleOrPatternModel, OfUserPattern, OfRule, pattern_set_from}
-use Rattle.patterns_refinement.specs.Improving.{is_without_quotients}
+use Rattle.user_patterns_claims.specs.Quotients.{is_without_quotients}
 use Rattle.patterns_refinement.specs.Keeping.{IsReady}
 use Rattle.patterns_refinement.specs.Runs.{kept_rules}
 use Rattle.patterns_refinement.specs.Refining.{IsRefinedBy}
@@ -36,12 +36,11 @@ FormsAreSound =
 
 -- ---- rules and patterns of a command
 
--- A listed rule, or a pattern that the registry notes as `holds` without a width, and whose new side makes no `divsi`.
--- A `divsi` by -1 of poison may be undefined, and no check decides that.
+-- a listed rule, or a pattern that the registry notes as `holds` without a width
 abbrev pub IsNotedIn : RegistryModel → RuleOrPatternModel → Type 0
 IsNotedIn b (OfRule r) = In r kept_rules
 IsNotedIn b (OfUserPattern p) =
-    (name : List ℕ) × (k : Kept) × (found name b ≡ Some k) × (k.said ≡ Some summary.AllWidths) × (k.rewrite_pattern ≡ p) × (is_without_quotients p ≡ true)
+    (name : List ℕ) × (k : Kept) × (found name b ≡ Some k) × (k.said ≡ Some summary.AllWidths) × (k.rewrite_pattern ≡ p)
 
 abbrev pub NotedAreProved : Type 0
 NotedAreProved = (b : RegistryModel) → IsReached b → (t : RuleOrPatternModel) → IsNotedIn b t → IsProved t

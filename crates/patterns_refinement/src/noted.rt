@@ -17,7 +17,8 @@ use user_patterns_widths::laws::polynomials_keep;
 
 /// In the registry of a session, a pattern that is noted as `holds` without a width can be applied, and a check found
 /// that it holds at all widths (`notes`). The form of each pattern whose new side makes no `divsi` passes the tests of
-/// the laws (`forms`). So the laws of proved patterns cover each such pattern that is noted as `holds` (`proved`).
+/// the laws (`forms`), and no claim proves another pattern. So the laws of proved patterns cover each pattern that is
+/// noted as `holds` (`proved`).
 pub fn noted_patterns_are_proved()
     ensures notes { NotesAreTrue }
     ensures forms { FormsAreSound }
@@ -29,10 +30,10 @@ pub fn noted_patterns_are_proved()
     polynomials_keep();
 }
 
-/// A pattern that a session's registry notes as `holds` without a width is sound, if its new side makes no `divsi`:
-/// `apply` of it, and `rewrite` by a list of such patterns and listed rules, refine what a module computes, as an
-/// observer sees it, if the module is ready and in range. `rewrite` by a list that also has `canon`, or any of the rules
-/// 1 to 24, does so if the module has no unrealized casts, and no loops and conditionals of `scf` (`canon`).
+/// A pattern that a session's registry notes as `holds` without a width is sound: `apply` of it, and `rewrite` by a list
+/// of such patterns and listed rules, refine what a module computes, as an observer sees it, if the module is ready and
+/// in range. `rewrite` by a list that also has `canon`, or any of the rules 1 to 24, does so if the module has no
+/// unrealized casts, and no loops and conditionals of `scf` (`canon`).
 pub fn noted_patterns_refine()
     ensures apply { NotedApplyRefines }
     ensures rewrite { NotedRewriteRefines }

@@ -23,6 +23,7 @@ use Rattle.user_patterns_claims.specs.Settled.{AreGoalsDecided, IsAimDecided, Is
 use Rattle.user_patterns_instructions.specs.Expressions.{claim_types, narrower_types}
 use Rattle.user_patterns_claims.specs.Translation.{Goal, Sides, claim_from, goal_from, set_count, sides}
 use Rattle.user_patterns_claims.proofs.Deciding.{claims_decide, empty_claims_decide}
+use Rattle.user_patterns_claims.proofs.Dividing.{claims_divide_nothing}
 
 claim_decided : (c : Claim) (v : Verdict) → IsEqualDecided c v → IsGoalDecided (Some (Some c)) v
 claim_decided c verdict.Always d = d
@@ -68,7 +69,7 @@ pub pattern_decided : {E : Type 0} (p : PatternModel) (result : Result Decision 
 pattern_decided p result decided = IfOk-weaker result (IsAimDecided aim.Refines p) (IsPatternDecided p) turned decided
   where
     turned : (d : Decision) → IsAimDecided aim.Refines p d → IsPatternDecided p d
-    turned decision.Always all = claims_decide p all
+    turned decision.Always all = (claims_decide p all, claims_divide_nothing p all)
     turned (decision.Fails set word) fails = fails
     turned decision.Undecided none = tt
 

@@ -159,7 +159,7 @@ module _ (ks : List BitsKind) where
 -- ---- a goal that is reached
 
 -- the parts of a goal that was reached
-peel : {X : Type 0} (o : Option X) (f : X → Option Goal) → IsReached (given o f) → (x : X) × (o ≡ Some x) × IsReached (f x)
+pub peel : {X : Type 0} (o : Option X) (f : X → Option Goal) → IsReached (given o f) → (x : X) × (o ≡ Some x) × IsReached (f x)
 peel None f r = absurd r
 peel (Some x) f r = (x, refl, r)
 

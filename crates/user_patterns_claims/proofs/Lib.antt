@@ -4,6 +4,7 @@ pub mod BothSides
 pub mod VariableOutcomes
 pub mod Simple
 pub mod Deciding
+pub mod Dividing
 pub mod Chaining
 pub mod Answering
 pub mod Decoded

@@ -5,7 +5,8 @@ use Rattle.user_patterns_claims.specs.declared.answer.Answer.{Answer}
 use Rattle.user_patterns_claims.specs.declared.answer.Answer.TheVariants as answer
 use Rattle.user_patterns_claims.specs.declared.assignment.Refutation.{Refutation}
 use Rattle.user_patterns_claims.specs.Decoding.{IsRefutation}
-use Rattle.user_patterns_claims.specs.Outcomes.{HoldsAtAllWidths, IsNeverNumber}
+use Rattle.user_patterns_claims.specs.Outcomes.{IsNeverNumber}
+use Rattle.user_patterns_claims.specs.Quotients.{IsProvedByClaims}
 
 -- a counterexample that some word spells for some set of poison variables
 abbrev pub IsRefuted : PatternModel → Refutation → Type 0
@@ -18,6 +19,6 @@ IsEmptyAnswer p false = IsNeverNumber p → ⊥
 
 abbrev pub IsAnswer : PatternModel → Answer → Type 0
 IsAnswer p answer.Empty = IsNeverNumber p
-IsAnswer p (answer.Right somewhere) = HoldsAtAllWidths p × (somewhere ≡ true → IsNeverNumber p → ⊥)
+IsAnswer p (answer.Right somewhere) = IsProvedByClaims p × (somewhere ≡ true → IsNeverNumber p → ⊥)
 IsAnswer p (answer.Wrong r) = IsRefuted p r
 IsAnswer p answer.Open = Unit {0}

@@ -1,5 +1,6 @@
 pub mod Outcomes
 pub mod Translation
+pub mod Quotients
 pub mod Settled
 pub mod Code
 pub mod Decoding

@@ -9,6 +9,7 @@ use Rattle.user_patterns_claims.specs.declared.aim.Aim.{Aim}
 use Rattle.user_patterns_claims.specs.declared.decision.Decision.{Decision}
 use Rattle.user_patterns_claims.specs.declared.decision.Decision.TheVariants as decision
 use Rattle.user_patterns_claims.specs.Outcomes.{HoldsAtAllWidths, IsNeverNumber}
+use Rattle.user_patterns_claims.specs.Quotients.{IsProvedByClaims}
 use Rattle.user_patterns_claims.specs.Translation.{Goal, empty_goal_of, goal_for, goal_of, set_count}
 
 abbrev pub IsReached : Option Goal → Type 0
@@ -51,9 +52,9 @@ AreGoalsDecided aim p n decision.Undecided = Unit {0}
 abbrev pub IsAimDecided : Aim → PatternModel → Decision → Type 0
 IsAimDecided aim p d = AreGoalsDecided aim p (set_count p 0 p.values) d
 
--- the pattern holds at all widths, or the claim for a set of poison variables fails
+-- the claims prove the pattern, or the claim for a set of poison variables fails
 abbrev pub IsPatternDecided : PatternModel → Decision → Type 0
-IsPatternDecided p decision.Always = HoldsAtAllWidths p
+IsPatternDecided p decision.Always = IsProvedByClaims p
 IsPatternDecided p (decision.Fails set word) = IsFailed (goal_of p set) (verdict.Fails word)
 IsPatternDecided p decision.Undecided = Unit {0}
 

@@ -16,7 +16,8 @@ use user_patterns_data::pattern::Pattern;
 pub enum Answer {
     /// The old side is never a number.
     Empty,
-    /// The pattern holds at all widths. If true, its old side is a number somewhere.
+    /// The pattern holds at all widths, and its new side makes no signed division. If true, its old side is a number
+    /// somewhere.
     Right(bool),
     /// The pattern has this counterexample.
     Wrong(Refutation),

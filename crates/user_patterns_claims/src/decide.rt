@@ -218,8 +218,8 @@ fn decide_aim(
     decide_sets(alloc, &question, count)
 }
 
-/// Whether a pattern holds at every width, for all outcomes of its variables. Looks at no more than `most` transitions of
-/// each claim.
+/// Returns whether a pattern holds at every width, for all outcomes of its variables. Looks at no more than `most`
+/// transitions of each claim. A pattern whose new side makes a signed division isn't decided.
 pub fn decide_pattern(alloc: Global, pattern: &Pattern, most: usize) -> Result<Decision, AllocError>
     ensures { IfOk result (IsPatternDecided (pattern_model pattern.now)) }
 {

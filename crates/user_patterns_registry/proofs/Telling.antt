@@ -14,7 +14,7 @@ use Rattle.user_patterns_registry.specs.declared.check_result.CheckResult.TheVar
 use Rattle.user_patterns_claims.specs.declared.assignment.Refutation.{Refutation}
 use Rattle.user_patterns_claims.specs.Answered.{IsRefuted}
 use Rattle.user_patterns_claims.specs.Outcomes.{IsNeverNumber, OutcomesDecide}
-use Rattle.user_patterns_claims.specs.Outcomes.{HoldsAtAllWidths as HoldsForOutcomes}
+use Rattle.user_patterns_claims.specs.Quotients.{IsProvedByClaims}
 use Rattle.user_patterns_registry.specs.CheckResult.{IsCheckResult, IsFirstFound, IsKept, IsSampledIf, IsWrong, requested_width, reports_all_widths}
 use Rattle.user_patterns_registry.specs.Sampled.{IsWideSampled}
 use Rattle.user_patterns_registry.specs.Shown.{IsShown, report_width, counterexample_width}
@@ -58,13 +58,13 @@ module _ (p : PatternModel) (requested : Option ℕ) (most : ℕ) (is : most ≡
       let refines = law p form.1 most some right in
       (form.0, inl (to_requested verdict.Holds right), (λ ks widths value_kinds. refines ks widths), inl (form.1, refines))
 
-  pub claims_reported : OutcomesDecide → requested ≡ None → IsVerdict (content_at p) p.types most verdict.Holds → HoldsForOutcomes p
+  pub claims_reported : OutcomesDecide → requested ≡ None → IsVerdict (content_at p) p.types most verdict.Holds → IsProvedByClaims p
       → IsCheckResult p requested judgement.AllWidths
-  claims_reported law e right claimed = (e, inl (to_requested verdict.Holds right), law p claimed, inr claimed)
+  claims_reported law e right claimed = (e, inl (to_requested verdict.Holds right), law p claimed.0, inr claimed)
 
-  pub wide_reported : OutcomesDecide → requested ≡ None → IsVerdict (content_at p) p.types most verdict.Vacuous → HoldsForOutcomes p → (IsNeverNumber p → ⊥)
+  pub wide_reported : OutcomesDecide → requested ≡ None → IsVerdict (content_at p) p.types most verdict.Vacuous → IsProvedByClaims p → (IsNeverNumber p → ⊥)
       → IsCheckResult p requested judgement.AllWidths
-  wide_reported law e right claimed somewhere = (e, inr (to_requested verdict.Vacuous right, somewhere), law p claimed, inr claimed)
+  wide_reported law e right claimed somewhere = (e, inr (to_requested verdict.Vacuous right, somewhere), law p claimed.0, inr claimed)
 
   pub never_reported : (v : ℕ) → requested ≡ None → v ≡ report_width p most → IsVerdict (content_at p) p.types most verdict.Holds → IsNeverNumber p
       → IsCheckResult p requested (judgement.Vacuous v)
@@ -74,7 +74,7 @@ module _ (p : PatternModel) (requested : Option ℕ) (most : ℕ) (is : most ≡
   empty_reported v width right = (width_is v width, inl (to_requested verdict.Vacuous right))
 
   -- a pattern that holds, and whether its old side is a number somewhere
-  pub right_reported : OutcomesDecide → requested ≡ None → IsVerdict (content_at p) p.types most verdict.Vacuous → (b : Bool) → HoldsForOutcomes p × (b ≡ true → IsNeverNumber p → ⊥)
+  pub right_reported : OutcomesDecide → requested ≡ None → IsVerdict (content_at p) p.types most verdict.Vacuous → (b : Bool) → IsProvedByClaims p × (b ≡ true → IsNeverNumber p → ⊥)
       → (j : CheckResult) → j ≡ (if b then judgement.AllWidths else judgement.Vacuous (report_width p most)) → IsCheckResult p requested j
   right_reported law e right true claimed j reported = subst (IsCheckResult p requested) (sym reported) (wide_reported law e right claimed.0 (claimed.1 refl))
   right_reported law e right false claimed j reported = subst (IsCheckResult p requested) (sym reported) (empty_reported (report_width p most) refl right)

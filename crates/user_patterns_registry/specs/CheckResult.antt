@@ -12,7 +12,8 @@ use Rattle.user_patterns_widths.specs.AllWidths.{holds_at_all_widths}
 use Rattle.user_patterns_widths.specs.Lasting.{RefinesAtAllWidths}
 use Rattle.user_patterns_claims.specs.declared.assignment.Refutation.{Refutation}
 use Rattle.user_patterns_claims.specs.Answered.{IsRefuted}
-use Rattle.user_patterns_claims.specs.Outcomes.{AreKindsOf, HoldsAtAllWidths, IsNeverNumber, are_kinds}
+use Rattle.user_patterns_claims.specs.Quotients.{IsProvedByClaims}
+use Rattle.user_patterns_claims.specs.Outcomes.{AreKindsOf, IsNeverNumber, are_kinds}
 use Rattle.user_patterns_registry.specs.declared.check_result.Counterexample.{Counterexample}
 use Rattle.user_patterns_registry.specs.declared.check_result.CheckResult.{CheckResult}
 use Rattle.user_patterns_registry.specs.declared.check_result.CheckResult.TheVariants as judgement
@@ -61,9 +62,9 @@ abbrev pub KeepsAtAllWidths : PatternModel → Type 0
 KeepsAtAllWidths p = (ks : List BitsKind) → are_kinds ks ≡ true → AreKindsOf p.value_types ks → AlwaysKeeps (content_with ks p)
 
 -- the two proofs of it: both sides are one polynomial or are computed bit by bit; or claims about the bits of all
--- outcomes of its variables, poison included
+-- outcomes of its variables, poison included. A new side with a signed division has no claim.
 abbrev pub IsProvedAtAllWidths : PatternModel → Type 0
-IsProvedAtAllWidths p = ((holds_at_all_widths p ≡ true) × RefinesAtAllWidths p) ⊎ HoldsAtAllWidths p
+IsProvedAtAllWidths p = ((holds_at_all_widths p ≡ true) × RefinesAtAllWidths p) ⊎ IsProvedByClaims p
 
 -- no value up to a width refutes the pattern: it holds there, or its old side is defined nowhere there
 abbrev pub IsKept : PatternModel → ℕ → Type 0
