@@ -267,13 +267,13 @@ impl Store {
     {
         let slots = Slots::with_capacity(
             alloc,
-            headroom.slot_map,
+            headroom.slots,
             headroom.short,
             headroom.simple,
             headroom.entered,
             headroom.whole,
         )?;
-        let sibs = OrderedLists::with_capacity(alloc, headroom.slot_map)?;
+        let sibs = OrderedLists::with_capacity(alloc, headroom.slots)?;
         let uses = LinkedLists::with_capacity(alloc, headroom.uses)?;
         let cells = Vec::with_capacity(alloc, headroom.uses)?;
         let keys = IdTable::with_capacity(alloc, headroom.ops)?;

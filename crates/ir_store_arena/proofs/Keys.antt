@@ -407,14 +407,14 @@ swap_swap s t u g h c d v w = record {
 }
 
 -- no slots, and empty slabs
-pub none_sound : (s : OpArena) → s.short.slot_map ≡ [] → s.simple.slot_map ≡ [] → s.entered.slot_map ≡ [] → s.whole.slot_map ≡ [] → IsSound s []
+pub none_sound : (s : OpArena) → s.short.slots ≡ [] → s.simple.slots ≡ [] → s.entered.slots ≡ [] → s.whole.slots ≡ [] → IsSound s []
 none_sound s a b c d = record {
   stands = λ k. refl;
   apart = λ j k e z. absurd (false≢true e);
   owned = λ h e f. absurd (none h e f);
 }
   where
-    empty : {X : Type 0} (tells : X → Contents) (t : Slab X) (k : ℕ) → t.slot_map ≡ [] → is_some (option_map tells (get t k)) ≡ true → ⊥
+    empty : {X : Type 0} (tells : X → Contents) (t : Slab X) (k : ℕ) → t.slots ≡ [] → is_some (option_map tells (get t k)) ≡ true → ⊥
     empty tells t k z f = false≢true (sym (ap (λ y. is_some (option_map tells (get_or y k None))) z) ∙ f)
 
     none : (h : SlotKind) → is_key h ≡ true → is_some (found s h) ≡ true → ⊥

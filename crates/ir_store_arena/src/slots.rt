@@ -399,7 +399,7 @@ impl Slots {
     /// Returns no slots, with the given capacity for slots and for the operations of each of the four kinds.
     pub fn with_capacity(
         alloc: Global,
-        slot_map: usize,
+        slots: usize,
         short: usize,
         simple: usize,
         entered: usize,
@@ -408,7 +408,7 @@ impl Slots {
         ensures { IfOk result (λ r. r ≡ []) }
     {
         Ok(Slots {
-            slots: Vec::with_capacity(alloc, slot_map)?,
+            slots: Vec::with_capacity(alloc, slots)?,
             registry: OpArena {
                 short: Slab::with_capacity(alloc, short)?,
                 simple: Slab::with_capacity(alloc, simple)?,

@@ -9,7 +9,7 @@ pub struct Capacity {
     /// Operations.
     pub ops: usize,
     /// Slots of operations and blocks.
-    pub slot_map: usize,
+    pub slots: usize,
     /// Nodes of values and operands.
     pub uses: usize,
     /// Operations with few operands and results, and without entries and regions.
@@ -26,7 +26,7 @@ impl Capacity {
     fn add_op(&mut self, op: &TreeOp) {
         let uses = op.operands.len().saturating_add(op.results.len());
         self.ops = self.ops.saturating_add(1);
-        self.slot_map = self.slot_map.saturating_add(1);
+        self.slots = self.slots.saturating_add(1);
         self.uses = self.uses.saturating_add(uses);
         if !op.regions.is_empty() {
             self.whole = self.whole.saturating_add(1);
@@ -40,7 +40,7 @@ impl Capacity {
     }
 
     fn add_block(&mut self, args: usize) {
-        self.slot_map = self.slot_map.saturating_add(1);
+        self.slots = self.slots.saturating_add(1);
         self.uses = self.uses.saturating_add(args);
     }
 }
@@ -49,7 +49,7 @@ impl Capacity {
 pub fn capacity_for(tree: &TreeOp) -> Capacity {
     let mut headroom = Capacity {
         ops: 0,
-        slot_map: 0,
+        slots: 0,
         uses: 0,
         short: 0,
         simple: 0,
