@@ -90,11 +90,12 @@ module _ (ks : List PatternType) (ns : List Narrower) where
 
   no_quotients : (ws : List NewValue) (s d : State) → all_translated ks ns (map new_instruction ws) s ≡ Some d → list_all makes_no_quotient ws ≡ true
   no_quotients [] s d e = refl
-  no_quotients (w ∷ ws) s d e = go (translated ks ns (new_instruction w) s) refl e
+  no_quotients (w ∷ ws) s d e = go (translated ks ns (new_instruction w) s) refl e (λ mid f. no_quotients ws mid d f)
     where
-      go : (o : Option State) → translated ks ns (new_instruction w) s ≡ o → given o (all_translated ks ns (map new_instruction ws)) ≡ Some d → list_all makes_no_quotient (w ∷ ws) ≡ true
-      go None f e = absurd (none-some d e)
-      go (Some mid) f e = and_from (makes_no_quotient w) (list_all makes_no_quotient ws) (one_value w s mid f) (no_quotients ws mid d e)
+      go : (o : Option State) → translated ks ns (new_instruction w) s ≡ o → given o (all_translated ks ns (map new_instruction ws)) ≡ Some d
+          → ((mid : State) → all_translated ks ns (map new_instruction ws) mid ≡ Some d → list_all makes_no_quotient ws ≡ true) → list_all makes_no_quotient (w ∷ ws) ≡ true
+      go None f e more = absurd (none-some d e)
+      go (Some mid) f e more = and_from (makes_no_quotient w) (list_all makes_no_quotient ws) (one_value w s mid f) (more mid e)
 
 -- ---- there is a claim for the set without poison, so the new side was translated
 
