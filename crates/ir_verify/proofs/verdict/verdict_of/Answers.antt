@@ -7,4 +7,4 @@ returns-then-not-is_kept c s of = obeys c.args.finding.now s of (sym c.is_kept.e
 
 pub returns : goal.returns
 returns c s of =
-    broken_by c.args.finding.now s of (sym c.is_kept.ensures ∙ c.if-not-is_kept.false) c.deref.result.now c.verdict_of_reported.result (c.deref.ensures.value ∙ c.in_ok-reported_by.ensures) c.verdict_of_reported.ensures
+    broken_by c.args.finding.now s of (sym c.is_kept.ensures ∙ c.if-not-is_kept.false) c.deref.result.now c.verdict_of_reported.result (c.deref.ensures.value ∙ c.in_ok-numbers.ensures) c.verdict_of_reported.ensures
