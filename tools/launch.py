@@ -12,7 +12,7 @@ from tools import sources
 def provide():
     """Selects the program of these sources, if there is one and the environment names no other."""
     if not os.environ.get(command.VARIABLE) and not os.environ.get(command.INSTALLED):
-        found = sources.program()
+        found = sources.startable()
         if found:
             os.environ[command.INSTALLED] = str(found)
 

@@ -25,6 +25,8 @@ RECORD = BUILT.with_suffix(".sources")
 BUILT_LIBRARY = ROOT / "crates/mlir_work_c/out/libmlir_work_c.a"
 DIST = ROOT / "dist"
 MANIFEST, PACKED, UNPACKED = DIST / "MANIFEST", DIST / "mlir_work.xz", DIST / "out/mlir_work"
+OTHER = ("run: dist/ has the program of other sources, and this is it: `MLIR_WORK_BUILD=1 ./run --help` proves and builds "
+         "one of these")
 PACKED_LIBRARY, LIBRARY = DIST / "libmlir_work.a.xz", DIST / "out/libmlir_work.a"
 
 
@@ -92,10 +94,11 @@ def entries(file):
     return {word: rest.strip() for word, colon, rest in (line.partition(":") for line in text.splitlines()) if colon}
 
 
-def shipped(of_sources):
-    """Returns the program of dist/, if it is of these sources; unpacks it once."""
+def shipped(of_sources=None):
+    """Returns the program of dist/, if it is of these sources, or of any if none are given; unpacks it once."""
     said, here = entries(MANIFEST), os.uname()
-    if said.get("sources") != of_sources or not PACKED.is_file() or (here.sysname, here.machine) != ("Linux", "x86_64"):
+    is_other = of_sources is not None and said.get("sources") != of_sources
+    if is_other or not PACKED.is_file() or (here.sysname, here.machine) != ("Linux", "x86_64"):
         return None
     if not UNPACKED.is_file() or digest_of(UNPACKED.read_bytes()) != said.get("program"):
         unpack()
@@ -197,6 +200,17 @@ def program():
     """Returns the program of these sources, if there is one."""
     of_sources = digest()
     return shipped(of_sources) or built(of_sources)
+
+
+def startable():
+    """Returns the program of these sources, or else that of dist/, with a note on standard error."""
+    found = program()
+    if found:
+        return found
+    other = shipped()
+    if other:
+        print(OTHER, file=sys.stderr, flush=True)
+    return other
 
 
 def main():

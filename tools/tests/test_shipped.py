@@ -1,4 +1,5 @@
 """Reading and writing golden files, and the choice of the program for the sources."""
+import io
 import lzma
 import pathlib
 import shutil
@@ -127,6 +128,15 @@ class Sources(unittest.TestCase):
         self.assertEqual(sources.program().read_bytes(), b"shipped")
         self.file.write_text("fn main() { }\n")
         self.assertIsNone(sources.program())
+        with mock.patch("sys.stderr", io.StringIO()) as noted:
+            self.assertEqual(sources.startable().read_bytes(), b"shipped")
+        self.assertEqual(noted.getvalue(), f"{sources.OTHER}\n")
+
+    def test_the_program_of_these_sources_is_started_without_a_note(self):
+        self.shipped(b"shipped")
+        with mock.patch("sys.stderr", io.StringIO()) as noted:
+            self.assertEqual(sources.startable().read_bytes(), b"shipped")
+        self.assertEqual(noted.getvalue(), "")
 
     def test_only_crates_below_the_program_count(self):
         before = sources.digest()
