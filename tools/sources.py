@@ -25,8 +25,8 @@ RECORD = BUILT.with_suffix(".sources")
 BUILT_LIBRARY = ROOT / "crates/mlir_work_c/out/libmlir_work_c.a"
 DIST = ROOT / "dist"
 MANIFEST, PACKED, UNPACKED = DIST / "MANIFEST", DIST / "mlir_work.xz", DIST / "out/mlir_work"
-OTHER = ("run: dist/ has the program of other sources, and this is it: `MLIR_WORK_BUILD=1 ./run --help` proves and builds "
-         "one of these")
+OTHER = ("run: dist/ has the program of other sources, and this is it: `MLIR_WORK_BUILD=1 ./run --help` proves and "
+         "builds one of these")
 PACKED_LIBRARY, LIBRARY = DIST / "libmlir_work.a.xz", DIST / "out/libmlir_work.a"
 
 
