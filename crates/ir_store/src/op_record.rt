@@ -1,8 +1,7 @@
 //! Reads of an operation with the uses of its results.
 ghost use Rattle.std.specs.Prelude.{◌≡◌, IfSome, length, option_map};
 ghost use Rattle.ir_store_reads.specs.trees.Ids.{find as the_first};
-ghost use Rattle.ir_store_reads.specs.trees.Tree.{head};
-ghost use Rattle.ir_store.specs.Records.{AreResultUses};
+ghost use Rattle.ir_store.specs.OpRecords.{AreResultUses, lists_in};
 
 use crate::store::Store;
 use ir_store_reads::find::find;
@@ -25,8 +24,11 @@ impl Store {
     /// operation.
     #[inline(always)]
     pub fn op_record(&self, op: OpId) -> Option<OpRecord<'_>>
-        ensures name { option_map (λ r. r.name) result ≡ option_map (λ o. (head o).name) (the_first op self.now.module_of.tree) }
+        ensures lists { option_map (λ r. (r.name, (r.operands.now, r.results.now))) result ≡ option_map lists_in (the_first op self.now.module_of.tree) }
+        ensures count { IfSome result (λ r. length r.uses ≡ length r.results.now) }
+        ensures uses { IfSome result (λ r. AreResultUses op self.now.module_of.tree r.uses) }
     {
+        self.uses.laws();
         let Some(key) = find(&self.slots, &self.keys, op) else {
             return None;
         };

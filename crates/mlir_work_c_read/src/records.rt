@@ -1,11 +1,10 @@
 //! Reads of operations, each with its operands and with the types and the uses of its results, by one call for many
 //! operations.
-ghost use Rattle.std.specs.Prelude.{◌≡◌, ◌≤◌, ◌∷◌, [], ℕ, List, length, map, min};
+ghost use Rattle.std.specs.Prelude.{◌≡◌, ◌≤◌, ◌<◌, ◌∷◌, [], ℕ, List, length, map, min};
 ghost use Rattle.ir_event.specs.trees.Limits.{most_items};
-ghost use Rattle.mlir_work_c_read.specs.Filled.{over};
+ghost use Rattle.mlir_work_c_read.specs.Filled.{over_from, WritesFrom};
 ghost use Rattle.mlir_work_c_read.specs.Operations.{tree_in};
-ghost use Rattle.mlir_work_c_read.specs.Bulk.{WritesFirst};
-ghost use Rattle.mlir_work_c_read.specs.Records.{WritesRecord, WritesRecords, WritesResults, few, no_operation, operand_item, result_item, use_item};
+ghost use Rattle.mlir_work_c_read.specs.Records.{WritesRecord, WritesRecords, few, no_operation, operand_item, result_item, result_items, use_item};
 
 use crate::numbers::RecordItem;
 use ir_event::store::result_uses::ResultUses;
@@ -78,7 +77,7 @@ fn count_of(count: usize) -> u32
 #[inline(always)]
 fn write_item(item: RecordItem, into: &mut [RecordItem], at: usize) -> usize
     requires { at ≤ length into.old }
-    ensures { WritesAt (item ∷ []) at into.old into.new result }
+    ensures { WritesFrom (item ∷ []) at into.old into.new result }
 {
     if at >= into.len() {
         return at;
@@ -91,7 +90,7 @@ fn write_item(item: RecordItem, into: &mut [RecordItem], at: usize) -> usize
 #[inline(always)]
 fn write_operands(operands: &[Value], into: &mut [RecordItem], at: usize) -> usize
     requires { at ≤ length into.old }
-    ensures { WritesAt (map operand_item operands.now) at into.old into.new result }
+    ensures { WritesFrom (map operand_item operands.now) at into.old into.new result }
 {
     let mut place = at;
     let mut rest = operands;
@@ -132,35 +131,37 @@ fn write_results(
     requires at { at ≤ length into.old }
     requires few { length types.now ≤ most_items }
     requires uses { length all.now ≡ length types.now }
-    ensures { WritesAt (result_items types.now all.now) at into.old into.new result }
+    ensures { WritesFrom (result_items all.now 0 types.now) at into.old into.new result }
 {
-    let mut at = at;
-    let mut place = 0;
+    let mut place = at;
+    let mut index = 0;
     let mut rest = types;
     'results: while let [ty, tail @ ..] = rest {
-        at = write_result(all.of(place), *ty, into, at);
-        place += 1;
+        place = write_result(all.of(index), *ty, into, place);
+        index += 1;
         rest = tail;
     }
-    at
+    place
 }
 
 /// Writes a result of this type to a place, and then its uses. Returns the place after the last use.
 #[inline(always)]
 fn write_result(uses: UsesOf<'_>, ty: TypeId, into: &mut [RecordItem], at: usize) -> usize
     requires { at ≤ length into.old }
-    ensures { WritesAt (result_item ty (length uses.entry) ∷ map use_item uses.entry) at into.old into.new result }
+    ensures { WritesFrom (result_item ty (length uses.entry) ∷ map use_item uses.entry) at into.old into.new result }
 {
     if at >= into.len() {
         return at;
     }
-    let count = write_uses(uses, into, at + 1);
+    let place = at + 1;
+    let space = into.len() - place;
+    let count = write_uses(uses, into, place);
     into[at] = RecordItem {
         first: ty.number(),
         second: count_of(count),
         third: 0,
     };
-    at + 1 + count.min(into.len() - at - 1)
+    place + count.min(space)
 }
 
 /// Writes uses from a place on, as many as there is space for. Returns how many there are, or 2^64 - 1 if there are more.
