@@ -1,6 +1,6 @@
 -- Records that are written one part after the other.
 use Rattle.std.proofs.Common.{◌≡◌, ◌∙◌, ap, sym, subst, refl, ℕ, suc, ◌+◌, ◌-◌, ◌≤◌, ◌<◌, List, [], ◌∷◌, ◌++◌, length, length-append, append-nil, map, take, drop, get_or, Bool, true, ◌&&◌, Option, Some, None, option_map, arith, leb-true}
-use Rattle.std.specs.Prelude.{min, nat_le}
+use Rattle.std.specs.Prelude.{min, nat_le, slice_set}
 use Rattle.ir_event.specs.store.OpRecords.{AreResultUses, lists_in}
 use Rattle.ir_event.specs.trees.declared.value.Value.{Value}
 use Rattle.ir_event.specs.trees.Tree.{Op, op, region_count}
@@ -14,7 +14,7 @@ use Rattle.mlir_work_c_read.specs.declared.numbers.RecordItem.{RecordItem}
 use Rattle.mlir_work_c_read.specs.Bulk.{WritesFirst, operands_in}
 use Rattle.mlir_work_c_read.specs.Filled.{over_from, WritesFrom}
 use Rattle.mlir_work_c_read.specs.Records.{AreRecords, AreResults, IsRecord, few, operand_item, operation_item, result_item, result_items, results_in, use_item}
-use Rattle.mlir_work_c_read.proofs.Joining.{Continues, begins, begins_from, continues, continues_from, ends, ends_from, rest_at}
+use Rattle.mlir_work_c_read.proofs.Joining.{Continues, ContinuesFrom, begins, begins_from, continues, continues_from, ends, ends_from, rest_at, set_here}
 
 -- ---- an operation has few operands and results
 
@@ -86,6 +86,14 @@ three_is f s t a b d p q r = λ i. three (p i) (q i) (r i)
 pub many_uses : (us : List (ℕ × ℕ)) → length (map use_item us) ≡ length us
 many_uses [] = refl
 many_uses (u ∷ us) = ap suc (many_uses us)
+
+-- a use is written
+pub use_on : (rest new : List (ℕ × ℕ)) (u : ℕ × ℕ) (x : RecordItem) (whole : List RecordItem) (b at : ℕ) (into old : List RecordItem) → rest ≡ u ∷ new → x ≡ use_item u → at < length into
+    → ContinuesFrom (map use_item rest) whole b at into old → ContinuesFrom (map use_item new) whole b (at + 1) (slice_set into at x) old
+use_on rest new u x whole b at into old steps is less h =
+    let written = ap (slice_set into at) is ∙ set_here at (use_item u) into less in
+    continues_from (use_item u ∷ []) (map use_item new) (map use_item rest) whole b at (at + 1) into (slice_set into at x) old
+    (ap (map use_item) steps) (record { written = written; end_is = omega (arith, less) }) h
 
 -- ---- the lists of records and of results
 
