@@ -169,6 +169,7 @@ fn write_result(uses: UsesOf<'_>, ty: TypeId, into: &mut [RecordItem], at: usize
 fn write_uses(uses: UsesOf<'_>, into: &mut [RecordItem], at: usize) -> usize
     requires { at ≤ length into.old }
     ensures written { into.new ≡ over_from at (map use_item uses.entry) into.old }
+    ensures size { length into.new ≡ length into.old }
     ensures count { result ≡ min (length uses.entry) 18446744073709551615 }
 {
     let mut place = at;

@@ -11,13 +11,13 @@ returns-in_default c =
     let x = c.args.op in
     let t = tree_in c.args.world.now in (
       c.absent.result ∷ [],
-      subst (λ i. IsRecord x t (i ∷ [])) (sym c.absent.ensures) (record_none x t (sym (ap (λ o. o) (sym c.op_record.ensures.lists)))),
+      subst (λ i. IsRecord x t (i ∷ [])) (sym c.absent.ensures) (record_none x t c.in_default.ensures.lists),
       c.write_item.ensures,
     )
 
 pub item_of-head-requires : goal.item_of-head-requires
 item_of-head-requires c =
-    let few = few_items _ c.args.op (tree_in c.args.world.now) c.args.world.now.wellformed.wellformed _ c.op_record.ensures.lists in
+    let few = few_items _ c.args.op (tree_in c.args.world.now) c.args.world.now.wellformed.wellformed _ c.in-Some.ensures.lists in
     record { operands = few.0; results = few.1 }
 
 pub write_operands-after_operands-requires : goal.write_operands-after_operands-requires
@@ -29,7 +29,7 @@ write_operands-after_operands-requires c =
 
 pub write_results-requires : goal.write_results-requires
 write_results-requires c =
-    let few = few_items _ c.args.op (tree_in c.args.world.now) c.args.world.now.wellformed.wellformed _ c.op_record.ensures.lists in
+    let few = few_items _ c.args.op (tree_in c.args.world.now) c.args.world.now.wellformed.wellformed _ c.in-Some.ensures.lists in
     let a = c.write_item-after_head.ensures in
     let size = size_from _ _ _ _ _ c.requires a in
     let end = a.end_is in
@@ -37,7 +37,7 @@ write_results-requires c =
     let b = c.write_operands-after_operands.ensures in
     let size_b = size_from _ _ _ _ _ within b in
     let end_b = b.end_is in
-    record { at = omega (arith, size_b, end_b); few = few.1; uses = c.op_record.ensures.count }
+    record { at = omega (arith, size_b, end_b); few = few.1; uses = c.in-Some.ensures.count }
 
 pub returns : goal.returns
 returns c =
@@ -49,6 +49,6 @@ returns c =
     let items = (c.item_of-head.result ∷ []) ++ (map operand_item found.operands.now ++ results) in (
       items,
       subst (λ i. IsRecord x t ((i ∷ []) ++ (map operand_item found.operands.now ++ results))) (sym head)
-      (record_is x t found.name found.operands.now found.results.now results c.op_record.ensures.lists (results_are x t found.uses 0 found.results.now (sym c.op_record.ensures.count) c.op_record.ensures.uses)),
+      (record_is x t found.name found.operands.now found.results.now results c.in-Some.ensures.lists (results_are x t found.uses 0 found.results.now (sym c.in-Some.ensures.count) c.in-Some.ensures.uses)),
       three_parts (c.item_of-head.result ∷ []) (map operand_item found.operands.now) results _ _ _ _ _ _ _ _ c.requires c.write_item-after_head.ensures c.write_operands-after_operands.ensures c.write_results.ensures,
     )

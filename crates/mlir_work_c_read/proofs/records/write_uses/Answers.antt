@@ -50,3 +50,9 @@ returns-clause-count c =
     let inside = c.uses.invariant.2.inside in
     let fits : length c.args.into.now ≤ 18446744073709551615 = search rules in
     omega (arith, none, sum, place, inside, fits)
+
+pub returns-then-place-len-clause-size : goal.returns-then-place-len-clause-size
+returns-then-place-len-clause-size c = c.uses.invariant.2.size
+
+pub returns-clause-size : goal.returns-clause-size
+returns-clause-size c = c.uses.invariant.2.size

@@ -1,17 +1,15 @@
-use Rattle.std.proofs.Common.{◌≡◌, ◌∙◌, ◌<◌, ◌+◌, ℕ, [], sym, ap, subst, length, get_or, Some, arith}
+use Rattle.std.proofs.Common.{◌∙◌, ◌<◌, ◌+◌, [], sym, ap, subst, length, get_or, Some, arith}
 use Rattle.std.specs.Prelude.{option_map}
 use Rattle.ir_store_reads.specs.Rows.{row_at}
 use Rattle.ir_store_reads.specs.Index.{AreHeads, cells_of}
 use Rattle.ir_store_reads.specs.Using.{AreUses, uses_at}
-use Rattle.ir_store_reads.specs.Spells.{SpellsOp}
-use Rattle.ir_store_reads.specs.trees.Tree.{Op, op}
 use Rattle.ir_store_reads.specs.trees.Ids.{find}
 use Rattle.ir_store_reads.specs.trees.declared.value.Value.TheVariants.{Result}
 use Rattle.ir_store_reads.proofs.SlotLaws.{none_found}
 use Rattle.ir_store_reads.proofs.Using.{each_at, each_length}
 use Rattle.ir_store.specs.OpRecords.{lists_in}
 use Rattle.ir_store.proofs.Called.{rows_in, keys_in}
-use Rattle.ir_store.proofs.Viewed.{own, result_heads, uses_are}
+use Rattle.ir_store.proofs.Viewed.{lists_are, result_heads, uses_are}
 use Rattle.ir_store.proofs.store.Store.op_record.Goals as goal
 
 pub returns-in_default-clause-lists : goal.returns-in_default-clause-lists
@@ -29,16 +27,10 @@ new-requires c =
 pub returns-clause-lists : goal.returns-clause-lists
 returns-clause-lists c =
     let a = c.self.inside in
-    let k = c.in-Some.key in
-    let found = own a c.self.invariant c.args.op k c.in-Some.ensures in
     let lists = c.lists-operands.ensures in
     (λ i. Some (c.name.ensures i, (lists.operands i, lists.results i)))
-    ∙ ap Some (spelt found.0 found.1.1) ∙ sym (ap (option_map lists_in) found.1.0)
+    ∙ lists_are a c.self.invariant c.args.op c.in-Some.key c.in-Some.ensures
     ∙ ap (λ s. option_map lists_in (find c.args.op s.module_of.tree)) c.self.view_is
-  where
-    spelt : (o : Op) → SpellsOp (rows_in c.self.inside) c.self.inside.sibs.lists c.in-Some.key o
-        → ((row_at (rows_in c.self.inside) c.in-Some.key).head.name, ((row_at (rows_in c.self.inside) c.in-Some.key).head.operands, (row_at (rows_in c.self.inside) c.in-Some.key).head.results)) ≡ lists_in o
-    spelt (op h rs) s = ap (λ z. (z.name, (z.operands, z.results))) s.1.0
 
 pub returns-clause-count : goal.returns-clause-count
 returns-clause-count c =
