@@ -1,5 +1,5 @@
 //! The operations of the module in pre-order.
-ghost use Rattle.std.specs.Prelude.{◌≡◌, ℕ, ◌∷◌, [], None, map, OnOk};
+ghost use Rattle.std.specs.Prelude.{◌≡◌, ℕ, List, ◌∷◌, [], None, map, OnOk};
 ghost use Rattle.ir_store_slots.specs.Lists.{IsHead, Laws, list_at};
 ghost use Rattle.ir_store_slots.specs.Rows.{row_at, shape_of};
 ghost use Rattle.ir_store_slots.specs.Plans.{AllHeads};
@@ -119,12 +119,7 @@ fn push_item(
 
 /// Appends the operation of a slot, which has no regions.
 #[inline(always)]
-fn push_leaf(
-    slots: &Slots,
-    key: usize,
-    levels: u32,
-    out: &mut Vec<OpId>,
-) -> Result<(), AllocError>
+fn push_leaf(slots: &Slots, key: usize, levels: u32, out: &mut Vec<OpId>) -> Result<(), AllocError>
     requires { (row_at slots.now key).shapes ≡ [] }
     ensures { (lists : List (List ℕ)) → OnOk result (AddsOp slots.now lists key out.old.items out.new.items) }
 {

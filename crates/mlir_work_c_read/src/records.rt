@@ -1,6 +1,6 @@
 //! Reads of operations, each with its operands and with the types and the uses of its results, by one call for many
 //! operations.
-ghost use Rattle.std.specs.Prelude.{◌≡◌, ◌≤◌, ◌<◌, ◌∷◌, [], ℕ, List, length, map, min};
+ghost use Rattle.std.specs.Prelude.{◌≡◌, ◌≤◌, ◌∷◌, [], length, map, min};
 ghost use Rattle.ir_event.specs.trees.Limits.{most_items};
 ghost use Rattle.mlir_work_c_read.specs.Filled.{over_from, WritesFrom};
 ghost use Rattle.mlir_work_c_read.specs.Operations.{tree_in};
