@@ -1,5 +1,5 @@
 //! The operations of the module in pre-order.
-ghost use Rattle.std.specs.Prelude.{◌≡◌, ℕ, List, ◌∷◌, [], None, map, OnOk};
+ghost use Rattle.std.specs.Prelude.{◌≡◌, ℕ, ◌∷◌, [], None, map, OnOk};
 ghost use Rattle.ir_store_slots.specs.Lists.{IsHead, Laws, list_at};
 ghost use Rattle.ir_store_slots.specs.Rows.{row_at, shape_of};
 ghost use Rattle.ir_store_slots.specs.Plans.{AllHeads};
@@ -96,8 +96,7 @@ fn push_list(
     Ok(())
 }
 
-/// Appends the operation of a slot and those inside it. An operation without regions, the common case, needs no further
-/// call.
+/// Appends the operation of a slot and those inside it. An operation without regions, the common case, needs no call.
 #[cycle(push)]
 #[inline(always)]
 fn push_item(
@@ -111,18 +110,9 @@ fn push_item(
     requires laws { Laws sibs.now.lists sibs.now.homes }
     ensures { OnOk result (AddsOp slots.now sibs.now.lists key out.old.items out.new.items) }
 {
-    if slots.areas(key).is_empty() {
-        return push_leaf(slots, key, levels, out);
+    if !slots.areas(key).is_empty() {
+        return push_op(slots, sibs, key, levels, out);
     }
-    push_op(slots, sibs, key, levels, out)
-}
-
-/// Appends the operation of a slot, which has no regions.
-#[inline(always)]
-fn push_leaf(slots: &Slots, key: usize, levels: u32, out: &mut Vec<OpId>) -> Result<(), AllocError>
-    requires { (row_at slots.now key).shapes ≡ [] }
-    ensures { (lists : List (List ℕ)) → OnOk result (AddsOp slots.now lists key out.old.items out.new.items) }
-{
     if levels == 0 || !slots.is_live(key) {
         return Err(AllocError);
     }

@@ -6,7 +6,7 @@ use Rattle.ir_store_slots.specs.Rows.{shape_of}
 use Rattle.ir_store_reads.specs.Added.{AddsRegions}
 use Rattle.ir_store_slots.proofs.Items.{on_ok}
 use Rattle.ir_store_slots.proofs.Walked.{listed_item}
-use Rattle.ir_store_reads.proofs.Adding.{added_op, adds_empty, adds_block, is_none, region_step, regions_done, slots_start, slots_step, slots_less, slots_done}
+use Rattle.ir_store_reads.proofs.Adding.{added_op, adds_empty, adds_block, adds_none, is_none, region_step, regions_done, slots_start, slots_step, slots_less, slots_done}
 use Rattle.ir_store_reads.proofs.walk.+push.Goals as goal
 
 pub push_area-returns-in-Empty : goal.push_area-returns-in-Empty
@@ -65,8 +65,11 @@ push_op-returns t c =
     (subst (λ z. AddsRegions slots lists z c.push.new.self.items c.push_areas.new.out.items) c.areas.ensures g))
     c.push_areas.ensures
 
-pub push_item-push_leaf-requires : goal.push_item-push_leaf-requires
-push_item-push_leaf-requires t c = sym c.areas.ensures ∙ ap (map shape_of) (is_none c.areas.result.now (grind (arith, nat_tests)))
-
-pub push_item-returns-then-is_empty : goal.push_item-returns-then-is_empty
-push_item-returns-then-is_empty t c = c.push_leaf.ensures c.args.sibs.now.lists
+pub push_item-returns : goal.push_item-returns
+push_item-returns t c =
+    let slots = c.args.slots.now in
+    let lists = c.args.sibs.now.lists in
+    let out = c.push.new.self.items in
+    let none = sym c.areas.ensures ∙ ap (map shape_of) (is_none c.areas.result.now (grind (arith, nat_tests))) in
+    added_op slots lists c.args.key c.args.out.now.items out out c.id.result c.id.ensures c.in_ok-push.ensures.items
+    (subst (λ xs. AddsRegions slots lists xs out out) (sym none) (adds_none slots lists out))
