@@ -175,10 +175,10 @@ fn write_uses(uses: UsesOf<'_>, into: &mut [RecordItem], at: usize) -> usize
     let mut place = at;
     let mut count = 0;
     let mut rest = uses;
-    'uses: while let Some((op, operand)) = rest.next() {
-        if place >= into.len() {
-            return rest.len().saturating_add(count).saturating_add(1);
-        }
+    'uses: while place < into.len() {
+        let Some((op, operand)) = rest.next() else {
+            return count;
+        };
         into[place] = RecordItem {
             first: op.number(),
             second: operand,
@@ -187,5 +187,5 @@ fn write_uses(uses: UsesOf<'_>, into: &mut [RecordItem], at: usize) -> usize
         place += 1;
         count += 1;
     }
-    count
+    rest.len().saturating_add(count)
 }
