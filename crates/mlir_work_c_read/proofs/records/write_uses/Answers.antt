@@ -1,4 +1,5 @@
-use Rattle.std.proofs.Common.{rules, refl, ap, subst, ◌<◌, ◌≤◌, length, map, arith}
+use Rattle.std.proofs.Common.{rules, refl, ap, subst, ◌≡◌, ◌+◌, ◌<◌, ◌≤◌, length, map, arith}
+use Rattle.std.specs.Prelude.{min}
 use Rattle.mlir_work_c_read.specs.Records.{use_item}
 use Rattle.mlir_work_c_read.proofs.Joining.{ContinuesFrom, begins_from, ends_from, full_from}
 use Rattle.mlir_work_c_read.proofs.Recording.{two_is, use_on}
@@ -53,6 +54,6 @@ returns-clause-size c = c.uses.invariant.2.size
 pub returns-clause-count : goal.returns-clause-count
 returns-clause-count c =
     let left = c.len.ensures in
-    let all = c.saturating_add.ensures in
+    let all : c.saturating_add.result ≡ min (c.len.result + c.uses.count) 18446744073709551615 = c.saturating_add.ensures in
     let sum = c.uses.invariant.0 in
     omega (arith, left, all, sum)
