@@ -1,5 +1,4 @@
-use Rattle.std.proofs.Common.{◌≡◌, ◌∙◌, ◌<◌, ◌+◌, [], sym, ap, subst, length, get_or, arith}
-use Rattle.ir_store_slots.specs.Lists.{IsHead}
+use Rattle.std.proofs.Common.{◌∙◌, ◌<◌, [], sym, ap, length, get_or, arith}
 use Rattle.ir_store_slots.specs.Index.{cells_of}
 use Rattle.ir_store_reads.proofs.Using.{each_at, each_length}
 use Rattle.ir_store_reads.proofs.result_uses.ResultUses.of.Goals as goal
