@@ -13,7 +13,7 @@ use ir_event::analysis::Analysis;
 use ir_event::types::ids::OpId;
 use ir_event::types::refusal::Refusal;
 use ir_event::world::World;
-use mlir_work_session_base::operation_objects::{text_of_all, text_of_page};
+use mlir_work_session_base::operation_walk::{text_of_all, text_of_page};
 use mlir_work_transforms::rewriter::Bench;
 use std::alloc::{AllocError, Global};
 

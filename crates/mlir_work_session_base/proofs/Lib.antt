@@ -2,5 +2,5 @@ pub mod RowWalks
 pub mod Lines
 pub mod Abouts
 pub mod JsonText
-pub mod PlacedOps
+pub mod OperationWalk
 pub mod OperationObjects

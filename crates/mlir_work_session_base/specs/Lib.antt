@@ -3,3 +3,4 @@ pub mod IdsText
 pub mod Subjects
 pub mod PlacedOps
 pub mod OperationObjects
+pub mod OperationWalk

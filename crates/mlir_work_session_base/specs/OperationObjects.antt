@@ -9,7 +9,7 @@ use Rattle.ir_text.specs.TypeText.{type_text}
 use Rattle.ir_text_tokens.specs.Printing.{raw_text}
 use Rattle.mlir_work_script_base.specs.Values.{op_text, value_text}
 use Rattle.mlir_work_session_base.specs.PlacedOps.{PlacedOf, page, placed}
-use Rattle.mlir_work_session_base.specs.declared.placed_ops.Place.{Place}
+use Rattle.mlir_work_session_base.specs.declared.place.Place.{Place}
 use Rattle.serde_json.specs.Data.{Data, null, number, unsigned, string, array, object, Items, no_items, item, Members, no_members, member}
 use Rattle.serde_json.specs.Written.{compact_text}
 

@@ -1,20 +1,12 @@
 -- The operations of a tree in pre-order, each with its place, and pages of them.
 use Rattle.std.specs.Prelude.{ℕ, ◌+◌, ◌==◌, Bool, if◌then◌else◌, List, [], ◌∷◌, ◌++◌, take, Option, Some, None}
-use Rattle.ir_event.specs.trees.Meaning.{is_attr, is_name, is_type, meaning}
-use Rattle.ir_event.specs.trees.Passing.{op_passes}
 use Rattle.ir_event.specs.trees.Tree.{OpOf, head, op, RegionsOf, no_regions, region, RegionOf, empty, block, OpsOf, no_ops, next}
-use Rattle.ir_event.specs.types.Terms.{AttrTerm, TypeTerm}
-use Rattle.ir_event.specs.types.Things.{ContextModel}
-use Rattle.mlir_work_session_base.specs.declared.placed_ops.Place.{Place}
-use Rattle.mlir_work_session_base.specs.declared.placed_ops.PlacedOp.{PlacedOp}
+use Rattle.mlir_work_session_base.specs.declared.place.Place.{Place}
 
 -- an operation with its place; the root has no place
 pub record PlacedOf (N T A : Type 0) : Type 0 where
   pub place : Option Place
   pub operation : OpOf N T A
-
-abbrev pub Placed : Type 0
-Placed = PlacedOf ℕ ℕ ℕ
 
 -- an operation at this place and the operations inside it, in pre-order
 abbrev mutual
@@ -43,16 +35,3 @@ from_op x (p ∷ ps) = if (head p.operation).id == x then p ∷ ps else from_op 
 -- at most `count` operations from operation x on
 abbrev pub page : {N T A : Type 0} → ℕ → ℕ → List (PlacedOf N T A) → List (PlacedOf N T A)
 page x count ps = take count (from_op x ps)
-
--- ---- operations whose names, types and attributes are ids of a context
-
--- the placed operation that a `PlacedOp` is
-abbrev pub placed_view : PlacedOp → Placed
-placed_view p = record { place = p.place; operation = p.operation.now }
-
-abbrev pub placed_meaning : ContextModel → Placed → PlacedOf (List ℕ) TypeTerm AttrTerm
-placed_meaning c p = record { place = p.place; operation = meaning c p.operation }
-
--- whether the names, types and attributes of the operation, without those inside it, are ids of the context
-abbrev pub is_placed_known : ContextModel → Placed → Bool
-is_placed_known c p = op_passes (is_name c) (is_type c) (is_attr c) p.operation

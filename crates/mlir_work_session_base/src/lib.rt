@@ -1,12 +1,13 @@
 //! The parts of a session that know no script: the text of report rows (`rows`, `subjects`), the text of a module
-//! with operation ids (`ids`), operations as JSON objects (`operation_objects`, `placed_ops`, `json_text`), and
+//! with operation ids (`ids`), operations as JSON objects (`operation_walk`, `operation_objects`, `json_text`), and
 //! listeners that are created by kind (`analysis_source`).
 #![tactic(auto)]
 
 pub mod analysis_source;
 pub mod ids;
 mod json_text;
-pub mod operation_objects;
-mod placed_ops;
+mod operation_objects;
+pub mod operation_walk;
+mod place;
 pub mod rows;
 pub mod subjects;

@@ -1,9 +1,9 @@
 //! Writes operations as JSON objects, one a line.
-ghost use Rattle.std.specs.Prelude.{◌≡◌, ◌++◌, ◌∷◌, ℕ, List, [], false, true, codes, map, IfOk, IsTrue, OnOk};
+ghost use Rattle.std.specs.Prelude.{◌≡◌, ◌++◌, ◌∷◌, ℕ, List, [], false, true, codes, map, IsTrue, OnOk};
 ghost use Rattle.std.specs.Fmt.{decimal};
 ghost use Rattle.std.specs.List.{list_all};
 ghost use Rattle.ir_event.specs.trees.Limits.{all_arguments_pass};
-ghost use Rattle.ir_event.specs.trees.Meaning.{is_attr, is_known, is_name, is_type, meaning};
+ghost use Rattle.ir_event.specs.trees.Meaning.{is_attr, is_name, is_type, meaning};
 ghost use Rattle.ir_event.specs.trees.Passing.{entry_passes, head_passes, op_passes};
 ghost use Rattle.ir_event.specs.trees.Tree.{head, regions, regions_of};
 ghost use Rattle.ir_event.specs.trees.View.{region_view};
@@ -15,14 +15,13 @@ ghost use Rattle.ir_text.specs.View.{entries_in, head_in, regions_in, types_in};
 ghost use Rattle.ir_text_tokens.specs.Printing.{raw_text};
 ghost use Rattle.json.specs.Print.{quoted};
 ghost use Rattle.mlir_work_script_base.specs.Values.{op_text, value_text};
-ghost use Rattle.mlir_work_session_base.specs.OperationObjects.{all_objects_text, entry_members, first_members, index_data, last_members, objects_text};
-ghost use Rattle.mlir_work_session_base.specs.OperationObjects.{operation_data, page_text, parent_data, region_data, region_items, type_items, value_items};
-ghost use Rattle.mlir_work_session_base.specs.PlacedOps.{is_placed_known, placed_meaning, placed_view};
+ghost use Rattle.mlir_work_session_base.specs.OperationObjects.{argument_types, entry_members, first_members, index_data, last_members};
+ghost use Rattle.mlir_work_session_base.specs.OperationObjects.{operation_data, parent_data, region_data, region_items, type_items, value_items};
 ghost use Rattle.serde_json.specs.Data.{Members, array, null, object};
 ghost use Rattle.serde_json.specs.Written.{compact_text, members_text};
 
 use crate::json_text::{write_comma, write_key, write_quoted};
-use crate::placed_ops::{Place, PlacedOp, page, placed_ops};
+use crate::place::Place;
 use ir_event::trees::tree::{TreeOp, TreeRegion};
 use ir_event::trees::value::Value;
 use ir_event::types::context::Context;
@@ -33,7 +32,7 @@ use ir_text::types::print_type;
 use ir_text_tokens::print::print_string;
 use itoa::Buffer;
 use mlir_work_script_base::cells;
-use std::alloc::{AllocError, Global};
+use std::alloc::AllocError;
 
 // A `text` that functions take is scratch space: they overwrite it.
 
@@ -281,60 +280,20 @@ fn write_last(
     Ok(())
 }
 
-/// Appends the line of an operation.
-fn write_object(
+/// Appends the line of an operation at a place.
+pub(crate) fn write_object(
     ctx: &Context,
     out: &mut Vec<u8>,
     text: &mut Vec<u8>,
-    placed: &PlacedOp<'_>,
+    place: &Option<Place>,
+    tree: &TreeOp,
 ) -> Result<(), AllocError>
-    requires { IsTrue (is_placed_known ctx.now (placed_view placed.now)) }
-    ensures { OnOk result (out.new.items ≡ out.old.items ++ (compact_text (operation_data placed.now.place (meaning ctx.now placed.now.operation.now)) ++ codes "\n")) }
+    requires { IsTrue (op_passes (is_name ctx.now) (is_type ctx.now) (is_attr ctx.now) tree.now) }
+    ensures { OnOk result (out.new.items ≡ out.old.items ++ (compact_text (operation_data place.now (meaning ctx.now tree.now)) ++ codes "\n")) }
 {
     out.push(b'{')?;
-    write_first(ctx, out, text, placed.operation)?;
-    write_last(ctx, out, text, &placed.place, placed.operation)?;
+    write_first(ctx, out, text, tree)?;
+    write_last(ctx, out, text, place, tree)?;
     out.push(b'\n')?;
     Ok(())
-}
-
-/// Returns the lines of operations.
-fn text_of_objects(
-    alloc: Global,
-    ctx: &Context,
-    ops: &[PlacedOp<'_>],
-) -> Result<Vec<u8>, AllocError>
-    requires { IsTrue (list_all (is_placed_known ctx.now) (map placed_view ops.now)) }
-    ensures { IfOk result (λ text. text.items ≡ objects_text (map (placed_meaning ctx.now) (map placed_view ops.now))) }
-{
-    let mut out = Vec::new(alloc);
-    let mut text = Vec::new(alloc);
-    'ops: for op in ops {
-        write_object(ctx, &mut out, &mut text, op)?;
-    }
-    Ok(out)
-}
-
-/// Returns the lines of all operations of a tree, in pre-order.
-pub fn text_of_all(alloc: Global, ctx: &Context, tree: &TreeOp) -> Result<Vec<u8>, AllocError>
-    requires { IsTrue (is_known ctx.now tree.now) }
-    ensures { IfOk result (λ text. text.items ≡ all_objects_text (meaning ctx.now tree.now)) }
-{
-    let ops = placed_ops(alloc, tree)?;
-    text_of_objects(alloc, ctx, &ops)
-}
-
-/// Returns the lines of at most `count` operations of a tree, in pre-order from operation `op` on.
-pub fn text_of_page(
-    alloc: Global,
-    ctx: &Context,
-    tree: &TreeOp,
-    op: OpId,
-    count: u32,
-) -> Result<Vec<u8>, AllocError>
-    requires { IsTrue (is_known ctx.now tree.now) }
-    ensures { IfOk result (λ text. text.items ≡ page_text op count (meaning ctx.now tree.now)) }
-{
-    let ops = placed_ops(alloc, tree)?;
-    text_of_objects(alloc, ctx, page(&ops, op, count))
 }
