@@ -11,7 +11,7 @@ ghost use Rattle.ir_event.specs.types.Terms.{attr_term, name_term, type_term};
 ghost use Rattle.ir_event.specs.types.Things.{IsAttr, IsName, IsType};
 ghost use Rattle.ir_text.specs.AttrText.{attr_text};
 ghost use Rattle.ir_text.specs.TypeText.{type_text};
-ghost use Rattle.ir_text.specs.View.{entries_in, head_in, regions_in, types_in};
+ghost use Rattle.ir_text.specs.View.{entries_in, regions_in, types_in};
 ghost use Rattle.ir_text_tokens.specs.Printing.{raw_text};
 ghost use Rattle.json.specs.Print.{quoted};
 ghost use Rattle.mlir_work_script_base.specs.Values.{op_text, value_text};
@@ -73,7 +73,8 @@ fn write_name(ctx: &Context, out: &mut Vec<u8>, text: &mut Vec<u8>, id: NameId) 
 {
     text.clear();
     print_string(text, name_of(ctx, id))?;
-    write_quoted(out, inside(text))
+    write_quoted(out, inside(text))?;
+    Ok(())
 }
 
 /// Appends an operation id as a JSON string.
@@ -239,7 +240,7 @@ fn write_index(out: &mut Vec<u8>, place: &Option<Place>) -> Result<(), AllocErro
 /// Appends the members of an operation's object up to `operands`.
 fn write_first(ctx: &Context, out: &mut Vec<u8>, text: &mut Vec<u8>, tree: &TreeOp) -> Result<(), AllocError>
     requires { IsTrue (head_passes (is_name ctx.now) (is_type ctx.now) (is_attr ctx.now) (head tree.now)) }
-    ensures { OnOk result ((ms : Members) → out.new.items ++ members_text true ms ≡ out.old.items ++ members_text false (first_members (head_in ctx.now (head tree.now)) ms)) }
+    ensures { OnOk result ((ms : Members) → out.new.items ++ members_text true ms ≡ out.old.items ++ members_text false (first_members (head (meaning ctx.now tree.now)) ms)) }
 {
     write_key(out, false, b"attributes")?;
     write_entries(ctx, out, text, &tree.attrs)?;
@@ -250,7 +251,8 @@ fn write_first(ctx: &Context, out: &mut Vec<u8>, text: &mut Vec<u8>, tree: &Tree
     write_key(out, true, b"name")?;
     write_name(ctx, out, text, tree.name)?;
     write_key(out, true, b"operands")?;
-    write_values(out, text, &tree.operands)
+    write_values(out, text, &tree.operands)?;
+    Ok(())
 }
 
 /// Appends the members of an operation's object after `operands`, and the closing brace.
