@@ -1,20 +1,26 @@
 -- Walks over operations: a page is the operations that a walk writes.
-use Rattle.std.proofs.Common.{◌≡◌, ◌∙◌, ap, sym, refl, ℕ, zero, suc, ◌+◌, ◌-◌, ◌<◌, ◌≤◌, ◌==◌, ◌&&◌, Bool, true, false, not, if◌then◌else◌, List, [], ◌∷◌, ◌++◌, append_assoc, append-nil, drop, get_or, length, map, take, Option, Some, None, IsTrue, codes, subst}
+use Rattle.std.proofs.Common.{◌≡◌, ◌∙◌, ap, sym, refl, ℕ, zero, suc, ◌+◌, ◌<◌, ◌≤◌, ◌==◌, Bool, true, false, List, [], ◌∷◌, ◌++◌, append_assoc, append-nil, drop, get_or, length, take, Option, Some, None, IsTrue}
 use Rattle.std.proofs.Math.ListN.{drop_of_length-le}
 use Rattle.std.proofs.lemmas.Bool.{and_parts}
 use Rattle.ir_event.proofs.of_trees.Steps.{next_left}
-use Rattle.ir_event.specs.trees.Tree.{Op, head, op, no_ops, no_regions, ops_of, regions_of}
+use Rattle.ir_event.specs.trees.Tree.{Op, head, op}
 use Rattle.ir_event.specs.trees.Meaning.{meaning}
-use Rattle.ir_event.specs.trees.Limits.{every, regions_every, region_every, ops_every}
-use Rattle.ir_event.specs.trees.View.{op_view, region_view}
-use Rattle.ir_event.specs.trees.declared.tree.TreeOp.TheInside.{Inside}
+use Rattle.ir_event.specs.trees.Limits.{every, regions_every}
+use Rattle.ir_event.specs.trees.View.{region_view}
 use Rattle.ir_event.specs.trees.declared.tree.TreeRegion.{TreeRegion}
 use Rattle.ir_event.specs.types.Things.{ContextModel}
 use Rattle.ir_text.specs.View.{ops_in, region_in, regions_in}
-use Rattle.mlir_work_session_base.specs.OperationObjects.{all_objects_text, objects_text, page_text}
-use Rattle.mlir_work_session_base.specs.OperationWalk.{Visited, Walk, all_visited, is_before, object_line, visited}
+use Rattle.mlir_work_session_base.specs.OperationObjects.{objects_text}
+use Rattle.mlir_work_session_base.specs.OperationWalk.{Visited, Walk, all_visited, object_line, visited}
 use Rattle.mlir_work_session_base.specs.PlacedOps.{from_op, ops_placed, placed, region_placed, regions_placed}
 use Rattle.mlir_work_session_base.specs.declared.place.Place.{Place}
+
+abbrev pub the_visited : Visited → Visited
+the_visited p = p
+
+-- a test of all operations of a tree holds for its root
+pub every_here : (q : Op → Bool) (t : Op) → IsTrue (every q t) → IsTrue (q t)
+every_here q (op h rs) e = (and_parts (q (op h rs)) (regions_every q rs) e).0
 
 -- one list of operations after another
 pub visited_both : (ps qs : List Visited) (w : Walk) → all_visited (ps ++ qs) w ≡ all_visited qs (all_visited ps w)

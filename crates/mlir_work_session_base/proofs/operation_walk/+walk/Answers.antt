@@ -1,14 +1,14 @@
-use Rattle.std.proofs.Common.{◌∙◌, ap, sym}
+use Rattle.std.proofs.Common.{◌∙◌, ap, sym, List}
 use Rattle.ir_event.specs.trees.Meaning.{meaning}
 use Rattle.ir_event.specs.trees.Tree.{Op}
-use Rattle.ir_event.specs.trees.View.{op_view, region_view}
+use Rattle.ir_event.specs.trees.View.{region_view}
 use Rattle.ir_event.specs.trees.declared.tree.TreeRegion.{TreeRegion}
 use Rattle.ir_event.proofs.of_trees.Steps.{next_left}
-use Rattle.ir_text.specs.View.{region_in}
+use Rattle.ir_text.specs.View.{ops_in, region_in, regions_in}
 use Rattle.ir_text.proofs.Walks.{inside_of, known_of}
-use Rattle.mlir_work_session_base.specs.OperationWalk.{all_visited, walk_view}
-use Rattle.mlir_work_session_base.specs.PlacedOps.{placed, region_placed}
-use Rattle.mlir_work_session_base.proofs.OperationWalk.{op_next, ops_end, region_next, regions_end}
+use Rattle.mlir_work_session_base.specs.OperationWalk.{all_visited, visited, walk_view}
+use Rattle.mlir_work_session_base.specs.PlacedOps.{ops_placed, placed, region_placed, regions_placed}
+use Rattle.mlir_work_session_base.proofs.OperationWalk.{op_next, ops_end, region_next, regions_end, the_visited}
 use Rattle.mlir_work_session_base.proofs.operation_walk.+walk.Goals as goal
 
 pub walk_op-regions-preserved : goal.walk_op-regions-preserved
@@ -29,10 +29,16 @@ walk_region-ops-preserved t c =
 
 pub walk_op-returns : goal.walk_op-returns
 walk_op-returns t c =
+    let before = walk_view c.args.writer.now in
+    let rest = regions_placed c.tree.inside.id 0 (regions_in c.args.ctx.now c.tree.inside.regions.items) in
+    let own = λ (o : Op). the_visited (record { place = c.args.place.now; operation = meaning c.args.ctx.now o }) in
     regions_end c.args.ctx.now c.tree.inside.id c.regions.number c.tree.inside.regions.items _ _ (rw c.deref-region-items.ensures.value at c.regions-test.false) c.regions.invariant.walk
-    ∙ ap (all_visited _) c.in_ok-visit.ensures
-    ∙ ap (λ (o : Op). all_visited (placed c.args.place.now (meaning c.args.ctx.now o)) (walk_view c.args.writer.now)) c.tree.view_is
+    ∙ ap (all_visited rest) c.in_ok-visit.ensures
+    ∙ ap (λ (o : Op). all_visited rest (visited (own o) before)) (sym c.tree.view_is)
+    ∙ ap (λ (o : Op). all_visited (placed c.args.place.now (meaning c.args.ctx.now o)) before) c.tree.view_is
 
 pub walk_region-returns-after-ops : goal.walk_region-returns-after-ops
 walk_region-returns-after-ops t c =
     ops_end c.args.ctx.now c.args.parent c.args.number c.ops.index c.deref-op-items.result.now _ _ c.ops-test.false c.ops.invariant.walk
+    ∙ ap (λ (os : List Op). all_visited (ops_placed c.args.parent c.args.number 0 (ops_in c.args.ctx.now os)) (walk_view c.args.writer.now)) c.deref-op-items.ensures.value
+    ∙ ap (λ (r : TreeRegion). all_visited (region_placed c.args.parent c.args.number (region_in c.args.ctx.now (region_view r))) (walk_view c.args.writer.now)) (sym c.in-Block.is)
