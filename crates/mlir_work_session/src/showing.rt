@@ -15,25 +15,31 @@ use ir_event::types::refusal::Refusal;
 use ir_event::world::World;
 use mlir_work_session_base::operation_walk::{text_of_all, text_of_page};
 use mlir_work_transforms::rewriter::Bench;
-use std::alloc::{AllocError, Global};
+use std::alloc::Global;
 
 /// Returns the lines of all operations of the module.
-fn text_of_module(alloc: Global, world: &World) -> Result<Vec<u8>, AllocError>
+fn text_of_module(alloc: Global, world: &World) -> Result<Vec<u8>, Refusal>
     ensures { IfOk result (λ text. text.items ≡ all_objects_text (module_in world.now).tree) }
 {
-    match world.store.tree() {
-        Ok(tree) => text_of_all(alloc, &world.ctx, &tree),
-        Err(_) => Err(AllocError),
+    let Ok(tree) = world.store.tree() else {
+        return Err(Refusal::Memory);
+    };
+    match text_of_all(alloc, &world.ctx, &tree) {
+        Ok(text) => Ok(text),
+        Err(_) => Err(Refusal::Memory),
     }
 }
 
 /// Returns the lines of at most `count` operations of the module, in pre-order from operation `op` on.
-fn text_from(alloc: Global, world: &World, op: OpId, count: u32) -> Result<Vec<u8>, AllocError>
+fn text_from(alloc: Global, world: &World, op: OpId, count: u32) -> Result<Vec<u8>, Refusal>
     ensures { IfOk result (λ text. text.items ≡ page_text op count (module_in world.now).tree) }
 {
-    match world.store.tree() {
-        Ok(tree) => text_of_page(alloc, &world.ctx, &tree, op, count),
-        Err(_) => Err(AllocError),
+    let Ok(tree) = world.store.tree() else {
+        return Err(Refusal::Memory);
+    };
+    match text_of_page(alloc, &world.ctx, &tree, op, count) {
+        Ok(text) => Ok(text),
+        Err(_) => Err(Refusal::Memory),
     }
 }
 

@@ -4,11 +4,14 @@ use Rattle.std.proofs.Math.ListN.{drop_of_length-le}
 use Rattle.std.proofs.lemmas.Bool.{and_parts}
 use Rattle.ir_event.proofs.of_trees.Steps.{next_left}
 use Rattle.ir_event.specs.trees.Meaning.{Operation}
-use Rattle.ir_event.specs.trees.Tree.{head, op, regions}
+use Rattle.ir_event.specs.trees.Limits.{arguments_pass}
+use Rattle.ir_event.specs.trees.Tree.{Region, head, op, regions, empty, block}
+use Rattle.ir_event.specs.types.Things.{ContextModel}
+use Rattle.ir_text.specs.View.{region_in, types_in}
 use Rattle.json.specs.Print.{quoted}
 use Rattle.serde_json.specs.Data.{Data, Items, no_items, item, Members, no_members, member, object}
 use Rattle.serde_json.specs.Written.{comma_if, compact_text, items_text, members_text}
-use Rattle.mlir_work_session_base.specs.OperationObjects.{first_members, last_members, operation_data}
+use Rattle.mlir_work_session_base.specs.OperationObjects.{argument_types, first_members, last_members, operation_data}
 use Rattle.mlir_work_session_base.specs.declared.place.Place.{Place}
 use Rattle.mlir_work_session_base.proofs.JsonText.{item_written}
 
@@ -52,6 +55,16 @@ entries_done f xs n out new whole later l none h w = w ∙ ap (λ ms. out ++ mem
 pub next_all : {X : Type 0} (q : X → Bool) (all : List X → Bool) (xs : List X) (n : ℕ) (x : X) → n < length xs → x ≡ get_or xs n x
     → all (x ∷ drop (n + 1) xs) ≡ (q x && all (drop (n + 1) xs)) → IsTrue (all (drop n xs)) → IsTrue (q x) × IsTrue (all (drop (n + 1) xs))
 next_all q all xs n x l e s h = and_parts (q x) (all (drop (n + 1) xs)) (subst (λ b. IsTrue b) (ap all (next_left xs n x l e) ∙ s) h)
+
+-- ---- the arguments of a region's block
+
+pub arguments_mapped : (c : ContextModel) (s : Region) → types_in c (argument_types s) ≡ argument_types (region_in c s)
+arguments_mapped c empty = refl
+arguments_mapped c (block ts os) = refl
+
+pub arguments_known : (q : List ℕ → Bool) (s : Region) → IsTrue (q []) → IsTrue (arguments_pass q s) → IsTrue (q (argument_types s))
+arguments_known q empty none e = none
+arguments_known q (block ts os) none e = e
 
 -- ---- whole objects
 

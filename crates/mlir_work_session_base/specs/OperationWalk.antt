@@ -1,5 +1,5 @@
 -- A walk over operations that writes the lines of a page.
-use Rattle.std.specs.Prelude.{ℕ, ◌-◌, ◌==◌, not, Bool, true, false, if◌then◌else◌, List, [], ◌∷◌, ◌++◌, Option, Some, None, codes}
+use Rattle.std.specs.Prelude.{ℕ, ◌-◌, ◌==◌, not, Bool, false, if◌then◌else◌, List, [], ◌∷◌, ◌++◌, Option, Some, None, codes}
 use Rattle.ir_event.specs.trees.Tree.{head}
 use Rattle.ir_event.specs.types.Terms.{AttrTerm, TypeTerm}
 use Rattle.mlir_work_session_base.specs.OperationObjects.{operation_data}

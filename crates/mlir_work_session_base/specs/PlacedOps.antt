@@ -1,5 +1,5 @@
 -- The operations of a tree in pre-order, each with its place, and pages of them.
-use Rattle.std.specs.Prelude.{ℕ, ◌+◌, ◌==◌, Bool, if◌then◌else◌, List, [], ◌∷◌, ◌++◌, take, Option, Some, None}
+use Rattle.std.specs.Prelude.{ℕ, ◌+◌, ◌==◌, if◌then◌else◌, List, [], ◌∷◌, ◌++◌, take, Option, Some}
 use Rattle.ir_event.specs.trees.Tree.{OpOf, head, op, RegionsOf, no_regions, region, RegionOf, empty, block, OpsOf, no_ops, next}
 use Rattle.mlir_work_session_base.specs.declared.place.Place.{Place}
 

@@ -37,7 +37,12 @@ use std::alloc::AllocError;
 // A `text` that functions take is scratch space: they overwrite it.
 
 /// Appends a type as a JSON string.
-fn write_type(ctx: &Context, out: &mut Vec<u8>, text: &mut Vec<u8>, id: TypeId) -> Result<(), AllocError>
+fn write_type(
+    ctx: &Context,
+    out: &mut Vec<u8>,
+    text: &mut Vec<u8>,
+    id: TypeId,
+) -> Result<(), AllocError>
     requires { IsType ctx.now id }
     ensures { OnOk result (out.new.items ≡ out.old.items ++ quoted (type_text (type_term ctx.now id))) }
 {
@@ -47,7 +52,12 @@ fn write_type(ctx: &Context, out: &mut Vec<u8>, text: &mut Vec<u8>, id: TypeId) 
 }
 
 /// Appends an attribute as a JSON string.
-fn write_attr(ctx: &Context, out: &mut Vec<u8>, text: &mut Vec<u8>, id: AttrId) -> Result<(), AllocError>
+fn write_attr(
+    ctx: &Context,
+    out: &mut Vec<u8>,
+    text: &mut Vec<u8>,
+    id: AttrId,
+) -> Result<(), AllocError>
     requires { IsAttr ctx.now id }
     ensures { OnOk result (out.new.items ≡ out.old.items ++ quoted (attr_text (attr_term ctx.now id))) }
 {
@@ -67,7 +77,12 @@ fn inside(text: &[u8]) -> &[u8]
 }
 
 /// Appends a name as a JSON string: as it is printed between quotes.
-fn write_name(ctx: &Context, out: &mut Vec<u8>, text: &mut Vec<u8>, id: NameId) -> Result<(), AllocError>
+fn write_name(
+    ctx: &Context,
+    out: &mut Vec<u8>,
+    text: &mut Vec<u8>,
+    id: NameId,
+) -> Result<(), AllocError>
     requires { IsName ctx.now id }
     ensures { OnOk result (out.new.items ≡ out.old.items ++ quoted (raw_text (name_term ctx.now id))) }
 {
@@ -96,7 +111,12 @@ fn write_value(out: &mut Vec<u8>, text: &mut Vec<u8>, value: Value) -> Result<()
 }
 
 /// Appends types as a JSON array.
-fn write_types(ctx: &Context, out: &mut Vec<u8>, text: &mut Vec<u8>, types: &[TypeId]) -> Result<(), AllocError>
+fn write_types(
+    ctx: &Context,
+    out: &mut Vec<u8>,
+    text: &mut Vec<u8>,
+    types: &[TypeId],
+) -> Result<(), AllocError>
     requires { IsTrue (list_all (is_type ctx.now) types.now) }
     ensures { OnOk result (out.new.items ≡ out.old.items ++ compact_text (array (type_items (types_in ctx.now types.now)))) }
 {
@@ -208,7 +228,11 @@ fn write_number(out: &mut Vec<u8>, number: usize) -> Result<(), AllocError>
 }
 
 /// Appends the parent of an operation, or `null`.
-fn write_parent(out: &mut Vec<u8>, text: &mut Vec<u8>, place: &Option<Place>) -> Result<(), AllocError>
+fn write_parent(
+    out: &mut Vec<u8>,
+    text: &mut Vec<u8>,
+    place: &Option<Place>,
+) -> Result<(), AllocError>
     ensures { OnOk result (out.new.items ≡ out.old.items ++ compact_text (parent_data place.now)) }
 {
     match place {
@@ -238,7 +262,12 @@ fn write_index(out: &mut Vec<u8>, place: &Option<Place>) -> Result<(), AllocErro
 }
 
 /// Appends the members of an operation's object up to `operands`.
-fn write_first(ctx: &Context, out: &mut Vec<u8>, text: &mut Vec<u8>, tree: &TreeOp) -> Result<(), AllocError>
+fn write_first(
+    ctx: &Context,
+    out: &mut Vec<u8>,
+    text: &mut Vec<u8>,
+    tree: &TreeOp,
+) -> Result<(), AllocError>
     requires { IsTrue (head_passes (is_name ctx.now) (is_type ctx.now) (is_attr ctx.now) (head tree.now)) }
     ensures { OnOk result ((ms : Members) → out.new.items ++ members_text true ms ≡ out.old.items ++ members_text false (first_members (head (meaning ctx.now tree.now)) ms)) }
 {
