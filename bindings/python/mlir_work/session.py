@@ -341,7 +341,8 @@ class Session:
     def show_all(self, page: int = 1000, skip: int = 0) -> Iterator[List[OperationData]]:
         """Yields the operations in pre-order, without the first `skip` ones, in lists of at most `page` dictionaries as
         `show` returns them. The operations are those at the time of the call. Each list shows the module at the time
-        when it is yielded, without operations that were erased meanwhile."""
+        when it is yielded, without operations that were erased meanwhile. Without the library, a list is the answer to
+        one line, `show #N COUNT`."""
         if page < 1 or skip < 0:
             raise ValueError(f"found page {page} and skip {skip}, expected at least 1 and at least 0")
         return self._pages(self._all_shown().numbers()[skip:], page)
