@@ -1,0 +1,7 @@
+pub mod Flat
+pub mod Scopes
+pub mod Nesting
+pub mod Flattening
+pub mod Form
+pub mod Dominance
+pub use Rattle.ir_tree.specs as trees
