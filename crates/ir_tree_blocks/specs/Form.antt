@@ -77,6 +77,10 @@ is_shaped o = not (is_scope (head o)) || (is_nil (head o).operands && (is_nil (h
 abbrev pub labels_differ : Region → Bool
 labels_differ g = all_differ (map (λ b. b.label) (placed_blocks g))
 
+-- whether no scope has id x
+abbrev pub is_no_scope : ℕ → Operation → Bool
+is_no_scope x t = every (λ o. not (eqb (head o).id x && is_scope (head o))) t
+
 -- F1: the root is no scope, each scope has the shape above, and no two blocks of a region have one label
 pub record HasScopes (t : Operation) : Type 0 where
   pub root : is_scope (head t) ≡ false

@@ -4,4 +4,5 @@ pub mod Nesting
 pub mod Flattening
 pub mod Form
 pub mod Dominance
+pub mod Samples
 pub use Rattle.ir_tree.specs as trees

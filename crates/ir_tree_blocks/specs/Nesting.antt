@@ -100,11 +100,15 @@ abbrev mutual
   nest_ops f no_flat_ops = no_ops
   nest_ops f (next_op o os) = next (nest f o) (nest_ops f os)
 
--- the layouts of an operation's regions have their blocks
+-- a layout has the further blocks of a region
+abbrev pub IsRegionLayout : Layout → FlatRegion → Type 0
+IsRegionLayout f flat_empty = Unit {0}
+IsRegionLayout f (flat_blocks args os bs) = IsLayoutOf bs f
+
+-- the layouts of the regions of operation x have their blocks, from region r on
 abbrev pub AreLayouts : (ℕ → ℕ → Layout) → ℕ → ℕ → FlatRegions → Type 0
 AreLayouts f x r no_flat_regions = Unit {0}
-AreLayouts f x r (flat_region flat_empty rs) = AreLayouts f x (r + 1) rs
-AreLayouts f x r (flat_region (flat_blocks args os bs) rs) = IsLayoutOf bs (f x r) × AreLayouts f x (r + 1) rs
+AreLayouts f x r (flat_region g rs) = IsRegionLayout (f x r) g × AreLayouts f x (r + 1) rs
 
 -- an operation can be nested: it is no scope, it has no attribute for successors, and its regions have layouts
 pub record CanNestOp (f : ℕ → ℕ → Layout) (o : FlatOp) : Type 0 where

@@ -78,14 +78,20 @@ label_of h = or_zero (order_of h)
 abbrev pub successors_of : Head → List ℕ
 successors_of h = or_none (successors_in h)
 
--- a head with the attribute for successors, if there are any
-unfoldable pub with_successors : Head → List ℕ → Head
-with_successors h [] = h
-with_successors h (s ∷ ss) = record h { attributes = put_entry key_before (codes "cf.successors") (DenseArray i32 (map pos (s ∷ ss))) h.attributes }
+-- the attributes of an operation, with the attribute for successors if there are any
+unfoldable pub attributes_with : Head → List ℕ → List (List ℕ × AttrTerm)
+attributes_with h [] = h.attributes
+attributes_with h (s ∷ ss) = put_entry key_before (codes "cf.successors") (DenseArray i32 (map pos (s ∷ ss))) h.attributes
+
+abbrev pub with_successors : Head → List ℕ → Head
+with_successors h ss = record h { attributes = attributes_with h ss }
 
 -- a head without the attribute for successors
-unfoldable pub without_successors : Head → Head
-without_successors h = record h { attributes = drop_entry key_before (codes "cf.successors") h.attributes }
+unfoldable pub other_attributes : Head → List (List ℕ × AttrTerm)
+other_attributes h = drop_entry key_before (codes "cf.successors") h.attributes
+
+abbrev pub without_successors : Head → Head
+without_successors h = record h { attributes = other_attributes h }
 
 -- the attributes of a scope: its label, and whether it is marked as unreachable
 abbrev pub scope_attributes : ℕ → Bool → List (List ℕ × AttrTerm)

@@ -1,12 +1,49 @@
 //! Theorems about nested and flat trees. Each is a function that does nothing; its contract is the theorem.
-ghost use Rattle.std.specs.Prelude.{◌≡◌, ℕ, false};
+ghost use Rattle.std.specs.Prelude.{◌≡◌, ℕ, true, false};
+ghost use Rattle.ir_tree.specs.declared.value.Value.{Value as TreeValue};
+ghost use Rattle.ir_tree.specs.types.Words.{is_isolated};
+ghost use Rattle.ir_tree.specs.Limits.{every};
+ghost use Rattle.ir_tree.specs.Meaning.{Operation};
+ghost use Rattle.ir_tree.specs.Sites.{visible};
+ghost use Rattle.ir_tree.specs.Edits.{with_operand, with_value_replaced};
 ghost use Rattle.ir_tree_blocks.specs.Flat.{FlatOp};
 ghost use Rattle.ir_tree_blocks.specs.Nesting.{Layout, CanNest, nest};
 ghost use Rattle.ir_tree_blocks.specs.Flattening.{flatten};
-ghost use Rattle.ir_tree_blocks.specs.Form.{IsInForm, has_flat};
+ghost use Rattle.ir_tree_blocks.specs.Form.{HasLexicalLabels, HasScopes, IsInForm, each_block, each_region, ends_in_scopes, is_lexical, is_no_scope, is_shaped, labels_differ, only_last_names};
 ghost use Rattle.ir_tree_blocks.specs.Dominance.{DominatesOp};
+ghost use Rattle.ir_tree_blocks.specs.Samples.{after_branch, after_scope, flat_loop, loop_layout, nested_loop, out_of_sight, with_label_twice, without_block, without_label};
 
 /// Nesting a flat tree and flattening the result gives the flat tree, wherever the scopes go.
 pub fn flattening_undoes_nesting()
     ensures { (f : ℕ → ℕ → Layout) (t : FlatOp) → CanNest f t → flatten (nest f t) ≡ t }
+{}
+
+/// If scopes have their form (F1) and labels are lexical (F4), a value that is visible at an operation of a nested tree
+/// dominates the operation in the flat tree.
+pub fn visible_values_dominate()
+    ensures { (t : Operation) (x : ℕ) (v : TreeValue) → HasScopes t → HasLexicalLabels t → is_no_scope x t ≡ true → visible is_isolated t x v ≡ true → DominatesOp v x (flatten t) }
+{}
+
+/// Setting an operand and replacing a value keep the form.
+pub fn other_edits_keep_the_form()
+    ensures operand { (x k : ℕ) (v : TreeValue) (t : Operation) → IsInForm t → IsInForm (with_operand x k v t) }
+    ensures replaced { (v w : TreeValue) (t : Operation) → IsInForm t → IsInForm (with_value_replaced v w t) }
+{}
+
+/// A function with a loop is nested and flattened as shown in `specs/Samples.antt`.
+pub fn the_loop_is_nested()
+    ensures nested { nest loop_layout flat_loop ≡ nested_loop }
+    ensures flat { flatten nested_loop ≡ flat_loop }
+    ensures form { IsInForm nested_loop }
+{}
+
+/// The form refuses a missing block, a missing label, a label that occurs twice, a label out of sight, an operation after
+/// a scope, and a branch that isn't last.
+pub fn broken_forms_are_refused()
+    ensures block { each_region is_lexical without_block ≡ false }
+    ensures label { every is_shaped without_label ≡ false }
+    ensures twice { each_region labels_differ with_label_twice ≡ false }
+    ensures hidden { each_region is_lexical out_of_sight ≡ false }
+    ensures scope { each_block ends_in_scopes after_scope ≡ false }
+    ensures branch { each_block only_last_names after_branch ≡ false }
 {}
