@@ -1,15 +1,21 @@
 -- Edits of heads that keep the form.
-use Rattle.std.proofs.Common.{◌≡◌, refl, ap, sym, ◌∙◌, ℕ, zero, suc, Bool, true, false, cond, not, ◌&&◌, ◌||◌, eqb, List, [], ◌∷◌, ◌++◌, map, length}
-use Rattle.std.specs.Prelude.{slice_set}
+use Rattle.std.proofs.Common.{◌≡◌, refl, ap, sym, ◌∙◌, ℕ, zero, suc, Bool, true, false, true≢false, cond, not, ◌&&◌, ◌||◌, eqb, List, [], ◌∷◌, ◌++◌, map, Option, Some, None, inl, inr}
+use Rattle.std.specs.Prelude.{codes, slice_set, option_and_then}
+use Rattle.std.specs.Str.{bytes_eq}
 use Rattle.std.specs.List.{list_all}
 use Rattle.ir_tree.specs.declared.value.Value.{Value}
-use Rattle.ir_tree.specs.types.Terms.{TypeTerm, AttrTerm}
-use Rattle.ir_tree.specs.Tree.{OpOf, op, RegionsOf, no_regions, region, RegionOf, empty, block, OpsOf, no_ops, next, head, regions}
+use Rattle.ir_tree.specs.declared.place.Part.{Part}
+use Rattle.ir_tree.specs.declared.place.Part.TheVariants.{Props, Attrs}
+use Rattle.ir_tree.specs.types.Terms.{AttrTerm}
+use Rattle.ir_tree.specs.Tree.{op, no_regions, region, empty, block, no_ops, next, head, regions}
 use Rattle.ir_tree.specs.Limits.{every, regions_every, region_every, ops_every}
-use Rattle.ir_tree.specs.Meaning.{Operation}
-use Rattle.ir_tree.specs.Edits.{each_head, regions_each_head, region_each_head, ops_each_head, at, put_operand, with_operand, put_value, put_values, with_value_replaced}
+use Rattle.ir_tree.specs.Meaning.{Operation, key_before}
+use Rattle.ir_tree.specs.Edits.{each_head, regions_each_head, region_each_head, ops_each_head, at, put_operand, with_operand, put_value, put_values, with_value_replaced, same_key, put_entry, drop_entry, change_entry, entry_at, change_part, with_entry}
+use Rattle.ir_types.proofs.Growth.{name_refl}
+use Rattle.ir_tree_laws.proofs.Keys.{keys_ordered}
+use Rattle.ir_tree_laws.proofs.Listed.{bool_cases, both, neither, not_false}
 use Rattle.ir_tree_blocks.specs.Flat.{Head}
-use Rattle.ir_tree_blocks.specs.Scopes.{is_scope, order_of, label_of, or_zero, is_unreachable, successors_in, successors_of}
+use Rattle.ir_tree_blocks.specs.Scopes.{is_some, number_in, numbers_in, is_scope, order_of, label_of, or_zero, or_none, is_unreachable, successors_in, successors_of, is_reserved}
 use Rattle.ir_tree_blocks.specs.Nesting.{Regions, Region, Ops, all_differ}
 use Rattle.ir_tree_blocks.specs.Form.{is_nil, PlacedBlock, named_in, placed_under, placed_in, placed_in_regions, placed_in_region, placed_blocks, all_regions, each_region, has_one_block, has_label, is_shaped, labels_differ, HasScopes, only_scopes, ends_in_scopes, only_last_names, all_lists, each_block, names_what_it_sees, is_lexical, HasLexicalLabels, IsInForm}
 
@@ -150,3 +156,83 @@ operand_in_form x k v t f = each_in_form (at x (put_operand k v)) (at_same x k v
 
 pub replaced_in_form : (v w : Value) (t : Operation) → IsInForm t → IsInForm (with_value_replaced v w t)
 replaced_in_form v w t f = each_in_form (put_values v w) (λ h. operands_same h (map (put_value v w) h.operands) (map_nil (put_value v w) h.operands)) t f
+
+-- edits of an entry
+same_is : (q k : List ℕ) → same_key key_before q k ≡ true → q ≡ k
+same_is q k e =
+    let b = both (not (key_before q k)) (not (key_before k q)) e in
+    keys_ordered.exact q k (not_false (key_before q k) b.0) (not_false (key_before k q) b.1)
+
+differs : (q k : List ℕ) → (q ≡ k → ⊥) → same_key key_before q k ≡ false
+differs q k ne = elim (bool_cases (same_key key_before q k)) [ inl e ↦ absurd (ne (same_is q k e)) | inr e ↦ e ]
+
+module _ (q k : List ℕ) (ne : q ≡ k → ⊥) where
+  put_step : (a : AttrTerm) (e : List ℕ × AttrTerm) (es : List (List ℕ × AttrTerm)) → entry_at key_before q (put_entry key_before k a es) ≡ entry_at key_before q es → (s t : Bool) → key_before k e.0 ≡ s → key_before e.0 k ≡ t
+      → entry_at key_before q (cond s ((k, a) ∷ e ∷ es) (cond t (e ∷ put_entry key_before k a es) ((k, a) ∷ es))) ≡ entry_at key_before q (e ∷ es)
+  put_step a e es rest true t x y = ap (λ c. cond c (Some a) (entry_at key_before q (e ∷ es))) (differs q k ne)
+  put_step a e es rest false true x y = ap (λ o. cond (same_key key_before q e.0) (Some e.1) o) rest
+  put_step a e es rest false false x y =
+      let same : k ≡ e.0 = keys_ordered.exact k e.0 x y in
+      ap (λ c. cond c (Some a) (entry_at key_before q es)) (differs q k ne)
+      ∙ sym (ap (λ c. cond c (Some e.1) (entry_at key_before q es)) (differs q e.0 (λ z. ne (z ∙ sym same))))
+
+  put_other : (a : AttrTerm) (es : List (List ℕ × AttrTerm)) → entry_at key_before q (put_entry key_before k a es) ≡ entry_at key_before q es
+  put_other a [] = ap (λ c. cond c (Some a) None) (differs q k ne)
+  put_other a (e ∷ es) = put_step a e es (put_other a es) (key_before k e.0) (key_before e.0 k) refl refl
+
+  drop_step : (e : List ℕ × AttrTerm) (es : List (List ℕ × AttrTerm)) → entry_at key_before q (drop_entry key_before k es) ≡ entry_at key_before q es → (s : Bool) → same_key key_before k e.0 ≡ s
+      → entry_at key_before q (cond s es (e ∷ drop_entry key_before k es)) ≡ entry_at key_before q (e ∷ es)
+  drop_step e es rest true x = sym (ap (λ c. cond c (Some e.1) (entry_at key_before q es)) (differs q e.0 (λ z. ne (z ∙ sym (same_is k e.0 x)))))
+  drop_step e es rest false x = ap (λ o. cond (same_key key_before q e.0) (Some e.1) o) rest
+
+  drop_other : (es : List (List ℕ × AttrTerm)) → entry_at key_before q (drop_entry key_before k es) ≡ entry_at key_before q es
+  drop_other [] = refl
+  drop_other (e ∷ es) = drop_step e es (drop_other es) (same_key key_before k e.0) refl
+
+  changed_other : (a : Option AttrTerm) (es : List (List ℕ × AttrTerm)) → entry_at key_before q (change_entry key_before k a es) ≡ entry_at key_before q es
+  changed_other None es = drop_other es
+  changed_other (Some a) es = put_other a es
+
+-- a key that isn't one of those for blocks
+free_of : (q k : List ℕ) → bytes_eq k q ≡ false → q ≡ k → ⊥
+free_of q k e z = true≢false (sym (ap (bytes_eq k) z ∙ name_refl k) ∙ e)
+
+record Entries (es fs : List (List ℕ × AttrTerm)) : Type 0 where
+  order : entry_at key_before (codes "order") es ≡ entry_at key_before (codes "order") fs
+  mark : entry_at key_before (codes "unreachable") es ≡ entry_at key_before (codes "unreachable") fs
+  successors : entry_at key_before (codes "cf.successors") es ≡ entry_at key_before (codes "cf.successors") fs
+
+changed_entries : (k : List ℕ) → is_reserved k ≡ false → (a : Option AttrTerm) (es : List (List ℕ × AttrTerm)) → Entries (change_entry key_before k a es) es
+changed_entries k e a es =
+    let b = neither (bytes_eq k (codes "order")) (bytes_eq k (codes "unreachable") || bytes_eq k (codes "cf.successors")) e in
+    let c = neither (bytes_eq k (codes "unreachable")) (bytes_eq k (codes "cf.successors")) b.1 in
+    record {
+      order = changed_other (codes "order") k (free_of (codes "order") k b.0) a es;
+      mark = changed_other (codes "unreachable") k (free_of (codes "unreachable") k c.0) a es;
+      successors = changed_other (codes "cf.successors") k (free_of (codes "cf.successors") k c.1) a es;
+    }
+
+attributes_same : (h : Head) (es : List (List ℕ × AttrTerm)) → Entries es h.attributes → SameScope (record h { attributes = es }) h
+unfolding is_scope order_of is_unreachable successors_in
+attributes_same h es e = record {
+  scope = refl;
+  order = ap (λ o. option_and_then number_in o) e.order;
+  mark = ap is_some e.mark;
+  successors = ap (λ o. or_none (option_and_then numbers_in o)) e.successors;
+  operands = refl;
+  results = refl;
+}
+
+properties_same : (h : Head) (es : List (List ℕ × AttrTerm)) → SameScope (record h { properties = es }) h
+unfolding is_scope order_of is_unreachable successors_in
+properties_same h es = record { scope = refl; order = refl; mark = refl; successors = refl; operands = refl; results = refl }
+
+part_same : (part : Part) (k : List ℕ) → is_reserved k ≡ false → (a : Option AttrTerm) (h : Head) → SameScope (change_part part (change_entry key_before k a) h) h
+part_same Props k e a h = properties_same h (change_entry key_before k a h.properties)
+part_same Attrs k e a h = attributes_same h (change_entry key_before k a h.attributes) (changed_entries k e a h.attributes)
+
+entry_same : (x : ℕ) (part : Part) (k : List ℕ) → is_reserved k ≡ false → (a : Option AttrTerm) (h : Head) → SameScope (at x (change_part part (change_entry key_before k a)) h) h
+entry_same x part k e a h = elim (eqb h.id x) as (λ c. SameScope (cond c (change_part part (change_entry key_before k a) h) h) h) [ true ↦ part_same part k e a h | false ↦ unchanged h ]
+
+pub entry_in_form : (x : ℕ) (part : Part) (k : List ℕ) (a : Option AttrTerm) (t : Operation) → is_reserved k ≡ false → IsInForm t → IsInForm (with_entry key_before x part k a t)
+entry_in_form x part k a t e f = each_in_form (at x (change_part part (change_entry key_before k a))) (entry_same x part k e a) t f

@@ -34,8 +34,8 @@ test = plain_head 5 (codes "arith.cmpi") (Arg 4 0 0 ∷ Arg 1 0 0 ∷ []) (i1 �
 abbrev pub branch : List (List ℕ × AttrTerm) → Head
 branch attributes = plain_head 6 (codes "cf.cond_br") (Result 5 0 ∷ Arg 4 0 0 ∷ []) [] attributes
 
-abbrev pub return : Head
-return = plain_head 8 (codes "func.return") (Arg 4 0 0 ∷ []) [] []
+abbrev pub return_op : Head
+return_op = plain_head 8 (codes "func.return") (Arg 4 0 0 ∷ []) [] []
 
 abbrev pub leaf : Head → FlatOp
 leaf h = flat_op h [] no_flat_regions
@@ -45,7 +45,7 @@ abbrev pub flat_loop : FlatOp
 flat_loop =
     flat_op func [] (flat_region (flat_blocks (i32 ∷ [])
       (next_op (leaf constant) (next_op (flat_op (jump []) (2 ∷ []) no_flat_regions) no_flat_ops))
-      (next_block 7 1 [] (next_op (leaf return) no_flat_ops)
+      (next_block 7 1 [] (next_op (leaf return_op) no_flat_ops)
       (next_block 4 2 (i32 ∷ []) (next_op (leaf test) (next_op (flat_op (branch []) (2 ∷ 1 ∷ []) no_flat_regions) no_flat_ops))
       no_blocks))) no_flat_regions)
 
@@ -54,8 +54,8 @@ abbrev pub loop_layout : ℕ → ℕ → Layout
 loop_layout x r = scope 2 false (scope 1 false no_scopes no_scopes) no_scopes
 
 -- the attribute for successors, and the one for the label of a scope
-abbrev pub to : List ℕ → List (List ℕ × AttrTerm)
-to ls = (codes "cf.successors", DenseArray i32 (map pos ls)) ∷ []
+abbrev pub targets : List ℕ → List (List ℕ × AttrTerm)
+targets ls = (codes "cf.successors", DenseArray i32 (map pos ls)) ∷ []
 
 abbrev pub labelled : ℕ → List (List ℕ × AttrTerm)
 labelled l = (codes "order", IntegerOf i32 l) ∷ []
@@ -69,12 +69,12 @@ scope_with x attributes args os = op (plain_head x (codes "cf.block") [] [] attr
 -- the nested tree, with these successors of the jump, and this after the branch
 abbrev pub loop_with : List ℕ → Ops → Operation
 loop_with ls tail =
-    op func (region (block (i32 ∷ []) (next (single constant) (next (single (jump (to ls)))
-      (next (scope_with 4 (labelled 2) (i32 ∷ []) (next (single test) (next (single (branch (to (2 ∷ 1 ∷ [])))) tail))) no_ops)))) no_regions)
+    op func (region (block (i32 ∷ []) (next (single constant) (next (single (jump (targets ls)))
+      (next (scope_with 4 (labelled 2) (i32 ∷ []) (next (single test) (next (single (branch (targets (2 ∷ 1 ∷ [])))) tail))) no_ops)))) no_regions)
 
 -- the scope of block 1
 abbrev pub last_scope : List (List ℕ × AttrTerm) → Operation
-last_scope attributes = scope_with 7 attributes [] (next (single return) no_ops)
+last_scope attributes = scope_with 7 attributes [] (next (single return_op) no_ops)
 
 abbrev pub nested_loop : Operation
 nested_loop = loop_with (2 ∷ []) (next (last_scope (labelled 1)) no_ops)

@@ -1,12 +1,15 @@
 //! Theorems about nested and flat trees. Each is a function that does nothing; its contract is the theorem.
-ghost use Rattle.std.specs.Prelude.{◌≡◌, ℕ, true, false};
+ghost use Rattle.std.specs.Prelude.{◌≡◌, ℕ, List, Option, true, false};
+ghost use Rattle.ir_tree.specs.declared.place.Part.{Part as Dictionary};
 ghost use Rattle.ir_tree.specs.declared.value.Value.{Value as TreeValue};
+ghost use Rattle.ir_tree.specs.types.Terms.{AttrTerm};
 ghost use Rattle.ir_tree.specs.types.Words.{is_isolated};
 ghost use Rattle.ir_tree.specs.Limits.{every};
-ghost use Rattle.ir_tree.specs.Meaning.{Operation};
+ghost use Rattle.ir_tree.specs.Meaning.{Operation, key_before};
 ghost use Rattle.ir_tree.specs.Sites.{visible};
-ghost use Rattle.ir_tree.specs.Edits.{with_operand, with_value_replaced};
+ghost use Rattle.ir_tree.specs.Edits.{with_entry, with_operand, with_value_replaced};
 ghost use Rattle.ir_tree_blocks.specs.Flat.{FlatOp};
+ghost use Rattle.ir_tree_blocks.specs.Scopes.{is_reserved};
 ghost use Rattle.ir_tree_blocks.specs.Nesting.{Layout, CanNest, nest};
 ghost use Rattle.ir_tree_blocks.specs.Flattening.{flatten};
 ghost use Rattle.ir_tree_blocks.specs.Form.{HasLexicalLabels, HasScopes, IsInForm, each_block, each_region, ends_in_scopes, is_lexical, is_no_scope, is_shaped, labels_differ, only_last_names};
@@ -24,10 +27,12 @@ pub fn visible_values_dominate()
     ensures { (t : Operation) (x : ℕ) (v : TreeValue) → HasScopes t → HasLexicalLabels t → is_no_scope x t ≡ true → visible is_isolated t x v ≡ true → DominatesOp v x (flatten t) }
 {}
 
-/// Setting an operand and replacing a value keep the form.
+/// Setting an operand, replacing a value, and setting or removing an entry keep the form, if the key of the entry isn't
+/// one of those for blocks.
 pub fn other_edits_keep_the_form()
     ensures operand { (x k : ℕ) (v : TreeValue) (t : Operation) → IsInForm t → IsInForm (with_operand x k v t) }
     ensures replaced { (v w : TreeValue) (t : Operation) → IsInForm t → IsInForm (with_value_replaced v w t) }
+    ensures entry { (x : ℕ) (part : Dictionary) (k : List ℕ) (a : Option AttrTerm) (t : Operation) → is_reserved k ≡ false → IsInForm t → IsInForm (with_entry key_before x part k a t) }
 {}
 
 /// A function with a loop is nested and flattened as shown in `specs/Samples.antt`.
