@@ -100,10 +100,10 @@ mutual
 
 -- a region whose labels differ and are lexical
 module _ (args : List TypeTerm) (os : Ops) (x r : ℕ) (differ : labels_differ (block args os) ≡ true) (lexical : is_lexical (block args os) ≡ true) where
-  abbrev pub all : List PlacedBlock
+  abbrev all : List PlacedBlock
   all = placed_blocks (block args os)
 
-  abbrev pub flat : List Block
+  abbrev flat : List Block
   flat = region_blocks x r (flatten_region (block args os))
 
   abbrev start : PlacedBlock

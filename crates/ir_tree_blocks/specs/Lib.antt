@@ -4,5 +4,6 @@ pub mod Nesting
 pub mod Flattening
 pub mod Form
 pub mod Dominance
+pub mod Reserved
 pub mod Samples
 pub use Rattle.ir_tree.specs as trees

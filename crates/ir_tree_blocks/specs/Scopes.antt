@@ -1,6 +1,6 @@
 -- Scopes: how a nested tree writes blocks and successors. A scope is an operation `cf.block` that holds one block which
 -- isn't an entry block. `order` is the label of that block. `cf.successors` has the labels of successors.
-use Rattle.std.specs.Prelude.{ℕ, ℤ, pos, negsuc, List, [], ◌∷◌, codes, map, eqb, Bool, true, false, ◌&&◌, ◌||◌, if◌then◌else◌, Option, Some, None, option_map, option_and_then}
+use Rattle.std.specs.Prelude.{ℕ, ℤ, pos, negsuc, List, [], ◌∷◌, codes, map, eqb, Bool, true, false, ◌&&◌, if◌then◌else◌, Option, Some, None, option_map, option_and_then}
 use Rattle.std.specs.Str.{bytes_eq}
 use Rattle.ir_tree.specs.types.declared.node.Sign.{Sign}
 use Rattle.ir_tree.specs.types.declared.node.Sign.TheVariants.{Signless, Signed, Unsigned}
@@ -77,10 +77,6 @@ label_of h = or_zero (order_of h)
 -- the labels of the successors of an operation; none if it has no such attribute
 abbrev pub successors_of : Head → List ℕ
 successors_of h = or_none (successors_in h)
-
--- whether a key is one of those for blocks
-abbrev pub is_reserved : List ℕ → Bool
-is_reserved k = bytes_eq k (codes "order") || (bytes_eq k (codes "unreachable") || bytes_eq k (codes "cf.successors"))
 
 -- the attributes of an operation, with the attribute for successors if there are any
 unfoldable pub attributes_with : Head → List ℕ → List (List ℕ × AttrTerm)
