@@ -1,19 +1,18 @@
 -- The blocks of a region of a nested tree, and those of its flat tree.
-use Rattle.std.proofs.Common.{◌≡◌, refl, ap, sym, ◌∙◌, subst, ℕ, Bool, true, false, true≢false, cond, not, ◌&&◌, ◌||◌, eqb, eqb-true, List, [], ◌∷◌, ◌++◌, map, inl, inr, ◌⊎◌, length}
+use Rattle.std.proofs.Common.{◌≡◌, refl, ap, sym, ◌∙◌, subst, ℕ, Bool, true, false, true≢false, cond, ◌&&◌, ◌||◌, eqb, eqb-true, List, [], ◌∷◌, ◌++◌, inl, inr, ◌⊎◌}
 use Rattle.std.specs.Prelude.{IsTrue}
-use Rattle.std.specs.List.{list_any, list_all}
+use Rattle.std.specs.List.{list_any}
 use Rattle.std.proofs.lemmas.List.Folds.{list_any-append}
 use Rattle.ir_tree.specs.types.Terms.{TypeTerm}
 use Rattle.ir_tree.specs.Tree.{op, no_regions, region, empty, block, no_ops, next, head}
 use Rattle.ir_tree.specs.Meaning.{Operation}
-use Rattle.ir_tree.specs.Sites.{arguments}
 use Rattle.ir_tree_laws.specs.Members.{In}
-use Rattle.ir_tree_laws.proofs.Listed.{in_left, in_right, in_parts, in_mapped, both, either, or_left, or_right, one_any}
+use Rattle.ir_tree_laws.proofs.Listed.{in_left, in_right, in_parts, in_mapped, both, or_left, or_right, one_any}
 use Rattle.ir_tree_blocks.specs.Flat.{Head, next_op, FlatBlock, blocks_of, block_list}
 use Rattle.ir_tree_blocks.specs.Scopes.{is_scope, label_of, is_unreachable, successors_of}
-use Rattle.ir_tree_blocks.specs.Nesting.{Regions, Region, Ops, all_differ}
+use Rattle.ir_tree_blocks.specs.Nesting.{Regions, Region, Ops}
 use Rattle.ir_tree_blocks.specs.Flattening.{sorted_blocks, flatten, flatten_region, flatten_own, blocks_under, blocks_in, blocks_in_regions, blocks_in_region}
-use Rattle.ir_tree_blocks.specs.Form.{PlacedBlock, named_in, placed_under, placed_in, placed_in_regions, placed_in_region, placed_blocks, names_what_it_sees, labels_differ, is_lexical}
+use Rattle.ir_tree_blocks.specs.Form.{PlacedBlock, named_in, placed_under, placed_in, placed_in_regions, placed_in_region, placed_blocks, labels_differ, is_lexical}
 use Rattle.ir_tree_blocks.specs.Dominance.{ProperlyDominates, Block, further_block, region_blocks, last_successors, edges}
 use Rattle.ir_tree_blocks.proofs.Sorted.{in_sorted, list_again}
 use Rattle.ir_tree_blocks.proofs.Paths.{unique, Linked, around_dominates}
@@ -55,12 +54,12 @@ last_named last (next (op h rs) os) w e =
     let same = last_named last os w in
     let other = last_named (successors_of h) os w in
     (elim (is_scope h) as (λ c. list_any (eqb w) (last_successors last (cond c (flatten_own os) (next_op (flatten (op h rs)) (flatten_own os)))) ≡ true
-      → (list_any (eqb w) last ≡ true) ⊎ (list_any (eqb w) (cond c [] (successors_of h) ++ named_in os) ≡ true)) [
+    → (list_any (eqb w) last ≡ true) ⊎ (list_any (eqb w) (cond c [] (successors_of h) ++ named_in os) ≡ true)) [
       | true ↦ λ e. same e
       | false ↦ λ e. inr (list_any-append (eqb w) (successors_of h) (named_in os) ∙ (elim (other e) [
-          | inl a ↦ or_left (list_any (eqb w) (successors_of h)) (list_any (eqb w) (named_in os)) a
-          | inr a ↦ or_right (list_any (eqb w) (successors_of h)) (list_any (eqb w) (named_in os)) a
-        ]))
+        | inl a ↦ or_left (list_any (eqb w) (successors_of h)) (list_any (eqb w) (named_in os)) a
+        | inr a ↦ or_right (list_any (eqb w) (successors_of h)) (list_any (eqb w) (named_in os)) a
+      ]))
     ]) e
 
 -- a block of the flat tree is a block of the nested tree

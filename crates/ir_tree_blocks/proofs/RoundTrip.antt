@@ -1,11 +1,10 @@
 -- A nested tree, flattened again.
-use Rattle.std.proofs.Common.{◌≡◌, refl, ap, sym, ◌∙◌, ℕ, ◌+◌, Bool, true, false, cond, eqb, List, [], ◌∷◌, ◌++◌, map}
+use Rattle.std.proofs.Common.{◌≡◌, refl, ap, sym, ◌∙◌, ℕ, ◌+◌, true, false, cond, eqb, List, [], ◌∷◌, ◌++◌, map}
 use Rattle.std.proofs.lemmas.List.{map-append}
-use Rattle.ir_tree.specs.types.Terms.{TypeTerm}
-use Rattle.ir_tree.specs.Tree.{op, no_regions, region, block, no_ops, next, head}
+use Rattle.ir_tree.specs.Tree.{head}
 use Rattle.ir_tree_blocks.specs.Flat.{FlatOp, flat_op, FlatRegions, no_flat_regions, flat_region, FlatRegion, flat_empty, flat_blocks, FlatBlocks, no_blocks, next_block, FlatOps, no_flat_ops, next_op, FlatBlock, blocks_of, block_list, EachOp, EachInRegions, EachInRegion, EachInBlocks, EachInOps}
 use Rattle.ir_tree_blocks.specs.Scopes.{is_scope, label_of, scope_head}
-use Rattle.ir_tree_blocks.specs.Nesting.{Ops, Layout, no_scopes, scope, layout_labels, IsLayoutOf, IsRegionLayout, AreLayouts, CanNestOp, CanNest, followed_by, NestedBlock, nested_at, scope_of, scopes_of, nest, nest_regions, nest_region, nest_blocks, nest_ops}
+use Rattle.ir_tree_blocks.specs.Nesting.{Ops, Layout, no_scopes, scope, layout_labels, IsRegionLayout, AreLayouts, CanNestOp, followed_by, NestedBlock, nested_at, scope_of, scopes_of, nest, nest_regions, nest_region, nest_blocks, nest_ops}
 use Rattle.ir_tree_blocks.specs.Flattening.{sorted_blocks, flatten, flatten_regions, flatten_region, flatten_own, blocks_under, blocks_in}
 use Rattle.ir_tree_blocks.proofs.Heads.{successors_with, without_with, is_scope_with, scope_is, scope_label, scope_id}
 use Rattle.ir_tree_blocks.proofs.Sorted.{flat_at, sorted_at, all_at, blocks_again}

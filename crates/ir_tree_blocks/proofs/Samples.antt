@@ -1,5 +1,5 @@
 -- The samples, by computation.
-use Rattle.std.proofs.Common.{◌≡◌, refl, true, false}
+use Rattle.std.proofs.Common.{◌≡◌, refl, false}
 use Rattle.ir_tree.specs.Limits.{every}
 use Rattle.ir_tree_blocks.specs.Scopes.{is_scope, order_of, number_in, numbers_in, is_unreachable, successors_in, attributes_with, other_attributes, scope_head}
 use Rattle.ir_tree_blocks.specs.Nesting.{nest}

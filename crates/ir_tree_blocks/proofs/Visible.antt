@@ -1,9 +1,9 @@
 -- A value that is visible in a nested tree dominates in its flat tree.
-use Rattle.std.proofs.Common.{◌≡◌, refl, ap, sym, ◌∙◌, subst, ℕ, ◌+◌, Bool, true, false, true≢false, cond, not, ◌&&◌, ◌||◌, eqb, eqb-true, List, [], ◌∷◌, ◌++◌, map, length, inl, inr, ◌⊎◌}
+use Rattle.std.proofs.Common.{◌≡◌, refl, ap, sym, ◌∙◌, subst, ℕ, ◌+◌, Bool, true, false, true≢false, cond, not, ◌&&◌, ◌||◌, eqb, eqb-true, List, [], ◌∷◌, ◌++◌, length, inl, inr, ◌⊎◌}
 use Rattle.std.specs.Prelude.{IsTrue, nat_lt}
 use Rattle.ir_tree.specs.declared.value.Value.{Value}
 use Rattle.ir_tree.specs.declared.value.Value.TheVariants.{Result, Arg}
-use Rattle.ir_tree.specs.types.Terms.{TypeTerm, AttrTerm}
+use Rattle.ir_tree.specs.types.Terms.{TypeTerm}
 use Rattle.ir_tree.specs.types.Words.{is_isolated}
 use Rattle.ir_tree.specs.Tree.{OpOf, op, RegionsOf, no_regions, region, RegionOf, empty, block, OpsOf, no_ops, next, head, regions}
 use Rattle.ir_tree.specs.Limits.{every, regions_every, region_every, ops_every}
@@ -18,7 +18,7 @@ use Rattle.ir_tree_blocks.specs.Flat.{Head, FlatOps, next_op, FlatBlock, blocks_
 use Rattle.ir_tree_blocks.specs.Scopes.{is_scope, order_of, label_of, is_unreachable}
 use Rattle.ir_tree_blocks.specs.Nesting.{Regions, Region, Ops}
 use Rattle.ir_tree_blocks.specs.Flattening.{sorted_blocks, flatten, flatten_regions, flatten_region, flatten_own, blocks_under, blocks_in, blocks_in_regions, blocks_in_region}
-use Rattle.ir_tree_blocks.specs.Form.{is_nil, PlacedBlock, named_in, placed_under, placed_in, placed_in_regions, placed_in_region, placed_blocks, all_regions, each_region, has_one_block, has_label, is_shaped, labels_differ, is_lexical, HasScopes, HasLexicalLabels, is_no_scope}
+use Rattle.ir_tree_blocks.specs.Form.{is_nil, PlacedBlock, named_in, placed_under, placed_in, placed_in_regions, placed_in_region, placed_blocks, all_regions, has_one_block, has_label, is_shaped, labels_differ, is_lexical, HasScopes, HasLexicalLabels, is_no_scope}
 use Rattle.ir_tree_blocks.specs.Dominance.{ProperlyDominates, Block, further_block, region_blocks, edges, is_result_in, is_defined_in, DominatesStart, DominatesIn, DominatesInRegions, DominatesInRegion, DominatesInBlocks, DominatesInOps, DominatesOp}
 use Rattle.ir_tree_blocks.proofs.Sorted.{sorted_in, list_again}
 use Rattle.ir_tree_blocks.proofs.Placed.{dominates_below}
@@ -146,12 +146,12 @@ module _ (v : Value) (x : ℕ) where
         let here : Block = record { label = 0; arguments = own; ops = flatten_own os } in
         let under = sorted_blocks (blocks_under os) in
         let found = visit_ops outside (placed_blocks (block args os)) all (dominates_below args os y r d l) (0 ∷ []) false here (inl refl) (inl refl) os f (λ p k. inr k)
-            (λ b k. inr (in_map further_block b (block_list (blocks_of under)) (subst (In b) (sym (list_again under)) (sorted_in b (blocks_under os) k))))
-            (λ k. or_right (shows v own) (is_result_in v (flatten_own os)) k)
-            (seen || shows v own) (DominatesStart v outside all here)
-            (λ k. elim (either seen (shows v own) k) [ inl a ↦ inl (s a) | inr a ↦ inr (inl a) ])
-            (λ k. elim (either seen (shows v own) k) [ inl a ↦ inl (s a) | inr a ↦ inr (here, inl refl, inl refl, or_left (shows v own) (is_result_in v (flatten_own os)) a) ])
-            e in
+        (λ b k. inr (in_map further_block b (block_list (blocks_of under)) (subst (In b) (sym (list_again under)) (sorted_in b (blocks_under os) k))))
+        (λ k. or_right (shows v own) (is_result_in v (flatten_own os)) k)
+        (seen || shows v own) (DominatesStart v outside all here)
+        (λ k. elim (either seen (shows v own) k) [ inl a ↦ inl (s a) | inr a ↦ inr (inl a) ])
+        (λ k. elim (either seen (shows v own) k) [ inl a ↦ inl (s a) | inr a ↦ inr (here, inl refl, inl refl, or_left (shows v own) (is_result_in v (flatten_own os)) a) ])
+        e in
         elim found [ inl a ↦ inl a | inr b ↦ inr (in_blocks outside all under b.0 (sorted_in b.0 (blocks_under os) b.1) b.2) ]
 
     visit_ops : (outside : Type 0) (placed : List PlacedBlock) (all : List Block) → Around placed all → (ls : List ℕ) (u : Bool) (here : Block) → In here all → In here.label ls → (os : Ops) → ops_every fits_form os ≡ true
@@ -163,23 +163,23 @@ module _ (v : Value) (x : ℕ) where
         let shown = shows v (results_of o) in
         let parts = either (visible_at is_isolated x v seen o) (ops_visible is_isolated x v (seen || shown) os) e in
         (elim (is_scope (head o)) as (λ t. is_scope (head o) ≡ t → ((p : PlacedBlock) → In p (cond t (placed_in ls u o) [] ++ placed_under ls u os) → In p placed) → ((b : FlatBlock) → In b (cond t (blocks_in o) [] ++ blocks_under os) → In (further_block b) all)
-          → (is_result_in v (cond t (flatten_own os) (next_op (flatten o) (flatten_own os))) ≡ true → is_defined_in v here ≡ true)
-          → Found outside known all (cond t (flatten_own os) (next_op (flatten o) (flatten_own os))) (cond t (blocks_in o) [] ++ blocks_under os)) [
+        → (is_result_in v (cond t (flatten_own os) (next_op (flatten o) (flatten_own os))) ≡ true → is_defined_in v here ≡ true)
+        → Found outside known all (cond t (flatten_own os) (next_op (flatten o) (flatten_own os))) (cond t (blocks_in o) [] ++ blocks_under os)) [
           | true ↦ λ n sub subb res. elim parts [
             | inl a ↦ (let b = visit_scope outside placed all d ls u o n g.0 (λ p k. sub p (in_left p (placed_in ls u o) (placed_under ls u os) k)) (λ b k. subb b (in_left b (blocks_in o) (blocks_under os) k)) seen c a in
                 inr (b.0, in_left b.0 (blocks_in o) (blocks_under os) b.1, b.2))
             | inr a ↦ (let rest = visit_ops outside placed all d ls u here hi hl os g.1 (λ p k. sub p (in_right p (placed_in ls u o) (placed_under ls u os) k)) (λ b k. subb b (in_right b (blocks_in o) (blocks_under os) k)) res
-                  (seen || shown) known (λ k. s (unseen o (shaped_of o g.0) n seen k)) (λ k. c (unseen o (shaped_of o g.0) n seen k)) a in
+                (seen || shown) known (λ k. s (unseen o (shaped_of o g.0) n seen k)) (λ k. c (unseen o (shaped_of o g.0) n seen k)) a in
                 elim rest [ inl b ↦ inl b | inr b ↦ inr (b.0, in_right b.0 (blocks_in o) (blocks_under os) b.1, b.2) ])
           ]
           | false ↦ λ n sub subb res. elim parts [
             | inl a ↦ inl (inl (visit_op o g.0 seen known s n a))
             | inr a ↦ (let same = ap (shows v) (results_flat o) in
                 let rest = visit_ops outside placed all d ls u here hi hl os g.1 sub subb (λ k. res (or_right (shows v (flat_results (flatten o))) (is_result_in v (flatten_own os)) k))
-                  (seen || shown) (known ⊎ IsTrue (shows v (flat_results (flatten o))))
-                  (λ k. elim (either seen shown k) [ inl b ↦ inl (s b) | inr b ↦ inr (same ∙ b) ])
-                  (λ k. elim (either seen shown k) [ inl b ↦ c b | inr b ↦ inr (here, hi, hl, res (or_left (shows v (flat_results (flatten o))) (is_result_in v (flatten_own os)) (same ∙ b))) ])
-                  a in
+                (seen || shown) (known ⊎ IsTrue (shows v (flat_results (flatten o))))
+                (λ k. elim (either seen shown k) [ inl b ↦ inl (s b) | inr b ↦ inr (same ∙ b) ])
+                (λ k. elim (either seen shown k) [ inl b ↦ c b | inr b ↦ inr (here, hi, hl, res (or_left (shows v (flat_results (flatten o))) (is_result_in v (flatten_own os)) (same ∙ b))) ])
+                a in
                 elim rest [ inl b ↦ inl (inr b) | inr b ↦ inr b ])
           ]
         ]) refl sub subb res
@@ -216,16 +216,16 @@ module _ (v : Value) (x : ℕ) where
         let own = arguments h.id 0 (length args) in
         let ib = subb b (inl refl) in
         let found = visit_ops outside placed all d (label_of h ∷ ls) u there ib (inl refl) os f (λ q k. sub q (inr k)) (λ q k. subb q (inr k)) (λ k. or_right (shows v own) (is_result_in v (flatten_own os)) k)
-            (seen || shows v own) (DominatesStart v outside all there)
-            (λ k. elim (either seen (shows v own) k) [
-              | inl a ↦ elim (c a) [ inl z ↦ inl z | inr w ↦ inr (inr (w.0, w.1, d p (sub p (inl refl)) w.0.label w.2, w.3)) ]
-              | inr a ↦ inr (inl a)
-            ])
-            (λ k. elim (either seen (shows v own) k) [
-              | inl a ↦ elim (c a) [ inl z ↦ inl z | inr w ↦ inr (w.0, w.1, inr w.2, w.3) ]
-              | inr a ↦ inr (there, ib, inl refl, or_left (shows v own) (is_result_in v (flatten_own os)) a)
-            ])
-            e in
+        (seen || shows v own) (DominatesStart v outside all there)
+        (λ k. elim (either seen (shows v own) k) [
+          | inl a ↦ elim (c a) [ inl z ↦ inl z | inr w ↦ inr (inr (w.0, w.1, d p (sub p (inl refl)) w.0.label w.2, w.3)) ]
+          | inr a ↦ inr (inl a)
+        ])
+        (λ k. elim (either seen (shows v own) k) [
+          | inl a ↦ elim (c a) [ inl z ↦ inl z | inr w ↦ inr (w.0, w.1, inr w.2, w.3) ]
+          | inr a ↦ inr (there, ib, inl refl, or_left (shows v own) (is_result_in v (flatten_own os)) a)
+        ])
+        e in
         elim found [ inl a ↦ (b, inl refl, a) | inr r ↦ (r.0, inr r.1, r.2) ]
 
   pub visible_dominates : (t : Operation) → HasScopes t → HasLexicalLabels t → is_no_scope x t ≡ true → visible is_isolated t x v ≡ true → DominatesOp v x (flatten t)

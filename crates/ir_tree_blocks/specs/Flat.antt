@@ -1,8 +1,8 @@
 -- Flat trees: trees whose regions are lists of blocks, and whose operations have successors, as in MLIR.
-use Rattle.std.specs.Prelude.{ℕ, List, [], ◌∷◌, ◌++◌, length, map}
+use Rattle.std.specs.Prelude.{ℕ, List, [], ◌∷◌, length, map}
 use Rattle.ir_tree.specs.types.Terms.{TypeTerm, AttrTerm}
 use Rattle.ir_tree.specs.Tree.{HeadOf}
-use Rattle.ir_tree.specs.Sites.{Frame, arguments, results}
+use Rattle.ir_tree.specs.Sites.{Frame, results}
 
 -- everything of an operation except its successors and its regions
 abbrev pub Head : Type 0

@@ -1,5 +1,5 @@
 -- Flat trees from nested trees: the scopes of a region become its further blocks, in the order of their labels.
-use Rattle.std.specs.Prelude.{ℕ, List, [], ◌∷◌, ◌++◌, nat_le, if◌then◌else◌}
+use Rattle.std.specs.Prelude.{List, [], ◌∷◌, ◌++◌, nat_le, if◌then◌else◌}
 use Rattle.ir_tree.specs.Tree.{op, no_regions, region, empty, block, no_ops, next, head}
 use Rattle.ir_tree.specs.Meaning.{Operation}
 use Rattle.ir_tree_blocks.specs.Flat.{Head, FlatOp, flat_op, FlatRegions, no_flat_regions, flat_region, FlatRegion, flat_empty, flat_blocks, FlatOps, no_flat_ops, next_op, FlatBlock, blocks_of}

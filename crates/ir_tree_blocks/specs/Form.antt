@@ -4,7 +4,6 @@ use Rattle.std.specs.List.{list_any, list_all}
 use Rattle.ir_tree.specs.Tree.{op, no_regions, region, empty, block, no_ops, next, head, regions}
 use Rattle.ir_tree.specs.Limits.{every}
 use Rattle.ir_tree.specs.Meaning.{Operation}
-use Rattle.ir_tree_blocks.specs.Flat.{Head}
 use Rattle.ir_tree_blocks.specs.Scopes.{is_scope, order_of, label_of, is_unreachable, successors_of}
 use Rattle.ir_tree_blocks.specs.Nesting.{Regions, Region, Ops, all_differ}
 

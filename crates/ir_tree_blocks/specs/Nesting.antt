@@ -1,8 +1,8 @@
 -- Nested trees from flat trees: each further block of a region becomes a scope.
-use Rattle.std.specs.Prelude.{◌≡◌, ℕ, ◌+◌, List, [], ◌∷◌, ◌++◌, map, eqb, nat_le, Bool, true, false, ◌&&◌, not, if◌then◌else◌}
+use Rattle.std.specs.Prelude.{◌≡◌, ℕ, ◌+◌, List, [], ◌∷◌, ◌++◌, eqb, nat_le, Bool, true, false, ◌&&◌, not, if◌then◌else◌}
 use Rattle.std.specs.List.{list_any}
 use Rattle.ir_tree.specs.types.Terms.{TypeTerm, AttrTerm}
-use Rattle.ir_tree.specs.Tree.{OpOf, op, RegionsOf, no_regions, region, RegionOf, empty, block, OpsOf, no_ops, next}
+use Rattle.ir_tree.specs.Tree.{op, RegionsOf, no_regions, region, RegionOf, empty, block, OpsOf, no_ops, next}
 use Rattle.ir_tree.specs.Meaning.{Operation}
 use Rattle.ir_tree_blocks.specs.Flat.{FlatOp, flat_op, FlatRegions, no_flat_regions, flat_region, FlatRegion, flat_empty, flat_blocks, FlatBlocks, no_blocks, next_block, FlatOps, no_flat_ops, next_op, block_labels, flat_head, flat_regions_of, EachOp}
 use Rattle.ir_tree_blocks.specs.Scopes.{is_scope, has_successors_key, with_successors, scope_head}

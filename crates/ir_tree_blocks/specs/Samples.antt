@@ -1,12 +1,12 @@
 -- A function with a loop, flat and nested, and nested trees that break the form.
-use Rattle.std.specs.Prelude.{ℕ, pos, List, [], ◌∷◌, codes, map, Bool, false}
+use Rattle.std.specs.Prelude.{ℕ, pos, List, [], ◌∷◌, codes, map, false}
 use Rattle.ir_tree.specs.declared.value.Value.{Value}
 use Rattle.ir_tree.specs.declared.value.Value.TheVariants.{Result, Arg}
 use Rattle.ir_tree.specs.types.declared.node.Sign.TheVariants.{Signless}
 use Rattle.ir_tree.specs.types.Terms.{TypeTerm, Integer, AttrTerm, IntegerOf, DenseArray}
 use Rattle.ir_tree.specs.Tree.{op, no_regions, region, block, no_ops, next}
 use Rattle.ir_tree.specs.Meaning.{Operation}
-use Rattle.ir_tree_blocks.specs.Flat.{Head, FlatOp, flat_op, no_flat_regions, flat_region, flat_blocks, no_blocks, next_block, FlatOps, no_flat_ops, next_op}
+use Rattle.ir_tree_blocks.specs.Flat.{Head, FlatOp, flat_op, no_flat_regions, flat_region, flat_blocks, no_blocks, next_block, no_flat_ops, next_op}
 use Rattle.ir_tree_blocks.specs.Scopes.{i32}
 use Rattle.ir_tree_blocks.specs.Nesting.{Ops, Layout, no_scopes, scope}
 
@@ -44,10 +44,10 @@ leaf h = flat_op h [] no_flat_regions
 abbrev pub flat_loop : FlatOp
 flat_loop =
     flat_op func [] (flat_region (flat_blocks (i32 ∷ [])
-      (next_op (leaf constant) (next_op (flat_op (jump []) (2 ∷ []) no_flat_regions) no_flat_ops))
-      (next_block 7 1 [] (next_op (leaf return_op) no_flat_ops)
-      (next_block 4 2 (i32 ∷ []) (next_op (leaf test) (next_op (flat_op (branch []) (2 ∷ 1 ∷ []) no_flat_regions) no_flat_ops))
-      no_blocks))) no_flat_regions)
+    (next_op (leaf constant) (next_op (flat_op (jump []) (2 ∷ []) no_flat_regions) no_flat_ops))
+    (next_block 7 1 [] (next_op (leaf return_op) no_flat_ops)
+    (next_block 4 2 (i32 ∷ []) (next_op (leaf test) (next_op (flat_op (branch []) (2 ∷ 1 ∷ []) no_flat_regions) no_flat_ops))
+    no_blocks))) no_flat_regions)
 
 -- block 2 is below the entry, and block 1 below block 2
 abbrev pub loop_layout : ℕ → ℕ → Layout
@@ -70,7 +70,7 @@ scope_with x attributes args os = op (plain_head x (codes "cf.block") [] [] attr
 abbrev pub loop_with : List ℕ → Ops → Operation
 loop_with ls tail =
     op func (region (block (i32 ∷ []) (next (single constant) (next (single (jump (targets ls)))
-      (next (scope_with 4 (labelled 2) (i32 ∷ []) (next (single test) (next (single (branch (targets (2 ∷ 1 ∷ [])))) tail))) no_ops)))) no_regions)
+    (next (scope_with 4 (labelled 2) (i32 ∷ []) (next (single test) (next (single (branch (targets (2 ∷ 1 ∷ [])))) tail))) no_ops)))) no_regions)
 
 -- the scope of block 1
 abbrev pub last_scope : List (List ℕ × AttrTerm) → Operation
