@@ -6,3 +6,4 @@ pub mod Placed
 pub mod Visible
 pub mod Edits
 pub mod Samples
+pub mod Lists

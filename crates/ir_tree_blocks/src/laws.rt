@@ -1,15 +1,19 @@
 //! Theorems about nested and flat trees. Each is a function that does nothing; its contract is the theorem.
 ghost use Rattle.std.specs.Prelude.{◌≡◌, ℕ, List, Option, true, false};
 ghost use Rattle.ir_tree.specs.declared.place.Part.{Part as Dictionary};
+ghost use Rattle.ir_tree.specs.declared.place.Place.{Place as Point};
 ghost use Rattle.ir_tree.specs.declared.value.Value.{Value as TreeValue};
 ghost use Rattle.ir_tree.specs.types.Terms.{AttrTerm};
 ghost use Rattle.ir_tree.specs.types.Words.{is_isolated};
+ghost use Rattle.ir_tree.specs.Tree.{head};
 ghost use Rattle.ir_tree.specs.Limits.{every};
 ghost use Rattle.ir_tree.specs.Meaning.{Operation, key_before};
 ghost use Rattle.ir_tree.specs.Sites.{visible};
+ghost use Rattle.ir_tree.specs.Places.{put, without};
 ghost use Rattle.ir_tree.specs.Edits.{with_entry, with_operand, with_value_replaced};
 ghost use Rattle.ir_tree_blocks.specs.Flat.{FlatOp};
 ghost use Rattle.ir_tree_blocks.specs.Reserved.{is_reserved};
+ghost use Rattle.ir_tree_blocks.specs.Plain.{is_plain, is_plain_op};
 ghost use Rattle.ir_tree_blocks.specs.Nesting.{Layout, CanNest, nest};
 ghost use Rattle.ir_tree_blocks.specs.Flattening.{flatten};
 ghost use Rattle.ir_tree_blocks.specs.Form.{HasLexicalLabels, HasScopes, IsInForm, each_block, each_region, ends_in_scopes, is_lexical, is_no_scope, is_shaped, labels_differ, only_last_names};
@@ -33,6 +37,15 @@ pub fn other_edits_keep_the_form()
     ensures operand { (x k : ℕ) (v : TreeValue) (t : Operation) → IsInForm t → IsInForm (with_operand x k v t) }
     ensures replaced { (v w : TreeValue) (t : Operation) → IsInForm t → IsInForm (with_value_replaced v w t) }
     ensures entry { (x : ℕ) (part : Dictionary) (k : List ℕ) (a : Option AttrTerm) (t : Operation) → is_reserved k ≡ false → IsInForm t → IsInForm (with_entry key_before x part k a t) }
+{}
+
+/// Inserting an operation and taking it out keeps F1 and F4, if the operation is no scope and has no successors. What is
+/// inside an inserted operation has scopes and lexical labels too.
+pub fn inserting_and_erasing_keep_scopes()
+    ensures put { (place : Point) (o t : Operation) → is_plain (head o) ≡ true → HasScopes o → HasScopes t → HasScopes (put place o t) }
+    ensures put_lexical { (place : Point) (o t : Operation) → is_plain (head o) ≡ true → HasLexicalLabels o → HasLexicalLabels t → HasLexicalLabels (put place o t) }
+    ensures without { (x : ℕ) (t : Operation) → is_plain_op x t ≡ true → HasScopes t → HasScopes (without x t) }
+    ensures without_lexical { (x : ℕ) (t : Operation) → is_plain_op x t ≡ true → HasLexicalLabels t → HasLexicalLabels (without x t) }
 {}
 
 /// A function with a loop is nested and flattened as shown in `specs/Samples.antt`.
