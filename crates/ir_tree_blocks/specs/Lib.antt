@@ -7,4 +7,3 @@ pub mod Dominance
 pub mod Plain
 pub mod Reserved
 pub mod Samples
-pub use Rattle.ir_tree.specs as trees
