@@ -7,3 +7,4 @@ pub mod Visible
 pub mod Edits
 pub mod Samples
 pub mod Lists
+pub mod Shifts

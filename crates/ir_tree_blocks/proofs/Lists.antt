@@ -22,7 +22,7 @@ nil_is : (ns : List ℕ) → is_nil ns ≡ true → ns ≡ []
 nil_is [] e = refl
 nil_is (n ∷ ns) e = absurd cc
 
-plain_scope : (h : Head) → is_plain h ≡ true → is_scope h ≡ false
+pub plain_scope : (h : Head) → is_plain h ≡ true → is_scope h ≡ false
 plain_scope h e = not_false (is_scope h) (both (not (is_scope h)) (is_nil (successors_of h)) e).0
 
 plain_names : (h : Head) → is_plain h ≡ true → successors_of h ≡ []

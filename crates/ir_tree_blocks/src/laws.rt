@@ -9,14 +9,14 @@ ghost use Rattle.ir_tree.specs.Tree.{head};
 ghost use Rattle.ir_tree.specs.Limits.{every};
 ghost use Rattle.ir_tree.specs.Meaning.{Operation, key_before};
 ghost use Rattle.ir_tree.specs.Sites.{visible};
-ghost use Rattle.ir_tree.specs.Places.{put, without};
+ghost use Rattle.ir_tree.specs.Places.{put, shifted, without};
 ghost use Rattle.ir_tree.specs.Edits.{with_entry, with_operand, with_value_replaced};
 ghost use Rattle.ir_tree_blocks.specs.Flat.{FlatOp};
 ghost use Rattle.ir_tree_blocks.specs.Reserved.{is_reserved};
 ghost use Rattle.ir_tree_blocks.specs.Plain.{is_plain, is_plain_op};
 ghost use Rattle.ir_tree_blocks.specs.Nesting.{Layout, CanNest, nest};
 ghost use Rattle.ir_tree_blocks.specs.Flattening.{flatten};
-ghost use Rattle.ir_tree_blocks.specs.Form.{HasLexicalLabels, HasScopes, IsInForm, each_block, each_region, ends_in_scopes, is_lexical, is_no_scope, is_shaped, labels_differ, only_last_names};
+ghost use Rattle.ir_tree_blocks.specs.Form.{HasLexicalLabels, HasScopes, IsInForm, each_block, each_region, ends_in_scopes, has_flat, is_lexical, is_no_scope, is_shaped, labels_differ, only_last_names};
 ghost use Rattle.ir_tree_blocks.specs.Dominance.{DominatesOp};
 ghost use Rattle.ir_tree_blocks.specs.Samples.{after_branch, after_scope, flat_loop, loop_layout, nested_loop, out_of_sight, with_label_twice, without_block, without_label};
 
@@ -46,6 +46,17 @@ pub fn inserting_and_erasing_keep_scopes()
     ensures put_lexical { (place : Point) (o t : Operation) → is_plain (head o) ≡ true → HasLexicalLabels o → HasLexicalLabels t → HasLexicalLabels (put place o t) }
     ensures without { (x : ℕ) (t : Operation) → is_plain_op x t ≡ true → HasScopes t → HasScopes (without x t) }
     ensures without_lexical { (x : ℕ) (t : Operation) → is_plain_op x t ≡ true → HasLexicalLabels t → HasLexicalLabels (without x t) }
+{}
+
+/// Moving an operation keeps F1 and F4, if the operation is no scope and has no successors.
+pub fn moving_keeps_scopes()
+    ensures scopes { (x : ℕ) (place : Point) (t : Operation) → is_plain_op x t ≡ true → HasScopes t → HasScopes (shifted x place t) }
+    ensures lexical { (x : ℕ) (place : Point) (t : Operation) → is_plain_op x t ≡ true → HasLexicalLabels t → HasLexicalLabels (shifted x place t) }
+{}
+
+/// A nested tree with F1 and F4 has a flat tree: labels differ, and each label that is named is that of a block.
+pub fn trees_in_form_have_flat_trees()
+    ensures { (t : Operation) → HasScopes t → HasLexicalLabels t → has_flat t ≡ true }
 {}
 
 /// A function with a loop is nested and flattened as shown in `specs/Samples.antt`.
