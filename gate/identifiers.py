@@ -40,7 +40,7 @@ INSTEAD = {
     "lowest": "the highest-priority rule",
     "kinds": "types",
 }
-# `told` is a method of `Analysis`, and of what keeps its table. The libraries of the kit have these names, too.
+# A method of `Analysis`, and of what keeps its table, has one of the words. So have names of the kit's libraries.
 METHOD = re.compile(r"\bfn told<|\.told\(|\btold\.Goals|\bc\.told\b")
 OF_KIT = re.compile(r"^\s*use (denote|Rattle\.std)\.[\w.]+\.\{([^}]*)\}", re.M)
 CODE = re.compile(r"""//[^\n]*|b?"(?:\\.|[^"\\])*"|b?'(?:\\.|[^'\\\n])'|(?P<word>[A-Za-z_]\w*)""", re.S)
