@@ -53,9 +53,10 @@ def started_by(process, pid, above):
 
 
 def look(seen, gate):
-    """Notes what each process of the checker that the gate started has used so far."""
-    above = parents()
-    for pid in (str(it) for it in above if started_by(gate, it, above)):
+    """Notes what each process of the checker that the gate started has used so far, with the processes that it started
+    itself: it counts those once it has waited for them."""
+    above, found = parents(), {}
+    for pid in (it for it in above if started_by(gate, it, above)):
         try:
             with open(f"/proc/{pid}/cmdline", "rb") as it:
                 words = it.read().decode(errors="replace").split("\0")
@@ -69,7 +70,8 @@ def look(seen, gate):
         crate = words[words.index("--crate-name") + 1]
         # (fields 14 to 17 of the page proc(5): its own time, and that of the children that it has waited for)
         used = sum(int(it) for it in fields[11:15]) / TICKS
-        seen[f"{pid} {fields[19]}"] = [crate, kind_of(words, folder), used]
+        found[pid] = f"{pid} {fields[19]}", [crate, kind_of(words, folder), used]
+    seen.update(it for pid, it in found.items() if above[pid] not in found)
 
 
 def table(times):
