@@ -4,7 +4,7 @@ ghost use Rattle.std.specs.Prelude.{◌≡◌, ◌≤◌, ◌∷◌, [], length,
 ghost use Rattle.ir_event.specs.trees.Limits.{most_items};
 ghost use Rattle.mlir_work_c_read.specs.Filled.{over_from, WritesFrom};
 ghost use Rattle.mlir_work_c_read.specs.Operations.{tree_in};
-ghost use Rattle.mlir_work_c_read.specs.Records.{WritesRecord, WritesRecords, few, no_operation, operand_item, result_item, result_items, use_item};
+ghost use Rattle.mlir_work_c_read.specs.Records.{WritesRecord, WritesRecords, few, operand_item, result_item, result_items, use_item};
 
 use crate::numbers::RecordItem;
 use ir_event::store::result_uses::ResultUses;
@@ -34,23 +34,17 @@ fn write_record(world: &World, op: OpId, into: &mut [RecordItem], at: usize) -> 
     ensures { WritesRecord op (tree_in world.now) at into.old into.new result }
 {
     let Some(found) = world.store.op_record(op) else {
-        return write_item(absent(), into, at);
+        let absent = RecordItem {
+            first: 4294967295,
+            second: 0,
+            third: 0,
+        };
+        return write_item(absent, into, at);
     };
     let head = item_of(found.name, found.operands.len(), found.results.len());
     let after_head = write_item(head, into, at);
     let after_operands = write_operands(found.operands, into, after_head);
     write_results(&found.uses, found.results, into, after_operands)
-}
-
-/// Returns the item of an operation that isn't in the module.
-fn absent() -> RecordItem
-    ensures { result ≡ no_operation }
-{
-    RecordItem {
-        first: 4294967295,
-        second: 0,
-        third: 0,
-    }
 }
 
 /// Returns the item of an operation with this name and these counts.

@@ -1,7 +1,7 @@
 use Rattle.std.proofs.Common.{ap, sym, subst, ◌∙◌, ◌≤◌, [], ◌∷◌, ◌++◌, length, map, arith}
 use Rattle.ir_event.specs.trees.Limits.{most_items}
 use Rattle.mlir_work_c_read.specs.Operations.{tree_in}
-use Rattle.mlir_work_c_read.specs.Records.{IsRecord, operand_item, result_items}
+use Rattle.mlir_work_c_read.specs.Records.{IsRecord, no_operation, operand_item, result_items}
 use Rattle.mlir_work_c_read.proofs.Joining.{size_from}
 use Rattle.mlir_work_c_read.proofs.Recording.{few_items, record_is, record_none, results_are, three, three_is, three_parts}
 use Rattle.mlir_work_c_read.proofs.records.write_record.Goals as goal
@@ -10,8 +10,8 @@ pub returns-in_default : goal.returns-in_default
 returns-in_default c =
     let x = c.args.op in
     let t = tree_in c.args.world.now in (
-      c.absent.result ∷ [],
-      subst (λ i. IsRecord x t (i ∷ [])) (sym c.absent.ensures) (record_none x t c.in_default.ensures.lists),
+      no_operation ∷ [],
+      record_none x t c.in_default.ensures.lists,
       c.write_item.ensures,
     )
 
