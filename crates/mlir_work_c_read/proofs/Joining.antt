@@ -59,10 +59,15 @@ module _ {A : Type 0} where
   set_here (suc at) x (o ∷ os) l = ap (λ t. o ∷ t) (set_here at x os (omega (arith, l)))
 
   -- an item is written before those after it
+  set_before : (at : ℕ) (x : A) (xs old : List A) → at < length old → slice_set (over_from (suc at) xs old) at x ≡ over_from at (x ∷ xs) old
+  set_before at x xs [] l = absurd (omega (arith, l))
+  set_before zero x xs (o ∷ os) l = refl
+  set_before (suc at) x xs (o ∷ os) l = ap (λ t. o ∷ t) (set_before at x xs os (omega (arith, l)))
+
   pub set_first : (at : ℕ) (x : A) (xs old : List A) → at < length old → slice_set (over_from (at + 1) xs old) at x ≡ over_from at (x ∷ xs) old
-  set_first at x xs [] l = absurd (omega (arith, l))
-  set_first zero x xs (o ∷ os) l = refl
-  set_first (suc at) x xs (o ∷ os) l = ap (λ t. o ∷ t) (set_first at x xs os (omega (arith, l)))
+  set_first at x xs old l =
+      let next : at + 1 ≡ suc at = omega arith in
+      ap (λ k. slice_set (over_from k xs old) at x) next ∙ set_before at x xs old l
 
 -- what is still to be written from a place on makes the whole buffer and its count
 pub record Continues {A : Type 0} (rest whole : List A) (at : ℕ) (into old : List A) : Type 0 where

@@ -46,9 +46,10 @@ returns c =
     let found = c.in-Some.found in
     let results = result_items found.uses 0 found.results.now in
     let head = c.item_of-head.ensures in
+    let same = c.in-Some.ensures.count in
     let items = (c.item_of-head.result ∷ []) ++ (map operand_item found.operands.now ++ results) in (
       items,
       subst (λ i. IsRecord x t ((i ∷ []) ++ (map operand_item found.operands.now ++ results))) (sym head)
-          (record_is x t found.name found.operands.now found.results.now results c.in-Some.ensures.lists (results_are x t found.uses 0 found.results.now (sym c.in-Some.ensures.count) c.in-Some.ensures.uses)),
+          (record_is x t found.name found.operands.now found.results.now results c.in-Some.ensures.lists (results_are x t found.uses 0 found.results.now (omega (arith, same)) c.in-Some.ensures.uses)),
       three_parts (c.item_of-head.result ∷ []) (map operand_item found.operands.now) results _ _ _ _ _ _ _ _ c.requires c.write_item-after_head.ensures c.write_operands-after_operands.ensures c.write_results.ensures,
     )

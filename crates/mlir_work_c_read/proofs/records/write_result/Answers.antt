@@ -5,9 +5,9 @@ use Rattle.mlir_work_c_read.proofs.Joining.{from_full, set_first}
 use Rattle.mlir_work_c_read.proofs.Recording.{few_is, many_uses, two_is}
 use Rattle.mlir_work_c_read.proofs.records.write_result.Goals as goal
 
-pub returns-then-at-len : goal.returns-then-at-len
-returns-then-at-len c =
-    let full = c.if-at-len.true in
+pub returns-then-at-into : goal.returns-then-at-into
+returns-then-at-into c =
+    let full = c.if-at-into.true in
     let within = c.requires in
     record { written = sym (from_full c.args.at _ c.args.into.now (omega (arith, full))); end_is = omega (arith, full, within) }
 
@@ -19,7 +19,7 @@ returns c =
     let count = c.write_uses-count.ensures.count in
     let second = c.count_of.ensures ∙ few_is (length uses) c.write_uses-count.result count in
     let item = two_is c.number.result c.count_of.result c.args.ty (few (length uses)) c.number.ensures second in
-    let free = c.if-at-len.false in
+    let free = c.if-at-into.false in
     let less : at < length into = omega (arith, free) in
     let fits : length into ≤ 18446744073709551615 = search rules in
     let least = c.min.ensures in

@@ -1,11 +1,11 @@
-use Rattle.std.proofs.Common.{refl, ◌+◌, ◌-◌, length, take, drop, subst, arith}
+use Rattle.std.proofs.Common.{◌+◌, ◌-◌, length, take, drop, subst, arith}
 use Rattle.mlir_work_c_read.specs.Records.{result_items}
 use Rattle.mlir_work_c_read.proofs.Joining.{ContinuesFrom, begins_from, continues_from, ends_from, rest_length}
 use Rattle.mlir_work_c_read.proofs.Recording.{results_none, results_step}
 use Rattle.mlir_work_c_read.proofs.records.write_results.Goals as goal
 
 pub results-init : goal.results-init
-results-init c = (refl, begins_from (result_items c.args.all.now 0 c.args.types.now) c.args.at c.args.into.now c.requires.at)
+results-init c = (omega arith, begins_from (result_items c.args.all.now 0 c.args.types.now) c.args.at c.args.into.now c.requires.at)
 
 pub of-requires : goal.of-requires
 of-requires c =

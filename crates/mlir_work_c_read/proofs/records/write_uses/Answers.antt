@@ -6,7 +6,7 @@ use Rattle.mlir_work_c_read.proofs.Recording.{two_is, use_on}
 use Rattle.mlir_work_c_read.proofs.records.write_uses.Goals as goal
 
 pub uses-init : goal.uses-init
-uses-init c = (refl, omega arith, begins_from (map use_item c.args.uses) c.args.at c.args.into.now c.requires)
+uses-init c = (omega arith, omega arith, begins_from (map use_item c.args.uses) c.args.at c.args.into.now c.requires)
 
 pub uses-smaller : goal.uses-smaller
 uses-smaller c =

@@ -21,13 +21,13 @@ returns-in_default-clause-lists c =
 pub new-requires : goal.new-requires
 new-requires c =
     let a = c.self.inside in
-    subst (λ n. AreHeads c.values.result n a.uses.homes) (sym (ap length c.lists-operands.ensures.results))
+    subst (λ n. AreHeads c.values.result n a.uses.homes) (sym (ap length c.lists.ensures.results))
     (subst (λ b. AreHeads b (length (row_at (rows_in a) c.in-Some.key).head.results) a.uses.homes) (sym c.values.ensures) (result_heads a c.self.invariant c.args.op c.in-Some.key c.in-Some.ensures c.laws.ensures.few))
 
 pub returns-clause-lists : goal.returns-clause-lists
 returns-clause-lists c =
     let a = c.self.inside in
-    let lists = c.lists-operands.ensures in
+    let lists = c.lists.ensures in
     (λ i. Some (c.name.ensures i, (lists.operands i, lists.results i)))
     ∙ lists_are a c.self.invariant c.args.op c.in-Some.key c.in-Some.ensures
     ∙ ap (λ s. option_map lists_in (find c.args.op s.module_of.tree)) c.self.view_is
@@ -35,7 +35,7 @@ returns-clause-lists c =
 pub returns-clause-count : goal.returns-clause-count
 returns-clause-count c =
     let a = c.self.inside in
-    ap length c.new.ensures ∙ each_length (rows_in a) (cells_of a.cells.items) a.uses.lists c.values.result (length c.lists-operands.result.1.now)
+    ap length c.new.ensures ∙ each_length (rows_in a) (cells_of a.cells.items) a.uses.lists c.values.result (length c.lists.result.1.now)
 
 pub returns-clause-uses : goal.returns-clause-uses
 returns-clause-uses c = λ k l.
@@ -44,10 +44,10 @@ returns-clause-uses c = λ k l.
     let slots = rows_in a in
     let cells = cells_of a.cells.items in
     let base = (row_at slots c.in-Some.key).values in
-    let results = c.lists-operands.result.1.now in
+    let results = c.lists.result.1.now in
     let many = ap length c.new.ensures ∙ each_length slots cells a.uses.lists c.values.result (length results) in
     let short : k < length results = omega (arith, l, many) in
-    let same = ap length c.lists-operands.ensures.results in
+    let same = ap length c.lists.ensures.results in
     let less : k < length (row_at slots c.in-Some.key).head.results = omega (arith, short, same) in
     let is = ap (λ u. get_or u k []) c.new.ensures ∙ each_at slots cells a.uses.lists c.values.result (length results) k short
     ∙ ap (λ b. uses_at slots cells a.uses.lists (Some (b + k))) c.values.ensures in
