@@ -28,6 +28,24 @@ fn is_property(ctx: &Context, op: &Option<NameId>, key: NameId) -> bool
     }
 }
 
+fn moved_count(ctx: &Context, op: &Option<NameId>, entries: &[Entry]) -> usize
+    ensures { result ≡ length (moved (is_property_in ctx.now op.now) entries.now) }
+{
+    entries
+        .iter()
+        .filter(|entry| is_property(ctx, op, entry.0))
+        .count()
+}
+
+fn staying_count(ctx: &Context, op: &Option<NameId>, entries: &[Entry]) -> usize
+    ensures { result ≡ length (staying (is_property_in ctx.now op.now) entries.now) }
+{
+    entries
+        .iter()
+        .filter(|entry| !is_property(ctx, op, entry.0))
+        .count()
+}
+
 /// Returns whether the dictionary that a key belongs to is full.
 fn no_headroom(
     ctx: &Context,
@@ -39,17 +57,12 @@ fn no_headroom(
     ensures { result ≡ no_headroom (is_property_in ctx.now op.now) properties.now key entries.now }
 {
     if is_property(ctx, op, key) {
-        let moved = entries
-            .iter()
-            .filter(|entry| is_property(ctx, op, entry.0))
-            .count();
-        properties.len().saturating_add(moved) >= MOST_ENTRIES
+        properties
+            .len()
+            .saturating_add(moved_count(ctx, op, entries))
+            >= MOST_ENTRIES
     } else {
-        let staying = entries
-            .iter()
-            .filter(|entry| !is_property(ctx, op, entry.0))
-            .count();
-        staying >= MOST_ENTRIES
+        staying_count(ctx, op, entries) >= MOST_ENTRIES
     }
 }
 
