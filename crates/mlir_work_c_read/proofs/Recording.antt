@@ -80,9 +80,6 @@ three f s t = record { first = f; second = s; third = t }
 pub two_is : (f s a b : ℕ) → f ≡ a → s ≡ b → two f s ≡ two a b
 two_is f s a b p q = λ i. two (p i) (q i)
 
-pub three_is : (f s t a b d : ℕ) → f ≡ a → s ≡ b → t ≡ d → three f s t ≡ three a b d
-three_is f s t a b d p q r = λ i. three (p i) (q i) (r i)
-
 pub many_uses : (us : List (ℕ × ℕ)) → length (map use_item us) ≡ length us
 many_uses [] = refl
 many_uses (u ∷ us) = ap suc (many_uses us)

@@ -4,7 +4,7 @@ ghost use Rattle.std.specs.Prelude.{◌≡◌, ◌≤◌, ◌∷◌, [], length,
 ghost use Rattle.ir_event.specs.trees.Limits.{most_items};
 ghost use Rattle.mlir_work_c_read.specs.Filled.{over_from, WritesFrom};
 ghost use Rattle.mlir_work_c_read.specs.Operations.{tree_in};
-ghost use Rattle.mlir_work_c_read.specs.Records.{WritesRecord, WritesRecords, few, operand_item, result_item, result_items, use_item};
+ghost use Rattle.mlir_work_c_read.specs.Records.{WritesRecord, WritesRecords, operand_item, result_item, result_items, use_item};
 
 use crate::numbers::RecordItem;
 use ir_event::store::result_uses::ResultUses;
@@ -58,13 +58,6 @@ fn item_of(name: NameId, operands: usize, results: usize) -> RecordItem
         second: operands as u32,
         third: results as u32,
     }
-}
-
-/// Returns a count as 32 bits, or 2^32 - 1 if it has more.
-fn count_of(count: usize) -> u32
-    ensures { result ≡ few count }
-{
-    count.min(4294967295) as u32
 }
 
 /// Writes an item to a place, if there is space for it, and returns the place after it.
@@ -152,7 +145,7 @@ fn write_result(uses: UsesOf<'_>, ty: TypeId, into: &mut [RecordItem], at: usize
     let count = write_uses(uses, into, place);
     into[at] = RecordItem {
         first: ty.number(),
-        second: count_of(count),
+        second: count.min(4294967295) as u32,
         third: 0,
     };
     place + count.min(space)

@@ -1,4 +1,4 @@
-use Rattle.std.proofs.Common.{◌∷◌, [], ◌-◌, length, map, take, drop, subst, ap, ◌∙◌, arith}
+use Rattle.std.proofs.Common.{◌∷◌, [], ◌-◌, length, map, take, drop, subst, arith}
 use Rattle.mlir_work_c_read.specs.Filled.{WritesFrom}
 use Rattle.mlir_work_c_read.specs.Records.{operand_item}
 use Rattle.mlir_work_c_read.proofs.Joining.{ContinuesFrom, begins_from, continues_from, ends_from}

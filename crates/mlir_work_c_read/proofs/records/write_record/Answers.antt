@@ -1,9 +1,8 @@
-use Rattle.std.proofs.Common.{ap, sym, subst, ◌∙◌, ◌≤◌, [], ◌∷◌, ◌++◌, length, map, arith}
-use Rattle.ir_event.specs.trees.Limits.{most_items}
+use Rattle.std.proofs.Common.{sym, subst, ◌≤◌, [], ◌∷◌, ◌++◌, length, map, arith}
 use Rattle.mlir_work_c_read.specs.Operations.{tree_in}
 use Rattle.mlir_work_c_read.specs.Records.{IsRecord, no_operation, operand_item, result_items}
 use Rattle.mlir_work_c_read.proofs.Joining.{size_from}
-use Rattle.mlir_work_c_read.proofs.Recording.{few_items, record_is, record_none, results_are, three, three_is, three_parts}
+use Rattle.mlir_work_c_read.proofs.Recording.{few_items, record_is, record_none, results_are, three_parts}
 use Rattle.mlir_work_c_read.proofs.records.write_record.Goals as goal
 
 pub returns-in_default : goal.returns-in_default

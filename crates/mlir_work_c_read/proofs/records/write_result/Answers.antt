@@ -1,4 +1,4 @@
-use Rattle.std.proofs.Common.{rules, ap, sym, ◌≤◌, ◌<◌, ◌∷◌, ◌∙◌, length, map, arith}
+use Rattle.std.proofs.Common.{rules, ap, sym, ◌≤◌, ◌<◌, ◌∙◌, length, map, arith}
 use Rattle.std.specs.Prelude.{slice_set}
 use Rattle.mlir_work_c_read.specs.Records.{few, result_item, use_item}
 use Rattle.mlir_work_c_read.proofs.Joining.{from_full, set_first}
@@ -17,12 +17,12 @@ returns c =
     let at = c.args.at in
     let uses = c.args.uses in
     let count = c.write_uses-count.ensures.count in
-    let second = c.count_of.ensures ∙ few_is (length uses) c.write_uses-count.result count in
-    let item = two_is c.number.result c.count_of.result c.args.ty (few (length uses)) c.number.ensures second in
+    let second = c.min.ensures ∙ few_is (length uses) c.write_uses-count.result count in
+    let item = two_is c.number.result c.min.result c.args.ty (few (length uses)) c.number.ensures second in
     let free = c.if-at-into.false in
     let less : at < length into = omega (arith, free) in
     let fits : length into ≤ 18446744073709551615 = search rules in
-    let least = c.min.ensures in
+    let least = c.min-2.ensures in
     let many = many_uses uses in
     record {
       written = ap (λ z. slice_set c.write_uses-count.new.into at z) item
