@@ -10,6 +10,7 @@ mod entry;
 mod grow;
 mod load;
 mod neighbours;
+pub mod op_record;
 mod outer;
 mod outside;
 mod position;
@@ -22,4 +23,4 @@ mod using;
 mod walk;
 
 pub use ir_store_reads::trees::place;
-pub use ir_store_reads::{node, row, trees, types, uses};
+pub use ir_store_reads::{node, result_uses, row, trees, types, uses};

@@ -37,7 +37,7 @@ pub struct OpArena {
 impl OpArena {
     /// Returns the operands of a slot's operation and the types of its results, in order.
     #[inline(always)]
-    fn lists(&self, held: &SlotKind) -> (&[Value], &[TypeId])
+    pub(crate) fn lists(&self, held: &SlotKind) -> (&[Value], &[TypeId])
         ensures operands { result.0.now ≡ (contents_at self.now held.now).operands }
         ensures results { result.1.now ≡ (contents_at self.now held.now).results }
     {

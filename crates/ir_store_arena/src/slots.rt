@@ -173,6 +173,18 @@ impl Slots {
         }
     }
 
+    /// Returns the operands of the operation in a slot and the types of its results, in order.
+    #[inline(always)]
+    pub fn lists(&self, slot: usize) -> (&[Value], &[TypeId])
+        ensures operands { result.0.now ≡ (row_at self.now slot).head.operands }
+        ensures results { result.1.now ≡ (row_at self.now slot).head.results }
+    {
+        match self.slots.get(slot) {
+            None => (&[], &[]),
+            Some(row) => self.registry.lists(&row.held),
+        }
+    }
+
     /// Returns the regions of the operation in a slot.
     pub fn areas(&self, slot: usize) -> &[RegionData]
         ensures { map shape_of result.now ≡ (row_at self.now slot).shapes }

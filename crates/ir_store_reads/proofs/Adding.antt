@@ -10,6 +10,11 @@ use Rattle.ir_store_slots.specs.Walks.{from_slot}
 use Rattle.ir_store_reads.specs.Added.{AddsOp, AddsRegions, AddsOps}
 use Rattle.ir_store_slots.proofs.Walked.{Walks, goes, from_first, walk_start, walk_on, walk_less}
 
+-- an empty list
+pub is_none : (xs : List RegionData) → length xs < 1 → xs ≡ []
+is_none [] l = refl
+is_none (x ∷ xs) l = absurd (omega (arith, l))
+
 module _ (slots : List Row) (lists : List (List ℕ)) where
   -- an operation, followed by those inside it
   pub added_op : (k : ℕ) (a b c : List ℕ) (x : ℕ) → x ≡ (row_at slots k).head.id → b ≡ a ++ x ∷ [] → AddsRegions slots lists (row_at slots k).shapes b c → AddsOp slots lists k a c

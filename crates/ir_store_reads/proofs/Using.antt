@@ -1,5 +1,5 @@
 -- The walk over the uses of a value.
-use Rattle.std.proofs.Common.{◌≡◌, ℕ, ◌+◌, ◌<◌, ◌≤◌, List, [], ◌∷◌, map, refl, sym, ap, ◌∙◌, subst, length, Bool, true, false, eqb, arith, Option, Some, None, slice_get}
+use Rattle.std.proofs.Common.{◌≡◌, ℕ, zero, suc, ◌+◌, ◌<◌, ◌≤◌, List, [], ◌∷◌, map, get_or, refl, sym, ap, ◌∙◌, subst, length, Bool, true, false, eqb, arith, Option, Some, None, slice_get}
 use Rattle.std.specs.Prelude.{if◌then◌else◌}
 use Rattle.std.proofs.lemmas.List.{length-map}
 use Rattle.ir_store_slots.specs.Lists.{Lists, Laws, IsHead, IsItem, home_at, list_at, has, after, free}
@@ -8,7 +8,7 @@ use Rattle.ir_store_slots.specs.Rows.{Row}
 use Rattle.ir_store_slots.specs.Using.{use_in, uses_at}
 use Rattle.ir_store_slots.specs.Walks.{from_slot}
 use Rattle.ir_store_slots.proofs.Walked.{after_in, from_first, goes, listed_item, walk_start}
-use Rattle.ir_store_reads.specs.Uses.{uses_left, IsNode}
+use Rattle.ir_store_reads.specs.Uses.{uses_left, uses_of_each, IsNode}
 
 -- a list from a slot on is at most as long as the list
 from_short : (at : Option ℕ) (ks : List ℕ) → length (from_slot at ks) ≤ length ks
@@ -89,3 +89,19 @@ module _ (slots : List Row) (cells : List (ℕ × ℕ)) (chains : Lists) (laws :
 
     pub counts_short : count + 1 ≤ total
     counts_short = omega (arith, one_less (after n (list_at chains.lists (home_at chains.homes n))) refl, w.sum)
+
+-- the uses of each of some heads
+module _ (slots : List Row) (cells : List (ℕ × ℕ)) (lists : List (List ℕ)) where
+  pub each_length : (b n : ℕ) → length (uses_of_each slots cells lists b n) ≡ n
+  each_length b zero = refl
+  each_length b (suc n) = ap suc (each_length (b + 1) n)
+
+  pub each_at : (b n k : ℕ) → k < n → get_or (uses_of_each slots cells lists b n) k [] ≡ uses_at slots cells lists (Some (b + k))
+  each_at b zero k l = absurd (omega (arith, l))
+  each_at b (suc n) zero l =
+      let same : b ≡ b + 0 = omega arith in
+      ap (λ h. uses_at slots cells lists (Some h)) same
+  each_at b (suc n) (suc k) l =
+      let less : k < n = omega (arith, l) in
+      let same : b + 1 + k ≡ b + suc k = omega arith in
+      each_at (b + 1) n k less ∙ ap (λ h. uses_at slots cells lists (Some h)) same

@@ -6,6 +6,7 @@ pub mod depth;
 pub mod neighbours;
 pub mod node;
 pub mod position;
+pub mod result_uses;
 pub mod spare;
 pub mod users;
 pub mod uses;

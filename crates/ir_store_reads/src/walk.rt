@@ -90,9 +90,33 @@ fn push_list(
 {
     let mut at = sibs.first(head);
     'ops: while let Some(key) = at {
-        push_op(slots, sibs, key, levels, out)?;
+        push_item(slots, sibs, key, levels, out)?;
         at = sibs.next(key);
     }
+    Ok(())
+}
+
+/// Appends the operation of a slot and those inside it. An operation without regions, the common case, needs no call.
+#[cycle(push)]
+#[inline(always)]
+fn push_item(
+    slots: &Slots,
+    sibs: &OrderedLists,
+    key: usize,
+    levels: u32,
+    out: &mut Vec<OpId>,
+) -> Result<(), AllocError>
+    requires slots { (k : ℕ) → Live slots.now k → AllHeads sibs.now.homes (row_at slots.now k).shapes }
+    requires laws { Laws sibs.now.lists sibs.now.homes }
+    ensures { OnOk result (AddsOp slots.now sibs.now.lists key out.old.items out.new.items) }
+{
+    if !slots.areas(key).is_empty() {
+        return push_op(slots, sibs, key, levels, out);
+    }
+    if levels == 0 || !slots.is_live(key) {
+        return Err(AllocError);
+    }
+    out.push(slots.id(key))?;
     Ok(())
 }
 

@@ -1,7 +1,7 @@
 -- Items that are written to a buffer one part after the other.
 use Rattle.std.proofs.Common.{◌≡◌, ◌∙◌, ap, sym, refl, ℕ, zero, suc, ◌+◌, ◌-◌, ◌≤◌, ◌<◌, List, [], ◌∷◌, ◌++◌, length, length-append, take, drop, get_or, arith}
-use Rattle.std.specs.Prelude.{min, flat_map}
-use Rattle.mlir_work_c_read.specs.Filled.{over, over_from}
+use Rattle.std.specs.Prelude.{min, flat_map, slice_set}
+use Rattle.mlir_work_c_read.specs.Filled.{over, over_from, WritesFrom}
 
 module _ {A : Type 0} where
   pub over_none : (old : List A) → over [] old ≡ old
@@ -45,6 +45,30 @@ module _ {A : Type 0} where
   joined_from (suc at) zero xs ys (o ∷ os) l e = absurd (omega (arith, e))
   joined_from (suc at) (suc m) xs ys (o ∷ os) l e = ap (λ t. o ∷ t) (joined_from at m xs ys os (omega (arith, l)) (omega (arith, e)))
 
+  -- nothing is written to a full buffer
+  pub from_full : (at : ℕ) (items old : List A) → length old ≤ at → over_from at items old ≡ old
+  from_full zero items [] l = over_empty items
+  from_full zero items (o ∷ os) l = absurd (omega (arith, l))
+  from_full (suc at) items [] l = over_empty items
+  from_full (suc at) items (o ∷ os) l = ap (λ t. o ∷ t) (from_full at items os (omega (arith, l)))
+
+  -- an item is written
+  pub set_here : (at : ℕ) (x : A) (old : List A) → at < length old → slice_set old at x ≡ over_from at (x ∷ []) old
+  set_here at x [] l = absurd (omega (arith, l))
+  set_here zero x (o ∷ os) l = ap (λ t. x ∷ t) (sym (over_none os))
+  set_here (suc at) x (o ∷ os) l = ap (λ t. o ∷ t) (set_here at x os (omega (arith, l)))
+
+  -- an item is written before those after it
+  set_before : (at : ℕ) (x : A) (xs old : List A) → at < length old → slice_set (over_from (suc at) xs old) at x ≡ over_from at (x ∷ xs) old
+  set_before at x xs [] l = absurd (omega (arith, l))
+  set_before zero x xs (o ∷ os) l = refl
+  set_before (suc at) x xs (o ∷ os) l = ap (λ t. o ∷ t) (set_before at x xs os (omega (arith, l)))
+
+  pub set_first : (at : ℕ) (x : A) (xs old : List A) → at < length old → slice_set (over_from (at + 1) xs old) at x ≡ over_from at (x ∷ xs) old
+  set_first at x xs old l =
+      let next : at + 1 ≡ suc at = omega arith in
+      ap (λ k. slice_set (over_from k xs old) at x) next ∙ set_before at x xs old l
+
 -- what is still to be written from a place on makes the whole buffer and its count
 pub record Continues {A : Type 0} (rest whole : List A) (at : ℕ) (into old : List A) : Type 0 where
   pub written : over_from at rest into ≡ over whole old
@@ -75,6 +99,50 @@ module _ {A : Type 0} where
       let s = h.size in let i = h.inside in let c = h.count in
       let within : at ≤ length into = omega (arith, s, i) in
       (sym (from_none at into within) ∙ h.written, omega (arith, s, i, c))
+
+-- what is still to be written from a place on makes all items from place b on
+pub record ContinuesFrom {A : Type 0} (rest whole : List A) (b at : ℕ) (into old : List A) : Type 0 where
+  pub written : over_from at rest into ≡ over_from b whole old
+  pub size : length into ≡ length old
+  pub inside : at ≤ length old
+  pub count : min (at + length rest) (length old) ≡ min (b + length whole) (length old)
+
+module _ {A : Type 0} where
+  pub begins_from : (whole : List A) (b : ℕ) (old : List A) → b ≤ length old → ContinuesFrom whole whole b b old old
+  begins_from whole b old l = record { written = refl; size = refl; inside = l; count = refl }
+
+  -- a part is written
+  pub continues_from : (part rest both whole : List A) (b at m : ℕ) (into new old : List A) → both ≡ part ++ rest → WritesFrom part at into new m
+      → ContinuesFrom both whole b at into old → ContinuesFrom rest whole b m new old
+  continues_from part rest both whole b at m into new old parts part_is h =
+      let sum : length both ≡ length part + length rest = ap length parts ∙ length-append part rest in
+      let is = part_is.written in let count = part_is.end_is in
+      let s = h.size in let i = h.inside in let c = h.count in
+      let within : at ≤ length into = omega (arith, s, i) in
+      let long : length new ≡ length into = ap length is ∙ from_length at part into within in
+      record {
+        written = ap (over_from m rest) is ∙ joined_from at m part rest into within count ∙ ap (λ t. over_from at t into) (sym parts) ∙ h.written;
+        size = long ∙ s;
+        inside = omega (arith, count, s);
+        count = omega (arith, count, s, i, c, sum);
+      }
+
+  -- all parts are written
+  pub ends_from : (whole : List A) (b at : ℕ) (into old : List A) → ContinuesFrom [] whole b at into old → WritesFrom whole b old into at
+  ends_from whole b at into old h =
+      let s = h.size in let i = h.inside in let c = h.count in
+      let within : at ≤ length into = omega (arith, s, i) in
+      record { written = sym (from_none at into within) ∙ h.written; end_is = omega (arith, s, i, c) }
+
+  -- a full buffer has all that fits
+  pub full_from : (rest whole : List A) (b at : ℕ) (into old : List A) → length into ≤ at → ContinuesFrom rest whole b at into old → WritesFrom whole b old into at
+  full_from rest whole b at into old l h =
+      let s = h.size in let i = h.inside in let c = h.count in
+      record { written = sym (from_full at rest into l) ∙ h.written; end_is = omega (arith, s, i, c, l) }
+
+  -- the size of a buffer stays
+  pub size_from : (items : List A) (at : ℕ) (old new : List A) (end : ℕ) → at ≤ length old → WritesFrom items at old new end → length new ≡ length old
+  size_from items at old new end l h = ap length h.written ∙ from_length at items old l
 
 -- ---- the first item of a list, and the others
 

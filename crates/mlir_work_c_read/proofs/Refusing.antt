@@ -3,6 +3,8 @@ use Rattle.std.proofs.Common.{◌≡◌, ◌∙◌, ap, sym, refl, ℕ, zero, su
 use Rattle.ir_event.specs.types.Things.{ContextModel}
 use Rattle.ir_event.specs.types.declared.refusal.Refusal.{Refusal}
 use Rattle.ir_text_operations.specs.attributes.AttrReading.{Entries}
+use Rattle.ir_text_operations.specs.Entries.{staying}
+use Rattle.ir_text_operations.specs.EntryReading.{is_property_in}
 use Rattle.mlir_work_c_read.specs.Headers.{entries_fault, entry_fault, first_of}
 use Rattle.mlir_work_c_read.proofs.Joining.{rest_at, rest_length}
 
@@ -53,3 +55,8 @@ module _ (c : ContextModel) (op : Option ℕ) (ps : Entries) where
 
   pub walk_ends : (es rest : Entries) (count : ℕ) → length rest < 1 → Walked es rest count → None ≡ entries_fault c op ps [] es
   walk_ends es rest count l h = ap (entries_fault c op ps (take count es)) (sym (nothing_left rest l)) ∙ h.reported
+
+-- without a name no entry is a property
+pub all_stay : (c : ContextModel) (es : Entries) → staying (is_property_in c None) es ≡ es
+all_stay c [] = refl
+all_stay c (e ∷ es) = ap (λ l. e ∷ l) (all_stay c es)

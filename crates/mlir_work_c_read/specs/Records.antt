@@ -1,5 +1,5 @@
 -- Records of operations: what an operation has, with the types and the uses of its results.
-use Rattle.std.specs.Prelude.{◌≡◌, ℕ, ◌+◌, List, [], ◌∷◌, ◌++◌, length, map, min, Option, Some, None}
+use Rattle.std.specs.Prelude.{◌≡◌, ℕ, ◌+◌, List, [], ◌∷◌, ◌++◌, get_or, length, map, min, Option, Some, None}
 use Rattle.ir_event.specs.store.Using.{AreUses}
 use Rattle.ir_event.specs.trees.Tree.{Op, head}
 use Rattle.ir_event.specs.trees.Ids.{find}
@@ -7,6 +7,7 @@ use Rattle.ir_event.specs.trees.declared.value.Value.{Value}
 use Rattle.ir_event.specs.trees.declared.value.Value.TheVariants as value
 use Rattle.mlir_work_c_read.specs.declared.numbers.RecordItem.{RecordItem}
 use Rattle.mlir_work_c_read.specs.Bulk.{WritesFirst, operands_in}
+use Rattle.mlir_work_c_read.specs.Filled.{WritesFrom}
 use Rattle.mlir_work_c_read.specs.Numbers.{no_region}
 
 -- a count in 32 bits: no module has as many uses
@@ -61,13 +62,15 @@ AreRecords t [] items = items ≡ []
 AreRecords t (x ∷ xs) items =
     (one : List RecordItem) × (rest : List RecordItem) × IsRecord x t one × AreRecords t xs rest × (items ≡ one ++ rest)
 
--- these results are written
-abbrev pub WritesResults : ℕ → List ℕ → Op → List RecordItem → List RecordItem → ℕ → Type 0
-WritesResults x tys t old new count = (items : List RecordItem) × AreResults x t 0 tys items × WritesFirst items old new count
+-- results from result k on, by their types and by the uses of each result: each result, and then its uses
+abbrev pub result_items : List (List (ℕ × ℕ)) → ℕ → List ℕ → List RecordItem
+result_items uses k [] = []
+result_items uses k (ty ∷ tys) =
+    (result_item ty (length (get_or uses k [])) ∷ map use_item (get_or uses k [])) ++ result_items uses (k + 1) tys
 
--- the record of operation x is written
-abbrev pub WritesRecord : ℕ → Op → List RecordItem → List RecordItem → ℕ → Type 0
-WritesRecord x t old new count = (items : List RecordItem) × IsRecord x t items × WritesFirst items old new count
+-- the record of operation x is written from a place on
+abbrev pub WritesRecord : ℕ → Op → ℕ → List RecordItem → List RecordItem → ℕ → Type 0
+WritesRecord x t at old new end = (items : List RecordItem) × IsRecord x t items × WritesFrom items at old new end
 
 -- the records of operations are written
 abbrev pub WritesRecords : List ℕ → Op → List RecordItem → List RecordItem → ℕ → Type 0

@@ -142,17 +142,6 @@ fn push_among(ctx: &Context, sorted: &mut Vec<Entry>, entry: Entry) -> Result<()
     Ok(())
 }
 
-/// Inserts entries into a sorted list, the last one first.
-fn push_all(ctx: &Context, sorted: &mut Vec<Entry>, entries: &[Entry]) -> Result<(), AllocError>
-    ensures { OnOk result (sorted.new.items ≡ insert_entries (key_before_in ctx.now) sorted.old.items entries.now) }
-{
-    let [entry, trailing @ ..] = entries else {
-        return Ok(());
-    };
-    push_all(ctx, sorted, trailing)?;
-    push_among(ctx, sorted, *entry)
-}
-
 /// Inserts the entries that are properties into a sorted list, the last one first.
 fn insert_properties(
     ctx: &Context,
@@ -172,7 +161,8 @@ fn insert_properties(
     Ok(())
 }
 
-/// Inserts the entries that are no properties into a sorted list, the last one first.
+/// Inserts the entries that are no properties into a sorted list, the last one first. Without a name these are all
+/// entries.
 fn insert_attributes(
     ctx: &Context,
     op: &Option<NameId>,
@@ -192,7 +182,6 @@ fn insert_attributes(
 }
 
 /// Returns the sorted properties of an operation, including those that were given among its attributes.
-#[tactic(auto, using(ir_text_operations::proofs::Placing::put_both))]
 pub(crate) fn properties_of(
     alloc: Global,
     ctx: &Context,
@@ -204,7 +193,7 @@ pub(crate) fn properties_of(
 {
     let mut sorted = Vec::with_capacity(alloc, properties.len())?;
     insert_properties(ctx, &Some(op), &mut sorted, attributes)?;
-    push_all(ctx, &mut sorted, properties)?;
+    insert_attributes(ctx, &None, &mut sorted, properties)?;
     Ok(sorted)
 }
 

@@ -1,13 +1,13 @@
 //! Reads of operations, each with its operands and with the types and the uses of its results, by one call for many
 //! operations.
-ghost use Rattle.std.specs.Prelude.{◌≡◌, ◌≤◌, ◌∷◌, [], ℕ, List, length, map, min};
+ghost use Rattle.std.specs.Prelude.{◌≡◌, ◌≤◌, ◌∷◌, [], length, map, min};
 ghost use Rattle.ir_event.specs.trees.Limits.{most_items};
-ghost use Rattle.mlir_work_c_read.specs.Filled.{over};
+ghost use Rattle.mlir_work_c_read.specs.Filled.{over_from, WritesFrom};
 ghost use Rattle.mlir_work_c_read.specs.Operations.{tree_in};
-ghost use Rattle.mlir_work_c_read.specs.Bulk.{WritesFirst};
-ghost use Rattle.mlir_work_c_read.specs.Records.{WritesRecord, WritesRecords, WritesResults, few, no_operation, operand_item, result_item, use_item};
+ghost use Rattle.mlir_work_c_read.specs.Records.{WritesRecord, WritesRecords, operand_item, result_item, result_items, use_item};
 
 use crate::numbers::RecordItem;
+use ir_event::store::result_uses::ResultUses;
 use ir_event::store::uses::UsesOf;
 use ir_event::trees::value::Value;
 use ir_event::types::ids::{NameId, OpId, TypeId};
@@ -21,35 +21,30 @@ pub fn write_records(world: &World, ops: &[u32], into: &mut [RecordItem]) -> usi
     let mut at = 0;
     let mut rest = ops;
     'ops: while let [op, tail @ ..] = rest {
-        at += write_record(world, OpId::new(*op), &mut into[at..]);
+        at = write_record(world, OpId::new(*op), into, at);
         rest = tail;
     }
     at
 }
 
-/// Writes the record of an operation.
-fn write_record(world: &World, op: OpId, into: &mut [RecordItem]) -> usize
-    ensures { WritesRecord op (tree_in world.now) into.old into.new result }
+/// Writes the record of an operation from a place on, and returns the place after its last item.
+#[inline(always)]
+fn write_record(world: &World, op: OpId, into: &mut [RecordItem], at: usize) -> usize
+    requires { at ≤ length into.old }
+    ensures { WritesRecord op (tree_in world.now) at into.old into.new result }
 {
-    let Some(node) = world.shown(op) else {
-        return write_item(absent(), into);
+    let Some(found) = world.store.op_record(op) else {
+        let absent = RecordItem {
+            first: 4294967295,
+            second: 0,
+            third: 0,
+        };
+        return write_item(absent, into, at);
     };
-    let operands = node.operands();
-    let results = node.results();
-    let head = write_item(item_of(node.name(), operands.len(), results.len()), into);
-    let at = head + write_operands(operands, &mut into[head..]);
-    at + write_results(world, op, results, &mut into[at..])
-}
-
-/// Returns the item of an operation that isn't in the module.
-fn absent() -> RecordItem
-    ensures { result ≡ no_operation }
-{
-    RecordItem {
-        first: 4294967295,
-        second: 0,
-        third: 0,
-    }
+    let head = item_of(found.name, found.operands.len(), found.results.len());
+    let after_head = write_item(head, into, at);
+    let after_operands = write_operands(found.operands, into, after_head);
+    write_results(&found.uses, found.results, into, after_operands)
 }
 
 /// Returns the item of an operation with this name and these counts.
@@ -65,45 +60,32 @@ fn item_of(name: NameId, operands: usize, results: usize) -> RecordItem
     }
 }
 
-/// Returns a count as 32 bits, or 2^32 - 1 if it has more.
-fn count_of(count: usize) -> u32
-    ensures { result ≡ few count }
+/// Writes an item to a place, if there is space for it, and returns the place after it.
+#[inline(always)]
+fn write_item(item: RecordItem, into: &mut [RecordItem], at: usize) -> usize
+    requires { at ≤ length into.old }
+    ensures { WritesFrom (item ∷ []) at into.old into.new result }
 {
-    count.min(4294967295) as u32
-}
-
-/// Writes an item, if there is space for it.
-fn write_item(item: RecordItem, into: &mut [RecordItem]) -> usize
-    ensures { WritesFirst (item ∷ []) into.old into.new result }
-{
-    if into.is_empty() {
-        return 0;
+    if at >= into.len() {
+        return at;
     }
-    into[0] = item;
-    1
+    into[at] = item;
+    at + 1
 }
 
-/// Writes operands.
-fn write_operands(operands: &[Value], into: &mut [RecordItem]) -> usize
-    ensures { WritesFirst (map operand_item operands.now) into.old into.new result }
+/// Writes operands from a place on, and returns the place after the last one.
+#[inline(always)]
+fn write_operands(operands: &[Value], into: &mut [RecordItem], at: usize) -> usize
+    requires { at ≤ length into.old }
+    ensures { WritesFrom (map operand_item operands.now) at into.old into.new result }
 {
-    let count = operands.len().min(into.len());
-    write_each_operand(operands, into);
-    count
-}
-
-/// Writes operands, as many as there is space for.
-fn write_each_operand(operands: &[Value], into: &mut [RecordItem])
-    ensures { into.new ≡ over (map operand_item operands.now) into.old }
-{
+    let mut place = at;
     let mut rest = operands;
-    for item in into {
-        let [operand, tail @ ..] = rest else {
-            return;
-        };
-        *item = operand_item(*operand);
+    'operands: while let [operand, tail @ ..] = rest {
+        place = write_item(operand_item(*operand), into, place);
         rest = tail;
     }
+    place
 }
 
 /// Returns the item of an operand.
@@ -124,56 +106,72 @@ fn operand_item(operand: Value) -> RecordItem
     }
 }
 
-/// Writes the results of an operation by their types: each result, and then its uses.
-#[inline(never)]
-fn write_results(world: &World, op: OpId, types: &[TypeId], into: &mut [RecordItem]) -> usize
-    requires { length types.now ≤ most_items }
-    ensures { WritesResults op types.now (tree_in world.now) into.old into.new result }
+/// Writes the results of an operation from a place on, by their types and uses: each result, and then its uses. Returns
+/// the place after the last use.
+#[inline(always)]
+fn write_results(
+    all: &ResultUses<'_>,
+    types: &[TypeId],
+    into: &mut [RecordItem],
+    at: usize,
+) -> usize
+    requires at { at ≤ length into.old }
+    requires few { length types.now ≤ most_items }
+    requires uses { length all.now ≡ length types.now }
+    ensures { WritesFrom (result_items all.now 0 types.now) at into.old into.new result }
 {
-    let mut at = 0;
-    let mut place = 0;
+    let mut place = at;
+    let mut index = 0;
     let mut rest = types;
     'results: while let [ty, tail @ ..] = rest {
-        let uses = world.store.uses(Value::Result(op, place));
-        at += write_result(uses, *ty, &mut into[at..]);
-        place += 1;
+        place = write_result(all.of(index), *ty, into, place);
+        index += 1;
         rest = tail;
     }
-    at
+    place
 }
 
-/// Writes a result of this type, and then its uses.
-fn write_result(uses: UsesOf<'_>, ty: TypeId, into: &mut [RecordItem]) -> usize
-    ensures { WritesFirst (result_item ty (length uses.entry) ∷ map use_item uses.entry) into.old into.new result }
+/// Writes a result of this type to a place, and then its uses. Returns the place after the last use.
+#[inline(always)]
+fn write_result(uses: UsesOf<'_>, ty: TypeId, into: &mut [RecordItem], at: usize) -> usize
+    requires { at ≤ length into.old }
+    ensures { WritesFrom (result_item ty (length uses.entry) ∷ map use_item uses.entry) at into.old into.new result }
 {
-    if into.is_empty() {
-        return 0;
+    if at >= into.len() {
+        return at;
     }
-    let count = write_uses(uses, &mut into[1..]);
-    into[0] = RecordItem {
+    let place = at + 1;
+    let space = into.len() - place;
+    let count = write_uses(uses, into, place);
+    into[at] = RecordItem {
         first: ty.number(),
-        second: count_of(count),
+        second: count.min(4294967295) as u32,
         third: 0,
     };
-    1 + count.min(into.len() - 1)
+    place + count.min(space)
 }
 
-/// Writes uses, as many as there is space for. Returns how many there are, or 2^64 - 1 if there are more.
-fn write_uses(uses: UsesOf<'_>, into: &mut [RecordItem]) -> usize
-    ensures written { into.new ≡ over (map use_item uses.entry) into.old }
+/// Writes uses from a place on, as many as there is space for. Returns how many there are, or 2^64 - 1 if there are more.
+#[inline(always)]
+fn write_uses(uses: UsesOf<'_>, into: &mut [RecordItem], at: usize) -> usize
+    requires { at ≤ length into.old }
+    ensures written { into.new ≡ over_from at (map use_item uses.entry) into.old }
+    ensures size { length into.new ≡ length into.old }
     ensures count { result ≡ min (length uses.entry) 18446744073709551615 }
 {
+    let mut place = at;
     let mut count = 0;
     let mut rest = uses;
-    for item in into {
+    'uses: while place < into.len() {
         let Some((op, operand)) = rest.next() else {
             return count;
         };
-        *item = RecordItem {
+        into[place] = RecordItem {
             first: op.number(),
             second: operand,
             third: 0,
         };
+        place += 1;
         count += 1;
     }
     rest.len().saturating_add(count)

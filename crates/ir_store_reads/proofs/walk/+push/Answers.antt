@@ -1,11 +1,12 @@
-use Rattle.std.proofs.Common.{sym, ap, ◌∙◌, subst, [], ◌∷◌}
+use Rattle.std.proofs.Common.{sym, ap, ◌∙◌, subst, map, [], ◌∷◌, arith}
+use Rattle.std.proofs.lemmas.Bool.Decides.{nat_tests}
 use Rattle.ir_store_slots.specs.Lists.{after, list_at}
 use Rattle.ir_store_slots.proofs.Splits.{uncons}
 use Rattle.ir_store_slots.specs.Rows.{shape_of}
 use Rattle.ir_store_reads.specs.Added.{AddsRegions}
 use Rattle.ir_store_slots.proofs.Items.{on_ok}
 use Rattle.ir_store_slots.proofs.Walked.{listed_item}
-use Rattle.ir_store_reads.proofs.Adding.{added_op, adds_empty, adds_block, region_step, regions_done, slots_start, slots_step, slots_less, slots_done}
+use Rattle.ir_store_reads.proofs.Adding.{added_op, adds_empty, adds_block, adds_none, is_none, region_step, regions_done, slots_start, slots_step, slots_less, slots_done}
 use Rattle.ir_store_reads.proofs.walk.+push.Goals as goal
 
 pub push_area-returns-in-Empty : goal.push_area-returns-in-Empty
@@ -49,8 +50,8 @@ pub push_list-ops-preserved : goal.push_list-ops-preserved
 push_list-ops-preserved t c =
     let ls = c.args.sibs.now.lists in
     let m = c.requires.laws.members c.args.head c.in-Some.key (c.ops.invariant.0.there c.in-Some.key c.in-Some.is) in
-    slots_step c.args.slots.now ls c.args.head (c.requires.laws.once c.args.head) c.in-Some.key c.ops.at c.next-at.result c.args.out.now.items c.ops.out.items c.push_op.new.out.items c.in-Some.is
-    (c.next-at.ensures ∙ ap (λ z. after c.in-Some.key (list_at ls z)) m.0) c.in_ok-push_op.ensures c.ops.invariant
+    slots_step c.args.slots.now ls c.args.head (c.requires.laws.once c.args.head) c.in-Some.key c.ops.at c.next-at.result c.args.out.now.items c.ops.out.items c.push_item.new.out.items c.in-Some.is
+    (c.next-at.ensures ∙ ap (λ z. after c.in-Some.key (list_at ls z)) m.0) c.in_ok-push_item.ensures c.ops.invariant
 
 pub push_list-returns : goal.push_list-returns
 push_list-returns t c = slots_done c.args.slots.now c.args.sibs.now.lists c.args.head c.ops.at c.args.out.now.items c.ops.out.items c.in_default.is c.ops.invariant
@@ -63,3 +64,12 @@ push_op-returns t c =
     (λ g. added_op slots lists c.args.key c.args.out.now.items c.push.new.self.items c.push_areas.new.out.items c.id.result c.id.ensures c.in_ok-push.ensures.items
     (subst (λ z. AddsRegions slots lists z c.push.new.self.items c.push_areas.new.out.items) c.areas.ensures g))
     c.push_areas.ensures
+
+pub push_item-returns : goal.push_item-returns
+push_item-returns t c =
+    let slots = c.args.slots.now in
+    let lists = c.args.sibs.now.lists in
+    let out = c.push.new.self.items in
+    let none = sym c.areas.ensures ∙ ap (map shape_of) (is_none c.areas.result.now (grind (arith, nat_tests))) in
+    added_op slots lists c.args.key c.args.out.now.items out out c.id.result c.id.ensures c.in_ok-push.ensures.items
+    (subst (λ xs. AddsRegions slots lists xs out out) (sym none) (adds_none slots lists out))

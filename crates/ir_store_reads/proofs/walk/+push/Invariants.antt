@@ -17,13 +17,16 @@ abbrev pub decreases-push_list-ops : goal.decreases-push_list-ops
 decreases-push_list-ops l = length (from_slot l.at (list_at l.sibs.lists l.fn.head))
 
 abbrev pub decreases-push_op : goal.decreases-push_op
-decreases-push_op l = 4 * l.levels
+decreases-push_op l = 5 * l.levels
 
 abbrev pub decreases-push_areas : goal.decreases-push_areas
-decreases-push_areas l = 4 * l.levels + 3
+decreases-push_areas l = 5 * l.levels + 4
 
 abbrev pub decreases-push_area : goal.decreases-push_area
-decreases-push_area l = 4 * l.levels + 2
+decreases-push_area l = 5 * l.levels + 3
 
 abbrev pub decreases-push_list : goal.decreases-push_list
-decreases-push_list l = 4 * l.levels + 1
+decreases-push_list l = 5 * l.levels + 2
+
+abbrev pub decreases-push_item : goal.decreases-push_item
+decreases-push_item l = 5 * l.levels + 1

@@ -1,34 +1,54 @@
-use Rattle.std.proofs.Common.{ap, sym, subst, ◌≤◌, ◌∙◌, [], ◌∷◌, ◌++◌, length, map}
-use Rattle.ir_event.specs.trees.Limits.{most_items}
+use Rattle.std.proofs.Common.{sym, subst, ◌≤◌, [], ◌∷◌, ◌++◌, length, map, arith}
 use Rattle.mlir_work_c_read.specs.Operations.{tree_in}
-use Rattle.mlir_work_c_read.specs.Records.{AreResults, IsRecord, operand_item}
-use Rattle.mlir_work_c_read.proofs.Recording.{few_items, record_is, three, three_is, three_parts}
+use Rattle.mlir_work_c_read.specs.Records.{IsRecord, no_operation, operand_item, result_items}
+use Rattle.mlir_work_c_read.proofs.Joining.{size_from}
+use Rattle.mlir_work_c_read.proofs.Recording.{few_items, record_is, record_none, results_are, three_parts}
 use Rattle.mlir_work_c_read.proofs.records.write_record.Goals as goal
+
+pub returns-in_default : goal.returns-in_default
+returns-in_default c =
+    let x = c.args.op in
+    let t = tree_in c.args.world.now in (
+      no_operation ∷ [],
+      record_none x t c.in_default.ensures.lists,
+      c.write_item.ensures,
+    )
+
+pub item_of-head-requires : goal.item_of-head-requires
+item_of-head-requires c =
+    let few = few_items _ c.args.op (tree_in c.args.world.now) c.args.world.now.wellformed.wellformed _ c.in-Some.ensures.lists in
+    record { operands = few.0; results = few.1 }
+
+pub write_operands-after_operands-requires : goal.write_operands-after_operands-requires
+write_operands-after_operands-requires c =
+    let a = c.write_item-after_head.ensures in
+    let size = size_from _ _ _ _ _ c.requires a in
+    let end = a.end_is in
+    omega (arith, size, end)
 
 pub write_results-requires : goal.write_results-requires
 write_results-requires c =
-    subst (λ rs. length rs ≤ most_items) (sym c.results-results.ensures) (few_items _ c.args.op (tree_in c.args.world.now) c.args.world.now.wellformed.wellformed c.in-Some.node (sym c.in-Some.is ∙ c.shown.ensures.node)).1
-
-pub item_of-requires : goal.item_of-requires
-item_of-requires c =
-    let few = few_items _ c.args.op (tree_in c.args.world.now) c.args.world.now.wellformed.wellformed c.in-Some.node (sym c.in-Some.is ∙ c.shown.ensures.node) in
-    record {
-      operands = subst (λ vs. length vs ≤ most_items) (sym c.operands-operands.ensures) few.0;
-      results = subst (λ rs. length rs ≤ most_items) (sym c.results-results.ensures) few.1;
-    }
+    let few = few_items _ c.args.op (tree_in c.args.world.now) c.args.world.now.wellformed.wellformed _ c.in-Some.ensures.lists in
+    let a = c.write_item-after_head.ensures in
+    let size = size_from _ _ _ _ _ c.requires a in
+    let end = a.end_is in
+    let within : c.write_item-after_head.result ≤ length c.write_item-after_head.new.into = omega (arith, size, end) in
+    let b = c.write_operands-after_operands.ensures in
+    let size_b = size_from _ _ _ _ _ within b in
+    let end_b = b.end_is in
+    record { at = omega (arith, size_b, end_b); few = few.1; uses = c.in-Some.ensures.count }
 
 pub returns : goal.returns
 returns c =
     let x = c.args.op in
     let t = tree_in c.args.world.now in
-    let n = c.in-Some.node in
-    let got = c.write_results.ensures in
-    let operands = c.operands-operands.ensures in
-    let results = c.results-results.ensures in
-    let head = c.item_of.ensures ∙ three_is _ _ _ n.head.name (length n.head.operands) (length n.head.results) c.name.ensures (ap length operands) (ap length results) in
-    let same = ap (λ z. (z ∷ []) ++ (map operand_item c.operands-operands.result.now ++ got.0)) head
-    ∙ ap (λ vs. (three n.head.name (length n.head.operands) (length n.head.results) ∷ []) ++ (map operand_item vs ++ got.0)) operands in (
-      (c.item_of.result ∷ []) ++ (map operand_item c.operands-operands.result.now ++ got.0),
-      subst (IsRecord x t) (sym same) (record_is x t n got.0 (sym c.in-Some.is ∙ c.shown.ensures.node) (subst (λ rs. AreResults x t 0 rs got.0) results got.1)),
-      three_parts (c.item_of.result ∷ []) (map operand_item c.operands-operands.result.now) got.0 _ _ _ _ _ _ _ c.write_item-head.ensures c.write_operands.ensures got.2,
+    let found = c.in-Some.found in
+    let results = result_items found.uses 0 found.results.now in
+    let head = c.item_of-head.ensures in
+    let same = c.in-Some.ensures.count in
+    let items = (c.item_of-head.result ∷ []) ++ (map operand_item found.operands.now ++ results) in (
+      items,
+      subst (λ i. IsRecord x t ((i ∷ []) ++ (map operand_item found.operands.now ++ results))) (sym head)
+          (record_is x t found.name found.operands.now found.results.now results c.in-Some.ensures.lists (results_are x t found.uses 0 found.results.now (omega (arith, same)) c.in-Some.ensures.uses)),
+      three_parts (c.item_of-head.result ∷ []) (map operand_item found.operands.now) results _ _ _ _ _ _ _ _ c.requires c.write_item-after_head.ensures c.write_operands-after_operands.ensures c.write_results.ensures,
     )

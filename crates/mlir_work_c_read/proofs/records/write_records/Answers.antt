@@ -1,9 +1,12 @@
-use Rattle.std.proofs.Common.{ap, ◌∙◌, ◌+◌, ◌-◌, length, take, drop, arith}
+use Rattle.std.proofs.Common.{ap, ◌∙◌, ◌-◌, length, take, drop, arith}
 use Rattle.mlir_work_c_read.specs.Operations.{tree_in}
 use Rattle.mlir_work_c_read.specs.Records.{AreRecords}
 use Rattle.mlir_work_c_read.proofs.Joining.{from_length}
-use Rattle.mlir_work_c_read.proofs.Recording.{ends_all, ends_on, part_on, records_none, records_step}
+use Rattle.mlir_work_c_read.proofs.Recording.{ends_all, ends_on, records_none, records_step}
 use Rattle.mlir_work_c_read.proofs.records.write_records.Goals as goal
+
+pub write_record-at-requires : goal.write_record-at-requires
+write_record-at-requires c = c.ops.invariant.0
 
 pub ops-preserved : goal.ops-preserved
 ops-preserved c =
@@ -12,12 +15,11 @@ ops-preserved c =
     let at = c.ops.at in
     let into = c.ops.into in
     let got = c.write_record-at.ensures in
-    let p = part_on at c.write_record-at.result got.0 into c.write_record-at.new.into c.ops.invariant.0 got.2 in
-    let count = p.1 in
-    let long = ap length p.0 ∙ from_length at got.0 into c.ops.invariant.0 in (
+    let count = got.2.end_is in
+    let long = ap length got.2.written ∙ from_length at got.0 into c.ops.invariant.0 in (
       omega (arith, count, long),
-      ends_on (AreRecords t c.args.ops.now) (AreRecords t xs) (AreRecords t (take (length xs - 1) (drop 1 xs))) got.0 at (at + c.write_record-at.result) into _ c.args.into.now
-          (records_step t xs _ c.new.result got.0 c.in-len1-up.len_at_least c.new.ensures got.1) p.0 p.1 c.ops.invariant.1,
+      ends_on (AreRecords t c.args.ops.now) (AreRecords t xs) (AreRecords t (take (length xs - 1) (drop 1 xs))) got.0 at c.write_record-at.result into _ c.args.into.now
+          (records_step t xs _ c.new.result got.0 c.in-len1-up.len_at_least c.new.ensures got.1) got.2.written count c.ops.invariant.1,
     )
 
 pub returns : goal.returns
