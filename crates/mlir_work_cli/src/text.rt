@@ -74,6 +74,11 @@ To look:
   report KIND of #N          print only the rows about operation #N, or about a
                              value that belongs to it
   report KIND of VALUE       print only the rows about VALUE
+  show all                   print all operations as JSON objects, a line each
+                             (docs/JSON.md)
+  show #N                    print operation #N as a JSON object
+  show #N COUNT              the same, and the operations after it in pre-order,
+                             at most COUNT in all
   why #N                     for each rule of its name, say whether the rule
                              applies at operation #N, or why it doesn't, as `why
                              #3 4 drop-zero second-not-zero`
