@@ -1,7 +1,7 @@
 use Rattle.std.proofs.Common.{◌∙◌, sym}
 use Rattle.ir_event.specs.types.Terms.{name_term, type_term, attr_term}
 use Rattle.ir_event.proofs.of_tree_laws.Contents.{map_has_id}
-use Rattle.mlir_work_session.proofs.why.is_in.Goals as goal
+use Rattle.mlir_work_session_base.proofs.subjects.is_in.Goals as goal
 
 pub returns : goal.returns
 returns c =
