@@ -39,10 +39,6 @@ plain_written x l old new is none high n =
 
 -- ---- items and members
 
--- one more text is appended
-pub grown : (old mid new a rest whole : List ℕ) → mid ≡ old ++ a → a ++ rest ≡ whole → mid ++ rest ≡ old ++ whole
-grown old mid new a rest whole m w = ap (λ z. z ++ rest) m ∙ append_assoc old a rest ∙ ap (λ z. old ++ z) w
-
 -- an item is written after its comma
 pub item_written : (old mid new whole : List ℕ) (later : Bool) (d : Data) (ds : Items) → mid ≡ old ++ comma_if later → new ≡ mid ++ compact_text d → old ++ items_text later (item d ds) ≡ whole → new ++ items_text true ds ≡ whole
 item_written old mid new whole later d ds m n h =
