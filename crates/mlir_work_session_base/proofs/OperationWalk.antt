@@ -1,7 +1,8 @@
 -- Walks over operations: a page is the operations that a walk writes.
-use Rattle.std.proofs.Common.{◌≡◌, ◌∙◌, ap, sym, refl, ℕ, zero, suc, ◌+◌, ◌<◌, ◌≤◌, ◌==◌, Bool, true, false, List, [], ◌∷◌, ◌++◌, append_assoc, append-nil, drop, get_or, length, take, Option, Some, None, IsTrue}
+use Rattle.std.proofs.Common.{◌≡◌, ◌∙◌, ap, sym, refl, ℕ, zero, suc, ◌+◌, ◌-◌, ◌<◌, ◌≤◌, ◌==◌, Bool, true, false, if◌then◌else◌, arith, List, [], ◌∷◌, ◌++◌, append_assoc, append-nil, drop, get_or, length, take, Option, Some, None, IsTrue}
 use Rattle.std.proofs.Math.ListN.{drop_of_length-le}
 use Rattle.std.proofs.lemmas.Bool.{and_parts}
+use Rattle.std.proofs.lemmas.Bool.Decides.{nat_tests}
 use Rattle.ir_event.proofs.of_trees.Steps.{next_left}
 use Rattle.ir_event.specs.trees.Tree.{Op, head, op}
 use Rattle.ir_event.specs.trees.Meaning.{meaning}
@@ -60,6 +61,23 @@ pub walked_all : (ps : List Visited) (text : List ℕ) → (all_visited ps (reco
 walked_all [] text = sym (append-nil text)
 walked_all (p ∷ ps) text = walked_all ps (text ++ object_line p) ∙ append_assoc text (object_line p) (objects_text ps)
 
+counting : List ℕ → ℕ → Walk
+counting text n = record { text = text; from = None; left = Some n }
+
+-- a walk with a limit after one more operation, if the limit is reached and if it isn't
+full_or : Bool → Visited → List ℕ → ℕ → Walk
+full_or b p text n = if b then counting text n else counting (text ++ object_line p) (n - 1)
+
+not_full : (n : ℕ) → 0 < n → (n == 0) ≡ false
+not_full n h = grind (arith, nat_tests)
+
+one_fewer : (n : ℕ) → suc n - 1 ≡ n
+one_fewer n = omega arith
+
+counted : (p : Visited) (n : ℕ) (text : List ℕ) → visited p (counting text (suc n)) ≡ counting (text ++ object_line p) n
+counted p n text =
+    ap (λ (b : Bool). full_or b p text (suc n)) (not_full (suc n) (omega arith)) ∙ ap (counting (text ++ object_line p)) (one_fewer n)
+
 -- with a limit, so many are written
 walked_some : (n : ℕ) (ps : List Visited) (text : List ℕ) → (all_visited ps (record { text = text; from = None; left = Some n })).text ≡ text ++ objects_text (take n ps)
 walked_some zero [] text = sym (append-nil text)
@@ -69,7 +87,9 @@ walked_some zero (p ∷ ps) text = walked_some zero ps text ∙ ap (λ (qs : Lis
     none_taken : (qs : List Visited) → take zero qs ≡ []
     none_taken [] = refl
     none_taken (q ∷ qs) = refl
-walked_some (suc n) (p ∷ ps) text = walked_some n ps (text ++ object_line p) ∙ append_assoc text (object_line p) (objects_text (take n ps))
+walked_some (suc n) (p ∷ ps) text =
+    ap (λ (w : Walk). (all_visited ps w).text) (counted p n text) ∙ walked_some n ps (text ++ object_line p)
+    ∙ append_assoc text (object_line p) (objects_text (take n ps))
 
 -- from an operation on
 pub walked_page : (x n : ℕ) (ps : List Visited) (text : List ℕ) → (all_visited ps (record { text = text; from = Some x; left = Some n })).text ≡ text ++ objects_text (take n (from_op x ps))

@@ -19,7 +19,7 @@ invariant-walk_op-regions l = record {
 
 abbrev pub invariant-walk_region-ops : goal.invariant-walk_region-ops
 invariant-walk_region-ops l = record {
-  walk : all_visited (ops_placed l.parent l.region-number l.index (ops_in l.ctx (drop l.index l.op-items))) (walk_view l.writer)
-      ≡ all_visited (ops_placed l.parent l.region-number 0 (ops_in l.ctx l.op-items)) (walk_view l.initial.writer);
+  walk : all_visited (ops_placed l.parent l.number l.index (ops_in l.ctx (drop l.index l.op-items))) (walk_view l.writer)
+      ≡ all_visited (ops_placed l.parent l.number 0 (ops_in l.ctx l.op-items)) (walk_view l.initial.writer);
   inside : IsTrue (ops_every (op_passes (is_name l.ctx) (is_type l.ctx) (is_attr l.ctx)) (ops_of (drop l.index l.op-items)));
 }
