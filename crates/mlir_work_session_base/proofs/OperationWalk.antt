@@ -61,11 +61,11 @@ pub walked_all : (ps : List Visited) (text : List ℕ) → (all_visited ps (reco
 walked_all [] text = sym (append-nil text)
 walked_all (p ∷ ps) text = walked_all ps (text ++ object_line p) ∙ append_assoc text (object_line p) (objects_text ps)
 
-counting : List ℕ → ℕ → Walk
+abbrev counting : List ℕ → ℕ → Walk
 counting text n = record { text = text; from = None; left = Some n }
 
 -- a walk with a limit after one more operation, if the limit is reached and if it isn't
-full_or : Bool → Visited → List ℕ → ℕ → Walk
+abbrev full_or : Bool → Visited → List ℕ → ℕ → Walk
 full_or b p text n = if b then counting text n else counting (text ++ object_line p) (n - 1)
 
 not_full : (n : ℕ) → 0 < n → (n == 0) ≡ false
