@@ -1,5 +1,5 @@
 -- Walks over operations: a page is the operations that a walk writes.
-use Rattle.std.proofs.Common.{◌≡◌, ◌∙◌, ap, sym, refl, ℕ, zero, suc, ◌+◌, ◌-◌, ◌<◌, ◌≤◌, ◌==◌, Bool, true, false, if◌then◌else◌, arith, List, [], ◌∷◌, ◌++◌, append_assoc, append-nil, drop, get_or, length, take, Option, Some, None, IsTrue}
+use Rattle.std.proofs.Common.{◌≡◌, ◌∙◌, ap, sym, refl, ℕ, zero, suc, ◌+◌, ◌-◌, ◌<◌, ◌≤◌, ◌==◌, Bool, true, false, not, if◌then◌else◌, arith, List, [], ◌∷◌, ◌++◌, append_assoc, append-nil, drop, get_or, length, take, Option, Some, None, IsTrue}
 use Rattle.std.proofs.Math.ListN.{drop_of_length-le}
 use Rattle.std.proofs.lemmas.Bool.{and_parts}
 use Rattle.std.proofs.lemmas.Bool.Decides.{nat_tests}
@@ -12,7 +12,7 @@ use Rattle.ir_event.specs.trees.declared.tree.TreeRegion.{TreeRegion}
 use Rattle.ir_event.specs.types.Things.{ContextModel}
 use Rattle.ir_text.specs.View.{ops_in, region_in, regions_in}
 use Rattle.mlir_work_session_base.specs.OperationObjects.{objects_text}
-use Rattle.mlir_work_session_base.specs.OperationWalk.{Visited, Walk, all_visited, object_line, visited}
+use Rattle.mlir_work_session_base.specs.OperationWalk.{Visited, Walk, all_visited, is_full, object_line, one_less, visited}
 use Rattle.mlir_work_session_base.specs.PlacedOps.{from_op, ops_placed, placed, region_placed, regions_placed}
 use Rattle.mlir_work_session_base.specs.declared.place.Place.{Place}
 
@@ -91,13 +91,23 @@ walked_some (suc n) (p ∷ ps) text =
     ap (λ (w : Walk). (all_visited ps w).text) (counted p n text) ∙ walked_some n ps (text ++ object_line p)
     ∙ append_assoc text (object_line p) (objects_text (take n ps))
 
+-- a walk of a page that hasn't begun, after one more operation: `b` says that the page begins at the operation
+abbrev begun : Bool → Visited → ℕ → ℕ → List ℕ → Walk
+begun b p x n text =
+    if not b then record { text = text; from = Some x; left = Some n }
+    else if is_full (Some n) then record { text = text; from = None; left = Some n }
+    else record { text = text ++ object_line p; from = None; left = one_less (Some n) }
+
+abbrev from_if : Bool → ℕ → Visited → List Visited → List Visited
+from_if b x p ps = if b then p ∷ ps else from_op x ps
+
+page_begun : (x n : ℕ) (p : Visited) (ps : List Visited) (text : List ℕ) (b : Bool)
+    → (all_visited ps (record { text = text; from = Some x; left = Some n })).text ≡ text ++ objects_text (take n (from_op x ps))
+    → (all_visited ps (begun b p x n text)).text ≡ text ++ objects_text (take n (from_if b x p ps))
+page_begun x n p ps text true h = walked_some n (p ∷ ps) text
+page_begun x n p ps text false h = h
+
 -- from an operation on
 pub walked_page : (x n : ℕ) (ps : List Visited) (text : List ℕ) → (all_visited ps (record { text = text; from = Some x; left = Some n })).text ≡ text ++ objects_text (take n (from_op x ps))
 walked_page x n [] text = walked_some n [] text
-walked_page x n (p ∷ ps) text = page_from x n p ps text ((head p.operation).id == x) refl (walked_page x n ps text)
-  where
-    page_from : (x n : ℕ) (p : Visited) (ps : List Visited) (text : List ℕ) (b : Bool) → ((head p.operation).id == x) ≡ b
-        → (all_visited ps (record { text = text; from = Some x; left = Some n })).text ≡ text ++ objects_text (take n (from_op x ps))
-        → (all_visited (p ∷ ps) (record { text = text; from = Some x; left = Some n })).text ≡ text ++ objects_text (take n (from_op x (p ∷ ps)))
-    page_from x n p ps text true e h = rw e (walked_some n (p ∷ ps) text)
-    page_from x n p ps text false e h = rw e h
+walked_page x n (p ∷ ps) text = page_begun x n p ps text ((head p.operation).id == x) (walked_page x n ps text)
