@@ -60,8 +60,7 @@ def edited(cases):
 
 def refused(cases):
     for number, lines in REFUSED.items():
-        cases.title(f"show-refused-{number}-{script.REFUSALS[number]}",
-                    f"Lines of `show` that are refused by {number}.")
+        cases.title(f"show-refused-{number}", f"Lines of `show` that are refused by {number}.")
         out = cases.both(over(SUMS, *lines))
         assert out.count(f" refused {number} ") == len(lines), out
     cases.title("show-expected", "A line may expect a refusal of `show`.")
