@@ -132,9 +132,10 @@ pub fn json_line(alloc: Global, line: &[u8]) -> Result<Vec<u8>, AllocError>
     ensures reads { IfOk result (λ json. read json.items ≡ Some (line_data line.now)) }
 {
     match own_object(alloc, line)? {
-        Some(_) => copied(alloc, line),
-        None => members_value(alloc, line)?.to_vec(alloc),
+        Some(_) => return copied(alloc, line),
+        None => {}
     }
+    members_value(alloc, line)?.to_vec(alloc)
 }
 
 /// Appends a line of an output as JSON, with a line feed.

@@ -19,14 +19,14 @@ returns-in-Some-clause-reads c =
     let own = sym c.in_ok-own_object.ensures ∙ ap (option_map view) c.in-Some.is in
     IfOk-weaker c.copied.result _ _ (λ b h. ap read h ∙ own_reads c.args.line.now _ own) c.copied.ensures
 
-pub returns-in-None-clause-json : goal.returns-in-None-clause-json
-returns-in-None-clause-json c =
+pub returns-clause-json : goal.returns-clause-json
+returns-clause-json c =
     let other = sym c.in_ok-own_object.ensures ∙ ap (option_map view) c.in-None.is in
-    let e = c.in_ok-members_value-in-None.ensures in
+    let e = c.in_ok-members_value.ensures in
     IfOk-weaker c.to_vec.result _ _ (λ b h. h (ap has_float e ∙ line_has_no_float c.args.line.now) ∙ ap compact_text e ∙ other_json c.args.line.now other) c.to_vec.ensures.text
 
-pub returns-in-None-clause-reads : goal.returns-in-None-clause-reads
-returns-in-None-clause-reads c =
+pub returns-clause-reads : goal.returns-clause-reads
+returns-clause-reads c =
     let other = sym c.in_ok-own_object.ensures ∙ ap (option_map view) c.in-None.is in
-    let e = c.in_ok-members_value-in-None.ensures in
+    let e = c.in_ok-members_value.ensures in
     IfOk-weaker c.to_vec.result _ _ (λ b h. h (subst (λ d. depth d ≤ max_depth) (sym e) (line_is_shallow c.args.line.now)) ∙ ap Some (e ∙ other_data c.args.line.now other)) c.to_vec.ensures.reads_back
