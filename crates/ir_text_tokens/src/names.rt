@@ -1,8 +1,8 @@
 //! The names that a text has bound, by scope.
-ghost use Rattle.std.specs.Prelude.{◌≡◌, [], ◌∷◌, ◌++◌, OnOk, OnErr, option_map, take};
+ghost use Rattle.std.specs.Prelude.{◌≡◌, [], ◌∷◌, ◌++◌, OnOk, OnErr, IfOk, option_map, take};
 ghost use Rattle.std.specs.HashMap.{get};
 ghost use Rattle.ir_text_tokens.specs.Scopes.{Scopes, bound, entered, find, left};
-ghost use Rattle.ir_text_tokens.specs.Places.{Agrees, joined, key_eq, pick, views};
+ghost use Rattle.ir_text_tokens.specs.Places.{Agrees, joined, key_eq, pick, top, views};
 
 use ir_types_interner::keyed::Keyed;
 use std::alloc::{AllocError, Global};
@@ -69,30 +69,45 @@ fn pick<'s, 'a, T>(entries: &'s [Entry<'a, T>], first: usize, place: Option<usiz
     Some(&entry.value)
 }
 
+/// Returns the index that a map had for a name, or `None` if the map had none.
+fn joined(place: Option<Option<usize>>) -> Option<usize>
+    ensures { result ≡ joined place }
+{
+    match place {
+        Some(place) => place,
+        None => None,
+    }
+}
+
+/// Appends an entry for a name, and returns the index of the entry that it shadows. The name is looked up once.
 fn push_entry<'a, T: Drop>(
     latest: &mut HashMap<&'a [u8], Option<usize>, Keyed>,
     entries: &mut Vec<Entry<'a, T>>,
     name: &'a [u8],
     value: T,
-) -> Result<(), AllocError>
+) -> Result<Option<usize>, AllocError>
     requires { Agrees latest.old entries.old.items }
     ensures agrees { Agrees latest.new entries.new.items }
+    ensures shadowed { IfOk result (λ place. place ≡ top name.now (views entries.old.items)) }
     ensures ok { OnOk result (views entries.new.items ≡ views entries.old.items ++ (record { name = name.now; value = value }) ∷ []) }
     ensures err { OnErr result (entries.new.items ≡ entries.old.items) }
 {
-    let hidden = place_of(latest, name);
+    match entries.reserve(1) {
+        Ok(()) => {}
+        Err(_) => return Err(AllocError),
+    }
     let place = entries.len();
-    entries.push(Entry {
-        name,
-        value,
-        hidden,
-    })?;
     match latest.insert(name, Some(place)) {
-        Ok(_) => Ok(()),
-        Err(_) => {
-            entries.pop();
-            Err(AllocError)
+        Ok(old) => {
+            let hidden = joined(old);
+            entries.push_reserved(Entry {
+                name,
+                value,
+                hidden,
+            });
+            Ok(hidden)
         }
+        Err(_) => Err(AllocError),
     }
 }
 
