@@ -72,7 +72,12 @@ fn skip_all(bytes: &[u8]) -> &[u8]
     'blanks: loop {
         match rest {
             [b'/', b'/', tail @ ..] => rest = skip_line(tail),
-            [b'\n', tail @ ..] => rest = skip_fours(tail),
+            [b'\n', tail @ ..] => {
+                rest = skip_fours(tail);
+                if is_begun(rest) {
+                    return rest;
+                }
+            }
             [byte, tail @ ..] if is_blank(*byte) => rest = tail,
             _ => return rest,
         }
@@ -367,7 +372,10 @@ pub fn after_byte(bytes: &[u8], byte: u8) -> Option<&[u8]>
     if is_begun(bytes) {
         return after_first(bytes, byte);
     }
-    after_blanks(bytes, byte)
+    match after_space(bytes) {
+        Some(tail) if is_begun(tail) => after_first(tail, byte),
+        _ => after_blanks(bytes, byte),
+    }
 }
 
 /// Returns the next token if it is a bare word, and the rest of the text.
