@@ -69,6 +69,17 @@ fn pick<'s, 'a, T>(entries: &'s [Entry<'a, T>], first: usize, place: Option<usiz
     Some(&entry.value)
 }
 
+/// Returns the index that a map had for a name, or `None` if the map had none.
+fn joined(place: Option<Option<usize>>) -> Option<usize>
+    ensures { result ≡ joined place }
+{
+    match place {
+        Some(place) => place,
+        None => None,
+    }
+}
+
+/// Appends an entry for a name. The name is looked up once.
 fn push_entry<'a, T: Drop>(
     latest: &mut HashMap<&'a [u8], Option<usize>, Keyed>,
     entries: &mut Vec<Entry<'a, T>>,
@@ -80,19 +91,21 @@ fn push_entry<'a, T: Drop>(
     ensures ok { OnOk result (views entries.new.items ≡ views entries.old.items ++ (record { name = name.now; value = value }) ∷ []) }
     ensures err { OnErr result (entries.new.items ≡ entries.old.items) }
 {
-    let hidden = place_of(latest, name);
+    match entries.reserve(1) {
+        Ok(()) => {}
+        Err(_) => return Err(AllocError),
+    }
     let place = entries.len();
-    entries.push(Entry {
-        name,
-        value,
-        hidden,
-    })?;
     match latest.insert(name, Some(place)) {
-        Ok(_) => Ok(()),
-        Err(_) => {
-            entries.pop();
-            Err(AllocError)
+        Ok(old) => {
+            entries.push_reserved(Entry {
+                name,
+                value,
+                hidden: joined(old),
+            });
+            Ok(())
         }
+        Err(_) => Err(AllocError),
     }
 }
 
