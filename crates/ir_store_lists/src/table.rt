@@ -70,8 +70,27 @@ impl IdTable {
         })
     }
 
-    /// Returns the slot of an id, or `None` if it has none.
+    /// Returns the slot of an id, or `None` if it has none. The usual case, a table that isn't large, is inlined into the
+    /// caller.
+    #[inline(always)]
     pub fn get(&self, id: u32) -> Option<usize>
+        ensures { result ≡ map.get self.now id }
+    {
+        let place = id as usize;
+        if self.near.len() > CACHED || place >= self.near.len() {
+            return self.get_any(id);
+        }
+        let slot = self.near[place];
+        if slot == NO_SLOT {
+            None
+        } else {
+            Some(slot as usize)
+        }
+    }
+
+    /// Returns the slot of an id, or `None` if it has none, by the pages if the table is large.
+    #[inline(never)]
+    fn get_any(&self, id: u32) -> Option<usize>
         ensures { result ≡ map.get self.now id }
     {
         if self.near.len() > CACHED {
