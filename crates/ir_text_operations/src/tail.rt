@@ -14,6 +14,7 @@ use crate::op_header::OpHeader;
 use crate::opening::Opening;
 use crate::operands::{agrees, values_of};
 use crate::places::placed;
+use crate::scalar_signature::scalar_signature;
 use ir_text_attributes::dictionaries::Entry;
 use ir_text_names::bound::TypedValue;
 use ir_text_names::results::finish;
@@ -31,7 +32,7 @@ use std::alloc::{AllocError, Global};
 
 /// Parses a colon and a function type, and returns the types of the results. Refuses operands whose types differ from
 /// the inputs with `TypeMismatch` at the colon.
-#[tactic(auto, using(ir_types::proofs::Growth::grows_refl, ir_types::proofs::Growth::grows_trans), unfolding(crate::specs::Openings::result_types_at))]
+#[tactic(auto, using(ir_types::proofs::Growth::grows_refl, ir_types::proofs::Growth::grows_trans, crate::proofs::ScalarTypes::are_result_types), unfolding(crate::specs::Openings::result_types_at))]
 fn outputs<'a>(
     alloc: Global,
     ctx: &mut Context,
@@ -45,6 +46,11 @@ fn outputs<'a>(
         Ok(rest) => rest,
         Err(e) => return Err(e),
     };
+    match scalar_signature(alloc, ctx, operands, rest) {
+        Ok(Some(found)) => return Ok(found),
+        Ok(None) => {}
+        Err(_) => return Err(ReadError::Memory),
+    }
     let opaque = ctx.is_opaque();
     let ((inputs, results), rest) = match function_type(alloc, ctx, rest, opaque) {
         Ok(found) => found,
