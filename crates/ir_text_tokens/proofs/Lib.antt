@@ -10,6 +10,7 @@ pub mod Marks
 pub mod Blanks
 pub mod Quoted
 pub mod Reasons
+pub mod Runs
 pub mod Simple
 pub mod Steps
 pub mod KeptBodies
