@@ -18,14 +18,12 @@ pub fn bind<'a>(
 ) -> Result<(), ReadError>
     ensures { Returns (λ _. names.new) result (bind name.now pack names.old) }
 {
-    if names.find(name).is_some() {
-        return Err(ReadError::Refused(Fault {
+    match names.bind_new(name, pack) {
+        Ok(true) => Ok(()),
+        Ok(false) => Err(ReadError::Refused(Fault {
             refusal: TextRefusal::Redefined,
             left,
-        }));
-    }
-    match names.bind(name, pack) {
-        Ok(()) => Ok(()),
+        })),
         Err(_) => Err(ReadError::Memory),
     }
 }

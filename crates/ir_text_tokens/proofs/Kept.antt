@@ -1,19 +1,19 @@
 -- Adding and removing bindings keeps the invariant.
 use Rattle.std.proofs.Common.{◌≡◌, refl, sym, ap, ◌∙◌, subst, ℕ, zero, suc, ◌<◌, ◌≤◌, Bool, true, false, cond, List, [], ◌∷◌, ◌++◌, length, take, drop, Option, Some, None, ◌⊎◌, inl, inr, ⊎_elim, arith}
 use Prim.Native.Nat.compare
-use Rattle.std.specs.Prelude.{nat_le, option_map, slice_get}
+use Rattle.std.specs.Prelude.{nat_le, nat_lt, not, is_some, option_map, slice_get}
 use Rattle.std.specs.Str.{bytes_eq}
 use Rattle.std.specs.Borrow.{Bor}
 use Rattle.std.proofs.lemmas.List.{map-append, length-append, length-map, take-append-le, drop-append-le, take-map, take-take, nil_from_length}
 use Rattle.std.proofs.lemmas.Slice.Eq.{bytes_eq-Decides}
 use Rattle.std.specs.HashMap.{HashMap, get}
 use Rattle.ir_text_tokens.specs.Scopes.{Binding, Scopes, or_else, find, bound, entered, left}
-use Rattle.ir_text_tokens.specs.Places.{key_eq, joined, binding_view, views, top, pick, Linked, Agrees}
+use Rattle.ir_text_tokens.specs.Places.{key_eq, joined, binding_view, views, top, pick, is_from, Linked, Agrees}
 use Rattle.ir_text_tokens.specs.Inside.{visible_at, visible_onto, Standing}
 use Rattle.ir_text_tokens.specs.declared.names.Entry.{Entry}
 use Rattle.ir_text_tokens.specs.declared.names.ScopeStart.{ScopeStart}
 use Rattle.ir_types.proofs.Truths.{drop_all, zero_le}
-use Rattle.std.proofs.lemmas.Option.{slice_get_within}
+use Rattle.std.proofs.lemmas.Option.{slice_get_within, same_Some}
 use Rattle.ir_types.proofs.Building.{place_stays, last_place, push_cases}
 
 take_all : {A : Type 0} (xs : List A) → take (length xs) xs ≡ xs
@@ -73,6 +73,15 @@ module _ {T : Type 0} where
       ap (λ o. or_else (option_map suc o) (cond (bytes_eq c.name name) (Some 0) None)) (top_push name bs b)
       ∙ elim (bytes_eq b.name name) as (λ t. or_else (option_map suc (cond t (Some (length bs)) (top name bs))) (cond (bytes_eq c.name name) (Some 0) None) ≡ cond t (Some (suc (length bs))) (or_else (option_map suc (top name bs)) (cond (bytes_eq c.name name) (Some 0) None))) [ true ↦ refl | false ↦ refl ]
 
+  -- the last of all bindings is the last of its name
+  pub top_at_end : (name : List ℕ) (bs : List (Binding T)) (i : ℕ) (b : Binding T) → suc i ≡ length bs → slice_get bs i ≡ Some b → bytes_eq b.name name ≡ true → top name bs ≡ Some i
+  unfolding top
+  top_at_end name [] i b e at same = absurd (omega (arith, e))
+  top_at_end name (c ∷ []) zero b e at same = rw (ap (λ (x : Binding T). bytes_eq x.name name) (same_Some c b at) ∙ same) refl
+  top_at_end name (c ∷ []) (suc i) b e at same = absurd (omega (arith, e))
+  top_at_end name (c ∷ d ∷ ds) zero b e at same = absurd (omega (arith, e))
+  top_at_end name (c ∷ d ∷ ds) (suc i) b e at same = rw (top_at_end name (d ∷ ds) i b (omega (arith, e)) at same) refl
+
   -- either the name has no binding, or its last binding is at the index
   abbrev Tops : List ℕ → List (Binding T) → Type 0
   Tops name bs = ((top name bs ≡ None) × (find name bs ≡ None)) ⊎ ((i : ℕ) × (b : Binding T) × (top name bs ≡ Some i) × (slice_get bs i ≡ Some b) × (find name bs ≡ Some b.value))
@@ -95,6 +104,14 @@ module _ {T : Type 0} where
   find_top name (suc floor) (c ∷ bs) =
       elim (top name bs) as (λ o. pick (c ∷ bs) (suc floor) (or_else (option_map suc o) (cond (bytes_eq c.name name) (Some 0) None)) ≡ pick bs floor o) [ None ↦ elim (bytes_eq c.name name) as (λ t. pick (c ∷ bs) (suc floor) (cond t (Some 0) None) ≡ None) [ true ↦ rw (compare.suc-suc, zero_le floor) refl | false ↦ refl ] | Some i ↦ rw compare.suc-suc refl ]
       ∙ find_top name floor bs
+
+  -- whether the name is visible, by the index of its last binding
+  pub is_seen : (name : List ℕ) (floor : ℕ) (bs : List (Binding T)) → is_some (find name (drop floor bs)) ≡ is_from floor (top name bs)
+  is_seen name floor bs = ap is_some (sym (find_top name floor bs)) ∙ ⊎_elim
+      (λ (p : (top name bs ≡ None) × (find name bs ≡ None)). rw p.0 refl)
+      (λ (p : (i : ℕ) × (b : Binding T) × (top name bs ≡ Some i) × (slice_get bs i ≡ Some b) × (find name bs ≡ Some b.value)).
+          rw (p.2, p.3) (elim (nat_lt p.0 floor) as (λ t. is_some (cond t None (Some p.1.value)) ≡ not t) [ true ↦ refl | false ↦ refl ]))
+      (tops name bs)
 
   -- ---- the entries and the map
 
