@@ -165,10 +165,12 @@ fn op_with<'a, O: Outer>(
     ensures grows { IsExtendedBy ctx.old ctx.new }
 {
     let id = scope.next;
-    let (opening, rest) = match read_opening(alloc, ctx, around.outer, &scope.names, bytes) {
-        Ok(found) => found,
-        Err(e) => return Err(e),
-    };
+    let spares = scope.spares.taken(alloc);
+    let (opening, rest) =
+        match read_opening(alloc, ctx, around.outer, &scope.names, spares, bytes) {
+            Ok(found) => found,
+            Err(e) => return Err(e),
+        };
     scope.next = id + 1;
     let isolated = opening.isolated;
     let (regions, rest) = match regions(alloc, scope, ctx, around, id, isolated, rest, depth) {
