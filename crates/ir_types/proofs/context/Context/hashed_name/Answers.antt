@@ -3,7 +3,7 @@ use Rattle.std.proofs.lemmas.List.{length-map}
 use Rattle.ir_types.specs.Things.{IsExtendedBy}
 use Rattle.ir_types.proofs.Growth.{grows_name}
 use Rattle.ir_types.proofs.Keeping.{kept_with_name, named_things, name_call}
-use Rattle.ir_types.proofs.context.Context.name.Goals as goal
+use Rattle.ir_types.proofs.context.Context.hashed_name.Goals as goal
 use Rattle.ir_types.specs.Limits.{most_things}
 
 pub invariant_of-self-2 : goal.invariant_of-self-2
