@@ -356,26 +356,12 @@ fn after_first(bytes: &[u8], byte: u8) -> Option<&[u8]>
     }
 }
 
-/// Returns the rest of the text after `byte`, if it is the first byte after blanks and comments.
-#[inline(never)]
-fn after_blanks(bytes: &[u8], byte: u8) -> Option<&[u8]>
-    ensures { option_map (λ r. r.now) result ≡ trailing_first byte (skip bytes.now) }
-{
-    after_first(skip(bytes), byte)
-}
-
 /// Returns the rest of the text after `byte`, if it is the first byte after leading blanks and comments.
 #[inline(always)]
 pub fn after_byte(bytes: &[u8], byte: u8) -> Option<&[u8]>
     ensures { option_map (λ r. r.now) result ≡ trailing_first byte (skip bytes.now) }
 {
-    if is_begun(bytes) {
-        return after_first(bytes, byte);
-    }
-    match after_space(bytes) {
-        Some(tail) if is_begun(tail) => after_first(tail, byte),
-        _ => after_blanks(bytes, byte),
-    }
+    after_first(skip(bytes), byte)
 }
 
 /// Returns the next token if it is a bare word, and the rest of the text.
