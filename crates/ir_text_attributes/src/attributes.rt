@@ -18,6 +18,7 @@ use crate::literals::{literal, negative};
 use crate::symbols::symbol;
 use crate::tail::Tail;
 use crate::tails::{tail, typed};
+use ir_text_tokens::lexer;
 use ir_text_tokens::refusal::TextRefusal;
 use ir_text_tokens::strings::string_value;
 use ir_text_tokens::token::{Mark, Token};
@@ -364,6 +365,9 @@ pub fn attr<'a>(
 {
     if depth == 0 {
         return Err(ReadError::Refused(wrong(past_refusal(bytes, opaque), bytes)));
+    }
+    if let Some((word, rest)) = lexer::hash(bytes) {
+        return hash_attr(alloc, ctx, word, bytes, rest, opaque, depth);
     }
     let (found, rest) = token(bytes)?;
     match found {

@@ -2,7 +2,7 @@
 ghost use Rattle.std.specs.Prelude.{◌≡◌, ◌+◌, ◌≤◌, ◌∷◌, ℕ, length, option_map, IfErr, IfSome, IsTrue, Some};
 ghost use Rattle.std.specs.List.{prefix_len};
 ghost use Rattle.ir_text_tokens.specs.Reading.{GivesOrNone};
-ghost use Rattle.ir_text_tokens.specs.Tokens.{bare, trailing_first, begins_other, exponent_len, fraction_len, hex_len, lexeme_of, longer, mark, mark_at, mark_of, name_parts, next, next_mark, number_at, sign_at, sign_len, skip, skip_line, string_parts, suffix_len, symbol_at, token_at, value};
+ghost use Rattle.ir_text_tokens.specs.Tokens.{bare, trailing_first, begins_other, exponent_len, fraction_len, hash, hex_len, lexeme_of, longer, mark, mark_at, mark_of, name_parts, next, next_mark, number_at, sign_at, sign_len, skip, skip_line, string_parts, suffix_len, symbol_at, token_at, value};
 ghost use Rattle.ir_text_tokens.specs.declared.refusal.TextRefusal.{TextRefusal};
 
 use crate::fault::Fault;
@@ -384,6 +384,22 @@ pub fn value(bytes: &[u8]) -> Option<(&[u8], &[u8])>
     ensures { IfSome result (λ x. next bytes.now ≡ Some (value x.0.now, x.1.now)) }
 {
     let [b'%', tail @ ..] = skip(bytes) else {
+        return None;
+    };
+    let len = suffix_len(tail);
+    if len == 0 {
+        return None;
+    }
+    Some(tail.split_at(len))
+}
+
+/// Returns the name of the next token without its `#`, if the token is such a name, and the rest of the text.
+#[inline(always)]
+#[tactic(auto, unfolding(crate::specs::Tokens::next))]
+pub fn hash(bytes: &[u8]) -> Option<(&[u8], &[u8])>
+    ensures { IfSome result (λ x. next bytes.now ≡ Some (hash x.0.now, x.1.now)) }
+{
+    let [b'#', tail @ ..] = skip(bytes) else {
         return None;
     };
     let len = suffix_len(tail);
