@@ -67,7 +67,7 @@ fn unescaped_name<'a>(alloc: Global, raw: &'a [u8]) -> Result<CowSlice<'a, u8>, 
     }
 }
 
-/// Parses the name of an operation, which isn't empty.
+/// Parses the name of an operation, which isn't empty. A name of word bytes is lexed first, since it usually comes.
 #[tactic(auto, unfolding(crate::specs::PrecedingReading::op_name_at))]
 fn op_name<'a>(
     alloc: Global,
@@ -76,6 +76,11 @@ fn op_name<'a>(
 ) -> Result<(CowSlice<'a, u8>, &'a [u8]), ReadError>
     ensures { Returns (λ x. (cow_slice_items x.0, x.1.now)) result (op_name_at bytes.now) }
 {
+    if let Some((name, rest)) = lexer::plain_string(bytes) {
+        if !name.is_empty() {
+            return Ok((CowSlice::Borrowed(name), rest));
+        }
+    }
     match token(bytes) {
         Ok((Token::String(raw), rest)) => {
             let name = unescaped_name(alloc, raw)?;

@@ -2,7 +2,8 @@
 ghost use Rattle.std.specs.Prelude.{◌≡◌, ◌≢◌, ◌∷◌, ◌<◌, ◌≤◌, ◌+◌, suc, false, Some, None, length, drop, option_map, IfOk, IfSome};
 ghost use Rattle.ir_text_tokens.specs.Reading.{GivesOrNone};
 ghost use Rattle.ir_text_tokens.specs.Strings.{closing, closing_escape, escape_bytes, hex_value, is_short, option_list, short_value, string_bytes};
-ghost use Rattle.ir_text_tokens.specs.Bytes.{is_line_end};
+ghost use Rattle.ir_text_tokens.specs.Bytes.{is_line_end, is_word};
+ghost use Rattle.std.specs.List.{prefix_len};
 
 use crate::runs::{Class, is_hex, is_line_end, run_len};
 use std::alloc::{AllocError, Global};
@@ -72,7 +73,9 @@ fn part_len(byte: u8, bytes: &[u8]) -> Option<usize>
 /// Returns the number of bytes before the quote that ends the string, if all of them can be in a word. Most names of
 /// operations are such strings.
 #[tactic(auto, using(crate::proofs::Quoted::closing_word))]
-fn word_closing(bytes: &[u8]) -> Option<usize>
+#[inline(always)]
+pub(crate) fn word_closing(bytes: &[u8]) -> Option<usize>
+    ensures len { IfSome result (λ n. n ≡ prefix_len is_word bytes.now) }
     ensures found { IfSome result (λ n. closing bytes.now ≡ Some n) }
     ensures within { IfSome result (λ n. n < length bytes.now) }
 {
