@@ -3,6 +3,7 @@ ghost use Rattle.std.specs.Prelude.{◌≡◌, ◌+◌, ◌++◌, ◌<◌, ◌�
 ghost use Rattle.std.specs.Vec.{vec_capacity, vec_len};
 ghost use Rattle.std.specs.Fmt.{decimal, signed_decimal};
 
+use crate::separators::reserve;
 use ir_text_tokens::print;
 use ir_types::readings::Reading;
 use itoa::Buffer;
@@ -62,7 +63,7 @@ pub(crate) fn write_number(out: &mut Vec<u8>, number: u64) -> Result<(), AllocEr
     ensures { OnOk result (out.new.items ≡ out.old.items ++ decimal number) }
 {
     if number < 10000 {
-        out.reserve(4)?;
+        reserve(out, 4)?;
         write_thousands(out, number);
         return Ok(());
     }
