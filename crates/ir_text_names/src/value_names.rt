@@ -101,6 +101,7 @@ fn written_count(bytes: &[u8], before: u32) -> Result<(u32, &[u8]), ReadError>
 
 /// Parses the count of the name that begins at `start`, after names of `before` results. A name without a count has
 /// one result.
+#[inline(always)]
 #[tactic(auto, unfolding(crate::specs::NameReading::count_at))]
 fn count<'a>(start: &[u8], bytes: &'a [u8], before: u32) -> Result<(u32, &'a [u8]), ReadError>
     requires { before ≤ most_items }
@@ -116,6 +117,7 @@ fn count<'a>(start: &[u8], bytes: &'a [u8], before: u32) -> Result<(u32, &'a [u8
 }
 
 /// Parses a name with its count, after names of `before` results.
+#[inline(always)]
 #[tactic(auto, unfolding(crate::specs::NameReading::result_at))]
 fn counted_name(bytes: &[u8], before: u32) -> Result<(ResultName<'_>, &[u8]), ReadError>
     requires { before ≤ most_items }
@@ -140,6 +142,7 @@ fn past_names(bytes: &[u8]) -> Fault {
 
 /// Parses names up to an equal sign, for at most as many results as an operation may have, and appends them to
 /// `items`.
+#[inline(always)]
 #[tactic(auto, unfolding(crate::specs::NameReading::names_at))]
 fn push_names<'a>(items: &mut Vec<ResultName<'a>>, bytes: &'a [u8]) -> Result<&'a [u8], ReadError>
     requires { items.old.items ≡ [] }
@@ -165,6 +168,7 @@ fn push_names<'a>(items: &mut Vec<ResultName<'a>>, bytes: &'a [u8]) -> Result<&'
 
 /// Parses names up to an equal sign, for at most as many results as an operation may have, and returns them in the
 /// list `spare`.
+#[inline(always)]
 fn names<'a>(
     spare: Vec<ResultName<'a>>,
     bytes: &'a [u8],
@@ -200,6 +204,7 @@ fn token_results<'a>(
 
 /// Parses the names of the results if a name comes first, and returns them in the list `spare`. Only the sigil is
 /// compared to decide this.
+#[inline(always)]
 #[tactic(auto, using(crate::proofs::Signs::named_first), unfolding(crate::specs::NameReading::results_at))]
 pub fn results<'a>(
     spare: Vec<ResultName<'a>>,
