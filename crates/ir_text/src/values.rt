@@ -71,16 +71,18 @@ fn is_source(source: &Source, value: &Value) -> bool
 /// Returns the name and the type of a value, if they are at the index at which they are likely to be. No hash is
 /// computed.
 #[inline(always)]
-#[tactic(auto, using(crate::proofs::Entries::naming_found))]
 fn likely_naming(named: &IndexMap<Source, NamedValue>, value: &Value) -> Option<NamedValue>
     ensures { IfSome result (λ n. (c : ContextModel) → Some (naming_in c n) ≡ naming_of (named_in c named.now.entries) value.now) }
 {
     let index = likely_index(named, value)?;
-    let (source, naming) = named.get_index(index)?;
-    if is_source(source, value) {
-        Some(*naming)
-    } else {
-        None
+    match named.get_index(index) {
+        Some((source, naming)) => {
+            if is_source(source, value) {
+                return Some(*naming);
+            }
+            None
+        }
+        None => None,
     }
 }
 

@@ -8,9 +8,9 @@ pub mod Precedings
 pub mod Wholes
 pub mod Marks
 pub mod Blanks
+pub mod ByteRuns
 pub mod Quoted
 pub mod Reasons
-pub mod Runs
 pub mod Simple
 pub mod Steps
 pub mod KeptBodies

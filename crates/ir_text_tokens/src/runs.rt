@@ -78,7 +78,7 @@ fn short_run_len(bytes: &[u8], class: Class) -> usize
 /// Returns the length of the longest prefix whose bytes are all of `class`. Compares the length of the rest once for
 /// four bytes.
 #[inline(always)]
-#[tactic(auto, using(crate::proofs::Runs::stops_at_1, crate::proofs::Runs::stops_at_2, crate::proofs::Runs::stops_at_3, crate::proofs::Runs::stops_at_4, crate::proofs::Runs::goes_on))]
+#[tactic(auto, using(crate::proofs::ByteRuns::stops_at_1, crate::proofs::ByteRuns::stops_at_2, crate::proofs::ByteRuns::stops_at_3, crate::proofs::ByteRuns::stops_at_4, crate::proofs::ByteRuns::goes_on))]
 pub(crate) fn run_len(bytes: &[u8], class: Class) -> usize
     ensures len { result ≡ prefix_len (class_test class) bytes.now }
     ensures within { result ≤ length bytes.now }
