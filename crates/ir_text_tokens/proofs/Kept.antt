@@ -1,5 +1,5 @@
 -- Adding and removing bindings keeps the invariant.
-use Rattle.std.proofs.Common.{◌≡◌, refl, sym, ap, ◌∙◌, subst, ℕ, zero, suc, ◌<◌, ◌≤◌, Bool, true, false, cond, List, [], ◌∷◌, ◌++◌, length, take, drop, Option, Some, None, ◌⊎◌, inl, inr, ⊎_elim, arith}
+use Rattle.std.proofs.Common.{◌≡◌, refl, sym, ap, ◌∙◌, subst, ℕ, zero, suc, ◌-◌, ◌<◌, ◌≤◌, Bool, true, false, cond, List, [], ◌∷◌, ◌++◌, length, get_or, take, drop, Option, Some, None, ◌⊎◌, inl, inr, ⊎_elim, arith}
 use Prim.Native.Nat.compare
 use Rattle.std.specs.Prelude.{nat_le, nat_lt, not, is_some, option_map, slice_get}
 use Rattle.std.specs.Str.{bytes_eq}
@@ -13,7 +13,7 @@ use Rattle.ir_text_tokens.specs.Inside.{visible_at, visible_onto, Standing}
 use Rattle.ir_text_tokens.specs.declared.names.Entry.{Entry}
 use Rattle.ir_text_tokens.specs.declared.names.ScopeStart.{ScopeStart}
 use Rattle.ir_types.proofs.Truths.{drop_all, zero_le}
-use Rattle.std.proofs.lemmas.Option.{slice_get_within, same_Some}
+use Rattle.std.proofs.lemmas.Option.{slice_get_within, slice_get_read, slice_get-map, same_Some}
 use Rattle.ir_types.proofs.Building.{place_stays, last_place, push_cases}
 
 take_all : {A : Type 0} (xs : List A) → take (length xs) xs ≡ xs
@@ -120,6 +120,13 @@ module _ {T : Type 0} where
 
   take_views : (i : ℕ) (es : List (Entry T)) (e : Entry T) → i ≤ length es → take i (views (es ++ e ∷ [])) ≡ take i (views es)
   take_views i es e le = rw (views_push es e) (take-append-le i (views es) (binding_view e ∷ []) (omega (arith, length-map es binding_view)))
+
+  -- the last of all entries is the last of its name
+  pub last_named : (name : List ℕ) (es : List (Entry T)) (e : Entry T) → 1 ≤ length es → e ≡ get_or es (length es - 1) e → bytes_eq e.name.now name ≡ true → Some (length es - 1) ≡ top name (views es)
+  last_named name es e le at same =
+      let within : slice_get es (length es - 1) ≡ Some e = slice_get_read es (length es) (length es - 1) e refl (omega (arith, le)) at in
+      let viewed : slice_get (views es) (length es - 1) ≡ Some (binding_view e) = slice_get-map binding_view es (length es - 1) ∙ ap (option_map binding_view) within in
+      sym (top_at_end name (views es) (length es - 1) (binding_view e) (omega (arith, le, length-map es binding_view)) viewed same)
 
   linked_push : (es : List (Entry T)) (e : Entry T) → Linked es → e.hidden ≡ top e.name.now (views es) → Linked (es ++ e ∷ [])
   linked_push es e h same i f at = ⊎_elim

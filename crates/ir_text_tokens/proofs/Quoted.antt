@@ -47,9 +47,12 @@ unfolding string_bytes
 not_escape_first c [] h rest = rw (no_escape c h) refl
 not_escape_first c (d ∷ ds) h rest = rw (no_escape c h, rest) refl
 
-pub word_string : (bytes : List ℕ) → string_bytes (take (prefix_len is_word bytes) bytes) ≡ take (prefix_len is_word bytes) bytes
+nothing : string_bytes [] ≡ []
 unfolding string_bytes
-word_string [] = refl
+nothing = refl
+
+pub word_string : (bytes : List ℕ) → string_bytes (take (prefix_len is_word bytes) bytes) ≡ take (prefix_len is_word bytes) bytes
+word_string [] = nothing
 word_string (c ∷ cs) = by_byte (word_string cs) (is_word c) refl
   where
     by_byte : string_bytes (take (prefix_len is_word cs) cs) ≡ take (prefix_len is_word cs) cs → (b : Bool) → is_word c ≡ b → string_bytes (take (prefix_len is_word (c ∷ cs)) (c ∷ cs)) ≡ take (prefix_len is_word (c ∷ cs)) (c ∷ cs)
@@ -59,5 +62,3 @@ word_string (c ∷ cs) = by_byte (word_string cs) (is_word c) refl
     by_byte go false h =
         let l : take (prefix_len is_word (c ∷ cs)) (c ∷ cs) ≡ [] = ap (λ n. take n (c ∷ cs)) (rw h refl) in
         ap string_bytes l ∙ nothing ∙ sym l
-    nothing : string_bytes [] ≡ []
-    nothing = refl
