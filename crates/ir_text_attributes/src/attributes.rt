@@ -115,6 +115,7 @@ fn type_attr<'a>(
 }
 
 /// Parses the overflow flags of an integer operation after their name (`arith` Dialect, "IntegerOverflowFlagsAttr").
+#[inline(always)]
 #[tactic(auto, using(ir_types::proofs::Growth::grows_refl, ir_types::proofs::Growth::grows_trans), unfolding(crate::specs::AttrReading::overflow_at))]
 fn overflow<'a>(
     alloc: Global,
@@ -264,6 +265,7 @@ fn mark_attr<'a>(
 }
 
 /// Parses an attribute that begins with `#` and a name: overflow flags, or a dialect's attribute.
+#[inline(always)]
 #[tactic(auto, using(ir_types::proofs::Growth::grows_refl, ir_types::proofs::Growth::grows_trans))]
 fn hash_attr<'a>(
     alloc: Global,

@@ -97,6 +97,7 @@ fn some_flags(alloc: Global, bytes: &[u8]) -> Result<(Vec<Flag>, &[u8]), ReadErr
 }
 
 /// Parses the closing mark after `none`, which means no flags.
+#[inline(always)]
 #[tactic(auto, unfolding(crate::specs::AttrReading::no_flags_at))]
 fn no_flags(alloc: Global, bytes: &[u8]) -> Result<(Vec<Flag>, &[u8]), ReadError>
     ensures { (c : ContextModel) → Returns (λ x. (x.0.items, (x.1.now, c))) result (no_flags_at (bytes.now, c)) }
@@ -107,6 +108,7 @@ fn no_flags(alloc: Global, bytes: &[u8]) -> Result<(Vec<Flag>, &[u8]), ReadError
 
 /// Parses `none` or flags that begin with a word, up to the closing mark. `bytes` is the text from the word on, and
 /// `rest` the text after it.
+#[inline(always)]
 #[tactic(auto, unfolding(crate::specs::AttrReading::flags_at))]
 fn word_flags<'a>(
     alloc: Global,

@@ -9,6 +9,7 @@ use ir_text_tokens::refusal::TextRefusal;
 use ir_text_types::error::ReadError;
 
 /// Binds a new name. `left` is the number of bytes left at the name. Refuses a bound name with `Redefined`.
+#[inline(always)]
 #[tactic(auto, unfolding(crate::specs::BlockReading::bind))]
 pub fn bind<'a>(
     names: &mut ScopedNames<'a, ValueGroup>,
