@@ -166,11 +166,17 @@ fn op_with<'a, O: Outer>(
 {
     let id = scope.next;
     let spares = scope.spares.taken(alloc);
-    let (opening, rest) =
-        match read_opening(alloc, ctx, around.outer, &scope.names, spares, bytes) {
-            Ok(found) => found,
-            Err(e) => return Err(e),
-        };
+    let (opening, rest) = match read_opening(
+        alloc,
+        ctx,
+        around.outer,
+        &scope.names,
+        spares,
+        bytes,
+    ) {
+        Ok(found) => found,
+        Err(e) => return Err(e),
+    };
     scope.next = id + 1;
     let isolated = opening.isolated;
     let (regions, rest) = match regions(alloc, scope, ctx, around, id, isolated, rest, depth) {

@@ -163,11 +163,7 @@ fn after_no_outputs(bytes: &[u8]) -> Option<&[u8]>
 /// Returns the rest of the text after the arrow of a function type, if the text begins with a function type whose inputs
 /// have the operands' types, and these are scalar types of the context.
 #[tactic(auto, using(crate::proofs::ScalarTypes::are_inputs))]
-fn after_arrow<'a>(
-    ctx: &Context,
-    operands: &[TypedValue],
-    bytes: &'a [u8],
-) -> Option<&'a [u8]>
+fn after_arrow<'a>(ctx: &Context, operands: &[TypedValue], bytes: &'a [u8]) -> Option<&'a [u8]>
     ensures { IfSome result (λ r. HasInputs ctx.now bytes.now (bound_types operands.now) r.now) }
 {
     let Some(rest) = after(bytes, Mark::OpenRound) else {

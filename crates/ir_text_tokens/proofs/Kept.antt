@@ -110,7 +110,7 @@ module _ {T : Type 0} where
   is_seen name floor bs = ap is_some (sym (find_top name floor bs)) ∙ ⊎_elim
       (λ (p : (top name bs ≡ None) × (find name bs ≡ None)). rw p.0 refl)
       (λ (p : (i : ℕ) × (b : Binding T) × (top name bs ≡ Some i) × (slice_get bs i ≡ Some b) × (find name bs ≡ Some b.value)).
-          rw (p.2, p.3) (elim (nat_lt p.0 floor) as (λ t. is_some (cond t None (Some p.1.value)) ≡ not t) [ true ↦ refl | false ↦ refl ]))
+      rw (p.2, p.3) (elim (nat_lt p.0 floor) as (λ t. is_some (cond t None (Some p.1.value)) ≡ not t) [ true ↦ refl | false ↦ refl ]))
       (tops name bs)
 
   -- ---- the entries and the map

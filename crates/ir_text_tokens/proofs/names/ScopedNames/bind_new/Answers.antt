@@ -15,10 +15,11 @@ returns-then-is_visible-clause-visible g c = λ _.
 
 pub returns-clause-bound : goal.returns-clause-bound
 returns-clause-bound g c = λ _. (
-    ap (λ (s : Scopes g.row.T.Denot). is_some (find c.args.name.now s.here)) (sym c.self.view_is)
-    ∙ is_seen c.args.name.now c.self.inside.first (views c.self.inside.entries.items)
-    ∙ ap (is_from c.self.inside.first) (sym c.in_ok-shadowed.ensures.shadowed)
-    ∙ sym c.is_visible.ensures
-    ∙ c.if-is_visible.false,
-    adds c.self.inside.entries.items c.push_entry.new.entries.items c.self.inside.floors.items (record { name = c.args.name.now; value = c.args.value }) c.self.inside.first c.in_ok-shadowed.ensures.ok c.self.invariant.floor c.self.invariant.standing
-    ∙ ap (bound c.args.name.now c.args.value) c.self.view_is)
+  ap (λ (s : Scopes g.row.T.Denot). is_some (find c.args.name.now s.here)) (sym c.self.view_is)
+      ∙ is_seen c.args.name.now c.self.inside.first (views c.self.inside.entries.items)
+      ∙ ap (is_from c.self.inside.first) (sym c.in_ok-shadowed.ensures.shadowed)
+      ∙ sym c.is_visible.ensures
+      ∙ c.if-is_visible.false,
+  adds c.self.inside.entries.items c.push_entry.new.entries.items c.self.inside.floors.items (record { name = c.args.name.now; value = c.args.value }) c.self.inside.first c.in_ok-shadowed.ensures.ok c.self.invariant.floor c.self.invariant.standing
+      ∙ ap (bound c.args.name.now c.args.value) c.self.view_is,
+)
