@@ -8,6 +8,12 @@ use Rattle.patterns_base.specs.declared.edit.Edit.TheVariants as edit
 use Rattle.patterns_lowering.specs.Plans.{lowering_makes}
 use Rattle.patterns_plans.specs.reads.declared.plan.RewritePlan.{RewritePlan}
 use Rattle.patterns_plans.specs.reads.declared.plan.RewritePlan.TheVariants as plan
+use Rattle.patterns_plans.specs.reads.declared.plan.LargePlan.{LargePlan}
+use Rattle.patterns_plans.specs.reads.declared.plan.LargePlan.TheVariants as large
+use Rattle.patterns.specs.Numbered.{giving}
+use Rattle.patterns.specs.declared.insertion_point.InsertionPoint.{InsertionPoint}
+use Rattle.patterns.specs.declared.make.PlanEdits.{PlanEdits}
+use Rattle.patterns.specs.declared.make.PlanEdits.TheVariants as listed
 use Rattle.patterns.specs.declared.plan.RulePlan.{RulePlan}
 use Rattle.patterns.specs.declared.plan.RulePlan.TheVariants as made
 
@@ -15,6 +21,12 @@ use Rattle.patterns.specs.declared.plan.RulePlan.TheVariants as made
 pub record EditsDenote (c : ContextModel) (es : List Coded) (edits : List Edit) : Type 0 where
   pub meaning : edits_meaning c es ≡ edits
   pub fits_in : AllFit c es
+
+-- the edits of a plan at a site, as the code lists them
+abbrev pub listed_edits : InsertionPoint → PlanEdits → List Coded
+listed_edits s listed.Erase = edit.Erase s.op ∷ []
+listed_edits s (listed.Give v) = giving s v
+listed_edits s (listed.List es) = es.items
 
 -- the number of operations that an edit makes, and that some edits make
 abbrev pub edit_makes : Coded → ℕ
@@ -29,16 +41,21 @@ abbrev pub all_make : List Coded → ℕ
 all_make [] = 0
 all_make (e ∷ es) = edit_makes e + all_make es
 
--- the number of operations that a plan makes
+-- the number of operations that a large plan makes, and that any plan makes
+abbrev pub large_makes : LargePlan → ℕ
+large_makes (large.CombinedConstant name ty v bits) = 2
+large_makes (large.SwapComparison p a b) = 0
+large_makes (large.CompareAndSelect p ty a b) = 2
+large_makes (large.Difference ty a b ones) = 5
+large_makes (large.Remainder division ty a b) = 3
+
 abbrev pub plan_makes : RewritePlan → ℕ
+plan_makes plan.Erase = 0
+plan_makes (plan.Give v) = 0
 plan_makes (plan.Edits es) = all_make es.items
 plan_makes (plan.Constant ty bits) = 1
 plan_makes (plan.Cast name ty v) = 1
-plan_makes (plan.CombinedConstant name ty v bits) = 2
-plan_makes (plan.SwapComparison p a b) = 0
-plan_makes (plan.CompareAndSelect p ty a b) = 2
-plan_makes (plan.Difference ty a b ones) = 5
-plan_makes (plan.Remainder division ty a b) = 3
+plan_makes (plan.Large p) = large_makes p.value
 
 -- and that the plan of a rule makes
 abbrev pub made_makes : RulePlan → ℕ

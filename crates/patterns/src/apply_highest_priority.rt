@@ -63,7 +63,7 @@ fn try_likely(
         return Ok(None);
     }
     match rule {
-        Rule::EraseDead => made_dead(alloc, world, point, op, node),
+        Rule::EraseDead => Ok(made_dead(world, point, op, node)),
         _ => made_at(alloc, world, rule, point, op, node),
     }
 }

@@ -1,21 +1,65 @@
 //! Carries out the plan of a rule.
+ghost use Rattle.std.specs.Prelude.{◌≡◌, OnOk, OnErr, IfErr};
 ghost use Rattle.ir_event.specs.Modules.{module_meaning};
 ghost use Rattle.patterns_lowering.specs.RewriterCalls.{JournalAfter};
 ghost use Rattle.patterns_lowering.specs.Held.{module_held};
+ghost use Rattle.patterns_lowering.specs.Contents.{all_edited};
+ghost use Rattle.patterns_lowering.specs.Lists.{AllFit, Free, IsWhy, edits_meaning};
+ghost use Rattle.patterns_lowering.specs.Runs.{Along};
+ghost use Rattle.patterns.specs.Making.{listed_edits};
 ghost use Rattle.patterns.specs.Applied.{Applied};
 ghost use Rattle.patterns.specs.Planned.{IsFree, MadeIsOf, WereCarried, planned_edits};
 
 use crate::count::made_makes;
 use crate::insertion_point::InsertionPoint;
 use crate::limits::limit_reason;
-use crate::make::edits_for;
+use crate::make::{PlanEdits, edits_for};
 use crate::plan::PlacedPlan;
 use ir_event::analysis::Analysis;
+use ir_event::trees::value::Value;
 use ir_event::types::ids::OpId;
 use ir_event::types::refusal::Refusal;
 use patterns_lowering::Bench;
 use patterns_lowering::apply_unchecked::apply_unchecked;
+use patterns_lowering::edit::Edit;
 use std::alloc::Global;
+
+/// Carries out the edits of a plan at a site. None of them has a reason for a refusal. If memory runs out, the module
+/// and its marks stay the same.
+///
+/// Errors: `Memory`.
+fn apply_listed<L: Analysis>(
+    bench: &mut Bench<L>,
+    site: &InsertionPoint,
+    edits: &PlanEdits,
+) -> Result<(), Refusal>
+    requires fits_in { AllFit bench.old.transaction.ctx (listed_edits site.now edits.now) }
+    requires free { Free (edits_meaning bench.old.transaction.ctx (listed_edits site.now edits.now))
+        (module_held bench.old.transaction) }
+    ensures ok { OnOk result (module_held bench.new.transaction
+        ≡ all_edited (edits_meaning bench.old.transaction.ctx (listed_edits site.now edits.now))
+        (module_held bench.old.transaction)) }
+    ensures err { OnErr result (module_held bench.new.transaction ≡ module_held bench.old.transaction) }
+    ensures refused { IfErr result (λ e. IsWhy (edits_meaning bench.old.transaction.ctx (listed_edits site.now edits.now))
+        (module_held bench.old.transaction) e) }
+    ensures along { Along L.meaning bench.old bench.new }
+    ensures journal { JournalAfter L.meaning result bench.old bench.new }
+{
+    match edits {
+        PlanEdits::Erase => apply_unchecked(bench, &[Edit::Erase { op: site.op }]),
+        PlanEdits::Give(value) => apply_unchecked(
+            bench,
+            &[
+                Edit::Replace {
+                    old: Value::Result(site.op, 0),
+                    new: *value,
+                },
+                Edit::Erase { op: site.op },
+            ],
+        ),
+        PlanEdits::List(edits) => apply_unchecked(bench, edits),
+    }
+}
 
 /// Carries out the plan of a rule at `op`. If it is refused, the module, its marks and the journal stay the same. No
 /// edit of the plan is refused, except if memory runs out.
@@ -50,7 +94,7 @@ pub(crate) fn apply_plan<L: Analysis>(
         Err(refusal) => return Err(refusal),
     };
     bench.is_wellformed();
-    match apply_unchecked(bench, &edits) {
+    match apply_listed(bench, &site, &edits) {
         Ok(()) => Ok(()),
         Err(refusal) => Err(refusal),
     }
