@@ -33,6 +33,7 @@ use ir_event::types::refusal::Refusal;
 use patterns::rules_by_name::RulesByName;
 use patterns_base::rule::Rule;
 use std::alloc::Global;
+use std::mem;
 
 /// Adds to the worklist each operation of a list that is in the module.
 fn add_all<R: GreedyRewriter>(bench: &R, work: &mut Worklist, ops: &[OpId]) -> Result<(), Refusal>
@@ -75,18 +76,21 @@ fn renew<R: GreedyRewriter>(
     ensures refused { IfErr result (λ e. e ≡ NoMemory) }
 {
     drop_erased(bench, work, site);
-    let listed = match bench.touched(alloc, from, work.passed) {
-        Ok(listed) => listed,
+    let mut near = mem::replace(&mut work.near, Vec::new(alloc));
+    match bench.touched(from, work.passed, &mut near) {
+        Ok(()) => {}
         Err(refusal) => return Err(refusal),
-    };
+    }
     match push(bench, work, site.op) {
         Ok(()) => {}
         Err(refusal) => return Err(refusal),
     }
-    match add_all(bench, work, &listed) {
-        Ok(()) => Ok(()),
-        Err(refusal) => Err(refusal),
+    match add_all(bench, work, &near) {
+        Ok(()) => {}
+        Err(refusal) => return Err(refusal),
     }
+    work.near = near;
+    Ok(())
 }
 
 /// Returns an operation that precedes `op`, which was taken from the worklist, or `None` if `op` is the root. `passed` is
@@ -260,6 +264,7 @@ fn rewritten<R: GreedyRewriter, T: Tracer>(
     let mut work = Worklist {
         passed: bench.root(),
         again: Vec::new(alloc),
+        near: Vec::new(alloc),
     };
     rewrites(alloc, bench, pattern_set, &mut work, examined, limit, trace)
 }

@@ -21,6 +21,8 @@ use std::alloc::Global;
 pub(crate) struct Worklist {
     pub(crate) passed: OpId,
     pub(crate) again: Vec<OpId>,
+    /// The operations near the last rewrite. Only its capacity is used again.
+    pub(crate) near: Vec<OpId>,
 }
 
 /// An operation that was taken from the worklist, for a rewrite there.
