@@ -95,10 +95,12 @@ pub fn touched_by(
 {
     if any_puts_last(events) {
         match touched_all(world) {
-            Ok(all) => *ops = all,
+            Ok(all) => {
+                *ops = all;
+                return Ok(());
+            }
             Err(refusal) => return Err(refusal),
         }
-        return Ok(());
     }
     match near(world, events, passed, ops) {
         Ok(()) => Ok(()),

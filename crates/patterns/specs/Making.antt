@@ -10,7 +10,7 @@ use Rattle.patterns_plans.specs.reads.declared.plan.RewritePlan.{RewritePlan}
 use Rattle.patterns_plans.specs.reads.declared.plan.RewritePlan.TheVariants as plan
 use Rattle.patterns_plans.specs.reads.declared.plan.LargePlan.{LargePlan}
 use Rattle.patterns_plans.specs.reads.declared.plan.LargePlan.TheVariants as large
-use Rattle.patterns.specs.Numbered.{giving}
+use Rattle.patterns.specs.Numbered.{giving, making}
 use Rattle.patterns.specs.declared.insertion_point.InsertionPoint.{InsertionPoint}
 use Rattle.patterns.specs.declared.make.PlanEdits.{PlanEdits}
 use Rattle.patterns.specs.declared.make.PlanEdits.TheVariants as listed
@@ -26,6 +26,7 @@ pub record EditsDenote (c : ContextModel) (es : List Coded) (edits : List Edit) 
 abbrev pub listed_edits : InsertionPoint → PlanEdits → List Coded
 listed_edits s listed.Erase = edit.Erase s.op ∷ []
 listed_edits s (listed.Give v) = giving s v
+listed_edits s (listed.Make o) = making s o
 listed_edits s (listed.List es) = es.items
 
 -- the number of operations that an edit makes, and that some edits make

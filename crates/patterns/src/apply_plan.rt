@@ -31,33 +31,40 @@ use std::alloc::Global;
 fn apply_listed<L: Analysis>(
     bench: &mut Bench<L>,
     site: &InsertionPoint,
-    edits: &PlanEdits,
+    edits: PlanEdits,
 ) -> Result<(), Refusal>
-    requires fits_in { AllFit bench.old.transaction.ctx (listed_edits site.now edits.now) }
-    requires free { Free (edits_meaning bench.old.transaction.ctx (listed_edits site.now edits.now))
+    requires fits_in { AllFit bench.old.transaction.ctx (listed_edits site.now edits) }
+    requires free { Free (edits_meaning bench.old.transaction.ctx (listed_edits site.now edits))
         (module_held bench.old.transaction) }
     ensures ok { OnOk result (module_held bench.new.transaction
-        ≡ all_edited (edits_meaning bench.old.transaction.ctx (listed_edits site.now edits.now))
+        ≡ all_edited (edits_meaning bench.old.transaction.ctx (listed_edits site.now edits))
         (module_held bench.old.transaction)) }
     ensures err { OnErr result (module_held bench.new.transaction ≡ module_held bench.old.transaction) }
-    ensures refused { IfErr result (λ e. IsWhy (edits_meaning bench.old.transaction.ctx (listed_edits site.now edits.now))
+    ensures refused { IfErr result (λ e. IsWhy (edits_meaning bench.old.transaction.ctx (listed_edits site.now edits))
         (module_held bench.old.transaction) e) }
     ensures along { Along L.meaning bench.old bench.new }
     ensures journal { JournalAfter L.meaning result bench.old bench.new }
 {
+    let op = site.op;
+    let old = Value::Result(op, 0);
     match edits {
-        PlanEdits::Erase => apply_unchecked(bench, &[Edit::Erase { op: site.op }]),
-        PlanEdits::Give(value) => apply_unchecked(
-            bench,
-            &[
-                Edit::Replace {
-                    old: Value::Result(site.op, 0),
-                    new: *value,
-                },
-                Edit::Erase { op: site.op },
-            ],
-        ),
-        PlanEdits::List(edits) => apply_unchecked(bench, edits),
+        PlanEdits::Erase => apply_unchecked(bench, &[Edit::Erase { op }]),
+        PlanEdits::Give(new) => {
+            apply_unchecked(bench, &[Edit::Replace { old, new }, Edit::Erase { op }])
+        }
+        PlanEdits::Make(header) => {
+            let place = site.point;
+            let new = Value::Result(site.next, 0);
+            apply_unchecked(
+                bench,
+                &[
+                    Edit::Make { place, op: header },
+                    Edit::Replace { old, new },
+                    Edit::Erase { op },
+                ],
+            )
+        }
+        PlanEdits::List(edits) => apply_unchecked(bench, &edits),
     }
 }
 
@@ -94,7 +101,7 @@ pub(crate) fn apply_plan<L: Analysis>(
         Err(refusal) => return Err(refusal),
     };
     bench.is_wellformed();
-    match apply_listed(bench, &site, &edits) {
+    match apply_listed(bench, &site, edits) {
         Ok(()) => Ok(()),
         Err(refusal) => Err(refusal),
     }

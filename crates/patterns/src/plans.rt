@@ -9,14 +9,16 @@ ghost use Rattle.patterns_plans.specs.reads.Plans.{choosing, combined, dividing_
 ghost use Rattle.patterns_lowering.specs.Interning.{Added, IsCapacityRefusal};
 ghost use Rattle.patterns.specs.Interned.{DifferenceAttrs};
 ghost use Rattle.patterns.specs.Making.{EditsDenote};
+ghost use Rattle.patterns.specs.Numbered.{making};
 
 use crate::edits::{
-    cast_edits, chosen_edits, combined_edits, constant_edits, difference_edits, mirrored_edits,
-    remainder_edits,
+    chosen_edits, combined_edits, difference_edits, mirrored_edits, remainder_edits,
 };
 use crate::insertion_point::InsertionPoint;
 use crate::interned::{flags_attr, flags_for, integer_type, predicate_attr, value_attr};
+use crate::operations::{new_cast, new_constant};
 use ir_event::analysis::Analysis;
+use ir_event::trees::tree::TreeOp;
 use ir_event::trees::value::Value;
 use ir_event::types::ids::{AttrId, NameId, TypeId};
 use ir_event::types::refusal::Refusal;
@@ -24,17 +26,16 @@ use patterns_lowering::Bench;
 use patterns_lowering::edit::Edit;
 use std::alloc::Global;
 
-/// Returns the edits that make a constant.
+/// Returns the constant that replaces the result of the site's operation.
 pub(crate) fn constant<L: Analysis>(
     alloc: Global,
     bench: &mut Bench<L>,
     site: &InsertionPoint,
     ty: TypeId,
     bits: u128,
-) -> Result<Vec<Edit>, Refusal>
+) -> Result<TreeOp, Refusal>
     requires of { IsType bench.old.transaction.ctx ty }
-    requires headroom { site.now.next + 1 ≤ most_next }
-    ensures stands { IfOk result (λ es. EditsDenote bench.new.transaction.ctx es.items
+    ensures stands { IfOk result (λ o. EditsDenote bench.new.transaction.ctx (making site.now o)
         (give_constant site.now.point site.now.next site.now.op (type_term bench.old.transaction.ctx ty) bits)) }
     ensures refused { IfErr result (λ e. IsCapacityRefusal bench.new.transaction.ctx e) }
     ensures added { Added L.meaning bench.old bench.new }
@@ -44,13 +45,13 @@ pub(crate) fn constant<L: Analysis>(
         Err(refusal) => return Err(refusal),
     };
     bench.is_wellformed();
-    match constant_edits(alloc, site, ty, value) {
-        Ok(edits) => Ok(edits),
+    match new_constant(alloc, ty, value) {
+        Ok(op) => Ok(op),
         Err(_) => Err(Refusal::Memory),
     }
 }
 
-/// Returns the edits that make an operation with one operand.
+/// Returns the operation with one operand that replaces the result of the site's operation.
 pub(crate) fn recast<L: Analysis>(
     alloc: Global,
     bench: &mut Bench<L>,
@@ -58,19 +59,18 @@ pub(crate) fn recast<L: Analysis>(
     name: NameId,
     ty: TypeId,
     value: &Value,
-) -> Result<Vec<Edit>, Refusal>
+) -> Result<TreeOp, Refusal>
     requires name { IsName bench.old.transaction.ctx name }
     requires ty { IsType bench.old.transaction.ctx ty }
-    requires headroom { site.now.next + 1 ≤ most_next }
-    ensures stands { IfOk result (λ es. EditsDenote bench.new.transaction.ctx es.items
+    ensures stands { IfOk result (λ o. EditsDenote bench.new.transaction.ctx (making site.now o)
         (give_new site.now.point site.now.next site.now.op
         (cast (name_term bench.old.transaction.ctx name) (type_term bench.old.transaction.ctx ty) value.now))) }
     ensures refused { IfErr result (λ e. IsCapacityRefusal bench.new.transaction.ctx e) }
     ensures added { Added L.meaning bench.old bench.new }
 {
     bench.is_wellformed();
-    match cast_edits(alloc, site, name, ty, value) {
-        Ok(edits) => Ok(edits),
+    match new_cast(alloc, name, ty, value) {
+        Ok(op) => Ok(op),
         Err(_) => Err(Refusal::Memory),
     }
 }
