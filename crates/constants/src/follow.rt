@@ -5,13 +5,14 @@ ghost use Rattle.constants.specs.Facts.{value};
 ghost use Rattle.dialects_int.specs.Folds.{known_of};
 ghost use Rattle.constants.specs.Trails.{IsThere};
 ghost use Rattle.constants.specs.Tables.{known_in, look_in, teaches_nothing, Updated, FactsFollowed, LooksRenewed};
-ghost use Rattle.constants.specs.Tables.{LooksWithin, LooksFollowed};
+ghost use Rattle.constants.specs.Tables.{LooksWithin, LooksFollowed, OperandFollowed};
 
 use crate::forget::forget_from;
 use crate::learn::learn_from;
-use crate::table::{drop_fact, fact};
+use crate::table::{drop_fact, fact, value_fact};
 use crate::users::folded;
 use ir_event::event::Event;
+use ir_event::trees::value::Value;
 use ir_event::types::bits::Bits;
 use ir_event::types::ids::OpId;
 use ir_event::view::View;
@@ -74,6 +75,28 @@ fn update(alloc: Global, table: &mut IdMap<Bits>, view: &mut View<'_>, op: OpId)
     renew(alloc, table, view, op)
 }
 
+/// Updates the table after an operand was set. If both values are unknown, or known and equal, nothing changes. Returns
+/// `false` if memory ran out.
+fn update_operand(
+    alloc: Global,
+    table: &mut IdMap<Bits>,
+    view: &mut View<'_>,
+    op: OpId,
+    old: &Value,
+    new: &Value,
+) -> bool
+    ensures followed { OperandFollowed (result ≡ true) (look_in view.old.world.now) op old.now new.now
+        (known_in table.old) (known_in table.new) }
+    ensures looks { LooksWithin (module_in view.old.world.now).tree op
+        (known_in table.old) view.old.looks view.new.looks }
+    ensures world { view.new.world.now ≡ view.old.world.now }
+{
+    if are_same(&value_fact(table, old), &value_fact(table, new)) {
+        return true;
+    }
+    update(alloc, table, view, op)
+}
+
 /// Updates the table after an event. Returns `false` if memory ran out. An operation that is removed or moved needs
 /// none.
 pub(crate) fn follow(
@@ -95,7 +118,9 @@ pub(crate) fn follow(
             drop_fact(table, *op);
             true
         }
-        Event::SetOperand { op, .. } => update(alloc, table, view, *op),
+        Event::SetOperand { op, old, new, .. } => {
+            update_operand(alloc, table, view, *op, old, new)
+        }
         Event::SetEntry { op, .. } => update(alloc, table, view, *op),
         Event::Shift { .. } => true,
     }

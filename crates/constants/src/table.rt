@@ -40,7 +40,7 @@ pub(crate) fn note(table: &mut IdMap<Bits>, op: OpId, bits: &Bits) -> bool
 }
 
 /// Returns the known value of a value, if there is one.
-fn value_fact(table: &IdMap<Bits>, value: &Value) -> Option<Bits>
+pub(crate) fn value_fact(table: &IdMap<Bits>, value: &Value) -> Option<Bits>
     ensures { known_of result ≡ known (known_in table.now) value.now }
 {
     match *value {
