@@ -142,7 +142,7 @@ module _ (w : World) (es : List Event) (inner : any_puts_last es ≡ false) (pas
         later = p;
         over = λ x o. elim (bool_cases (precedes passed x t)) [
           | inl q ↦ after_all x q
-          | inr n ↦ in_all x (stays x (at_seen.kept x (add e i x (inr (l, (n, inr (y, (k, (p, o)))))))))
+          | inr n ↦ in_all x (stays x (at_seen.kept x (add e i x (inr (l, (n, inr (y, k, p, o)))))))
         ];
       })
 

@@ -22,7 +22,7 @@ use Rattle.greedy.proofs.Reached.{around_is, around_none, around_not, is_or_ends
 module _ (t : Op) (d : HasDistinctIds t) where
   -- ---- what is over an operation is its parent
   handed_is : (y : ℕ) (place : Place) → Some place ≡ place_of y t → (x : ℕ) → IsHanded t y x → x ≡ place.parent
-  handed_is y place e x h = sym h.2.0 ∙ ap (λ (p : Place). p.parent) (same_Some h.0 place (sym (e ∙ h.1)))
+  handed_is y place e x h = sym h.2 ∙ ap (λ (p : Place). p.parent) (same_Some h.0 place (sym (e ∙ h.1)))
 
   pub over_is : (y : ℕ) (place : Place) → Some place ≡ place_of y t → (x : ℕ) → IsOver t y x → x ≡ place.parent
   over_is y place e x (inl k) = (around_is t d y place e x k).0
@@ -46,11 +46,11 @@ module _ (t : Op) (d : HasDistinctIds t) where
   -- ---- an inserted operation
   pub inserted_later : (passed op : ℕ) (b : Bool) → b ≡ precedes passed op t → b ≡ true → (x : ℕ) → UpTo t passed (λ y. y ≡ op) x → IsOver t op x
   inserted_later passed op b e h x (n, inl k) = absurd (true≢false (sym (sym e ∙ h) ∙ ap (λ z. precedes passed z t) (sym k) ∙ n))
-  inserted_later passed op b e h x (n, inr (y, (k, (p, o)))) = subst (λ z. IsOver t z x) k o
+  inserted_later passed op b e h x (n, inr (y, k, p, o)) = subst (λ z. IsOver t z x) k o
 
   pub inserted_earlier : (passed op : ℕ) (b : Bool) → b ≡ precedes passed op t → b ≡ false → (x : ℕ) → UpTo t passed (λ y. y ≡ op) x → x ≡ op
   inserted_earlier passed op b e h x (n, inl k) = k
-  inserted_earlier passed op b e h x (n, inr (y, (k, (p, o)))) = absurd (true≢false (sym p ∙ ap (λ z. precedes passed z t) k ∙ sym e ∙ h))
+  inserted_earlier passed op b e h x (n, inr (y, k, p, o)) = absurd (true≢false (sym p ∙ ap (λ z. precedes passed z t) k ∙ sym e ∙ h))
 
   -- ---- a changed operation
   pub changed_later : (passed op : ℕ) (b : Bool) → b ≡ precedes passed op t → b ≡ true → (x : ℕ) → UpTo t passed (IsOrEnds op t) x → IsOver t op x
@@ -58,14 +58,14 @@ module _ (t : Op) (d : HasDistinctIds t) where
     | inl i ↦ absurd (true≢false (sym (sym e ∙ h) ∙ ap (λ z. precedes passed z t) (sym i) ∙ n))
     | inr f ↦ absurd (true≢false (sym (last_later passed op x f (sym e ∙ h)) ∙ n))
   ]
-  changed_later passed op b e h x (n, inr (y, (k, (p, o)))) = elim (is_or_ends op t y k) [
+  changed_later passed op b e h x (n, inr (y, k, p, o)) = elim (is_or_ends op t y k) [
     | inl i ↦ subst (λ z. IsOver t z x) i o
     | inr f ↦ absurd (true≢false (sym (sym e ∙ h) ∙ ap (λ z. precedes passed z t) (sym (over_last op y x f o)) ∙ n))
   ]
 
   pub changed_earlier : (passed op : ℕ) (b : Bool) → b ≡ precedes passed op t → b ≡ false → (x : ℕ) → UpTo t passed (IsOrEnds op t) x → IsOrEnds op t x
   changed_earlier passed op b e h x (n, inl k) = k
-  changed_earlier passed op b e h x (n, inr (y, (k, (p, o)))) = elim (is_or_ends op t y k) [
+  changed_earlier passed op b e h x (n, inr (y, k, p, o)) = elim (is_or_ends op t y k) [
     | inl i ↦ absurd (true≢false (sym p ∙ ap (λ z. precedes passed z t) i ∙ sym e ∙ h))
     | inr f ↦ ap (λ b. b || ends op x t) (eq-eqb op x (sym (over_last op y x f o)))
   ]
@@ -79,7 +79,7 @@ module _ (t : Op) (passed : ℕ) (xs ys : List ℕ) where
   -- a weaker property up to `passed`
   weaker : (P Q : ℕ → Type 0) → ((x : ℕ) → P x → Q x) → (x : ℕ) → UpTo t passed P x → UpTo t passed Q x
   weaker P Q f x (n, inl k) = (n, inl (f x k))
-  weaker P Q f x (n, inr (y, (k, r))) = (n, inr (y, (f y k, r)))
+  weaker P Q f x (n, inr (y, k, p, o)) = (n, inr (y, f y k, p, o))
 
   pub staying : (e : Event) (P : ℕ → Type 0) → leaves e ≡ false → ((x : ℕ) → IsReached t e x → P x) → Adds (UpTo t passed P) xs ys → Adds (IsReachedUpTo t passed e) xs ys
   staying e P l f a = adds_as (IsReachedUpTo t passed e) (UpTo t passed P) xs ys (λ x k. elim k [
