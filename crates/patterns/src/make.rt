@@ -107,7 +107,9 @@ fn plan_edits<L: Analysis>(
             Ok(op) => Ok(PlanEdits::Make(op)),
             Err(refusal) => Err(refusal),
         },
-        RewritePlan::Cast { name, ty, value } => match recast(alloc, bench, site, name, ty, &value) {
+        RewritePlan::Cast { name, ty, value } => match recast(
+            alloc, bench, site, name, ty, &value,
+        ) {
             Ok(op) => Ok(PlanEdits::Make(op)),
             Err(refusal) => Err(refusal),
         },
@@ -138,7 +140,12 @@ pub(crate) fn edits_for<L: Analysis>(
 {
     match made {
         RulePlan::Rewrite(plan) => plan_edits(alloc, bench, site, plan),
-        RulePlan::Lowering(lowering) => match lowering_edits(alloc, bench, &site.point, &*lowering) {
+        RulePlan::Lowering(lowering) => match lowering_edits(
+            alloc,
+            bench,
+            &site.point,
+            &*lowering,
+        ) {
             Ok(edits) => Ok(PlanEdits::List(edits)),
             Err(refusal) => Err(refusal),
         },

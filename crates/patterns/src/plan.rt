@@ -138,12 +138,7 @@ pub(crate) fn made_at(
 }
 
 /// Plans the erasure of a dead operation that is in order. `point` is the place before it.
-pub(crate) fn made_dead(
-    world: &World,
-    point: &Place,
-    op: OpId,
-    node: &Node<'_>,
-) -> Option<RulePlan>
+pub(crate) fn made_dead(world: &World, point: &Place, op: OpId, node: &Node<'_>) -> Option<RulePlan>
     requires dead { IsDead world.now op }
     requires shown { Some (header_of_node world.now.ctx node.now) ≡ head_at op (module_in world.now).tree }
     requires point { Some point.now ≡ insertion_of op (module_in world.now).tree }

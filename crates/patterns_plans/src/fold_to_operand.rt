@@ -94,11 +94,7 @@ pub(crate) fn plan_drop_all_ones(
 
 /// Plans `keep-itself`: an operation on a value and itself becomes the value.
 #[inline(never)]
-pub(crate) fn plan_keep_itself(
-    world: &World,
-    op: OpId,
-    node: &Node<'_>,
-) -> Option<RewritePlan>
+pub(crate) fn plan_keep_itself(world: &World, op: OpId, node: &Node<'_>) -> Option<RewritePlan>
     ensures edits { IsPlanned keep_itself world.now op node.now result }
     ensures fits_in { FitsIn world.now.ctx result }
 {
@@ -116,11 +112,7 @@ pub(crate) fn plan_keep_itself(
 
 /// Plans `choose-same`: a select between a value and itself becomes the value.
 #[inline(never)]
-pub(crate) fn plan_choose_same(
-    world: &World,
-    op: OpId,
-    node: &Node<'_>,
-) -> Option<RewritePlan>
+pub(crate) fn plan_choose_same(world: &World, op: OpId, node: &Node<'_>) -> Option<RewritePlan>
     ensures edits { IsPlanned choose_same world.now op node.now result }
     ensures fits_in { FitsIn world.now.ctx result }
 {
