@@ -35,9 +35,46 @@ use patterns_base::rule::Rule;
 use std::alloc::Global;
 use std::mem;
 
+/// Adds an operation near a rewrite to the worklist, if it is in the module. The rewritten operation is looked up only
+/// if it is still there.
+fn push_near<R: GreedyRewriter>(
+    bench: &R,
+    work: &mut Worklist,
+    site: &Site,
+    op: OpId,
+) -> Result<(), Refusal>
+    requires work { IsWork work.old.passed work.old.again.items (R.held bench.now).tree }
+    requires stays { site.now.stays ≡ has_id site.now.op (R.held bench.now).tree }
+    ensures work { IsWork work.new.passed work.new.again.items (R.held bench.now).tree }
+    ensures added { OnOk result
+        (has_id op (R.held bench.now).tree ≡ true
+        → waits work.new.passed work.new.again.items (R.held bench.now).tree op ≡ true) }
+    ensures others { StillWaits work.old.passed work.old.again.items
+        (R.held bench.now).tree work.new.passed work.new.again.items (R.held bench.now).tree }
+    ensures refused { IfErr result (λ e. e ≡ NoMemory) }
+{
+    if is_gone(site, op) {
+        return Ok(());
+    }
+    push(bench, work, op)
+}
+
+/// Returns whether `op` is the rewritten operation and was erased.
+fn is_gone(site: &Site, op: OpId) -> bool
+    ensures { result ≡ true → (op ≡ site.now.op) × (site.now.stays ≡ false) }
+{
+    op == site.op && !site.stays
+}
+
 /// Adds to the worklist each operation of a list that is in the module.
-fn add_all<R: GreedyRewriter>(bench: &R, work: &mut Worklist, ops: &[OpId]) -> Result<(), Refusal>
-    requires { IsWork work.old.passed work.old.again.items (R.held bench.now).tree }
+fn add_all<R: GreedyRewriter>(
+    bench: &R,
+    work: &mut Worklist,
+    site: &Site,
+    ops: &[OpId],
+) -> Result<(), Refusal>
+    requires work { IsWork work.old.passed work.old.again.items (R.held bench.now).tree }
+    requires stays { site.now.stays ≡ has_id site.now.op (R.held bench.now).tree }
     ensures work { IsWork work.new.passed work.new.again.items (R.held bench.now).tree }
     ensures added { OnOk result
         ((z : ℕ) → is_listed z ops.now ≡ true → has_id z (R.held bench.now).tree ≡ true
@@ -48,7 +85,7 @@ fn add_all<R: GreedyRewriter>(bench: &R, work: &mut Worklist, ops: &[OpId]) -> R
 {
     let mut rest = ops;
     'ops: while let [op, tail @ ..] = rest {
-        match push(bench, work, *op) {
+        match push_near(bench, work, site, *op) {
             Ok(()) => {}
             Err(refusal) => return Err(refusal),
         }
@@ -70,6 +107,7 @@ fn renew<R: GreedyRewriter>(
     requires rewritten { Rewritten site.now.op site.now.before (R.before bench.now from) (R.held bench.now) }
     requires work { IsWork work.old.passed work.old.again.items (R.before bench.now from).tree }
     requires apart { site.now.apart ≡ true → AreApart site.now.op work.old.again.items (R.before bench.now from).tree }
+    requires stays { site.now.stays ≡ has_id site.now.op (R.held bench.now).tree }
     ensures ok { OnOk result ((a : PatternSetModel) → StaysAway a
         → CoversBut a site.now.op work.old.passed work.old.again.items (R.before bench.now from)
         → Right a work.new.passed work.new.again.items (R.held bench.now)) }
@@ -81,11 +119,11 @@ fn renew<R: GreedyRewriter>(
         Ok(()) => {}
         Err(refusal) => return Err(refusal),
     }
-    match push(bench, work, site.op) {
+    match push_near(bench, work, site, site.op) {
         Ok(()) => {}
         Err(refusal) => return Err(refusal),
     }
-    match add_all(bench, work, &near) {
+    match add_all(bench, work, site, &near) {
         Ok(()) => {}
         Err(refusal) => return Err(refusal),
     }
@@ -143,14 +181,21 @@ fn one<R: GreedyRewriter>(
             let apart = is_apart(bench, work, op);
             match apply_first(alloc, bench, pattern_set, op) {
                 Ok(Some(by)) => {
+                    let stays = bench.in_tree(op);
                     let applied = AppliedRewrite {
                         by,
                         op,
                         from: next,
                         until: bench.next_id(),
-                        stays: bench.in_tree(op),
+                        stays,
                     };
-                    return match renew(alloc, bench, work, &Site { op, before, apart }, from) {
+                    let site = Site {
+                        op,
+                        before,
+                        apart,
+                        stays,
+                    };
+                    return match renew(alloc, bench, work, &site, from) {
                         Ok(()) => Ok(Some(applied)),
                         Err(refusal) => Err(refusal),
                     };

@@ -33,6 +33,8 @@ pub(crate) struct Site {
     pub(crate) before: OpId,
     /// No operation of `again` is inside `op`.
     pub(crate) apart: bool,
+    /// The operation is still in the module after the rewrite.
+    pub(crate) stays: bool,
 }
 
 /// Removes the first waiting operation from the worklist and returns it.

@@ -123,6 +123,7 @@ fn first_applying(
 
 /// Returns the first of some rules that applies, with its plan. The first rule of the list is already known to pass
 /// the cheap test.
+#[inline(always)]
 pub(crate) fn first_made(
     alloc: Global,
     world: &World,

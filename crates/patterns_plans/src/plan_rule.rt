@@ -26,6 +26,7 @@ use std::alloc::{AllocError, Global};
 
 /// Plans a rule at an operation, or returns `None` if the rule doesn't apply. `node` is what the store shows of the
 /// operation. The caller has checked that the operation is verified and has a place.
+#[inline(always)]
 pub fn plan(
     alloc: Global,
     world: &World,

@@ -13,8 +13,8 @@ returns-clause-ok g c pattern_set away covers =
     let w = c.args.work.now in
     renewed pattern_set m n c.args.site.now.op c.touched.new.ops.items w.passed w.again.items
     c.drop_erased.new.work.passed c.drop_erased.new.work.again.items
-    c.push.new.work.passed c.push.new.work.again.items
+    c.push_near.new.work.passed c.push_near.new.work.again.items
     c.add_all.new.work.passed c.add_all.new.work.again.items
     away c.in-Ok.ensures.ok covers
     (c.drop_erased.ensures.others m c.args.site.now.op c.requires.rewritten c.requires.work)
-    c.push.ensures.others c.in-Ok-push.ensures.added c.add_all.ensures.others (λ z h. c.in-Ok-add_all.ensures.added z (subst (λ xs. is_listed z xs ≡ true) (sym c.deref.ensures.value) h)) c.add_all.ensures.work
+    c.push_near.ensures.others c.in-Ok-push_near.ensures.added c.add_all.ensures.others (λ z h. c.in-Ok-add_all.ensures.added z (subst (λ xs. is_listed z xs ≡ true) (sym c.deref.ensures.value) h)) c.add_all.ensures.work
