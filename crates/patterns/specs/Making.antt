@@ -10,10 +10,10 @@ use Rattle.patterns_plans.specs.reads.declared.plan.RewritePlan.{RewritePlan}
 use Rattle.patterns_plans.specs.reads.declared.plan.RewritePlan.TheVariants as plan
 use Rattle.patterns_plans.specs.reads.declared.plan.LargePlan.{LargePlan}
 use Rattle.patterns_plans.specs.reads.declared.plan.LargePlan.TheVariants as large
-use Rattle.patterns.specs.Numbered.{giving, making}
+use Rattle.patterns.specs.Numbered.{cast_edits, constant_edits, giving}
 use Rattle.patterns.specs.declared.insertion_point.InsertionPoint.{InsertionPoint}
-use Rattle.patterns.specs.declared.make.PlanEdits.{PlanEdits}
-use Rattle.patterns.specs.declared.make.PlanEdits.TheVariants as listed
+use Rattle.patterns.specs.declared.plan_edits.PlanEdits.{PlanEdits}
+use Rattle.patterns.specs.declared.plan_edits.PlanEdits.TheVariants as listed
 use Rattle.patterns.specs.declared.plan.RulePlan.{RulePlan}
 use Rattle.patterns.specs.declared.plan.RulePlan.TheVariants as made
 
@@ -26,7 +26,8 @@ pub record EditsDenote (c : ContextModel) (es : List Coded) (edits : List Edit) 
 abbrev pub listed_edits : InsertionPoint → PlanEdits → List Coded
 listed_edits s listed.Erase = edit.Erase s.op ∷ []
 listed_edits s (listed.Give v) = giving s v
-listed_edits s (listed.Make o) = making s o
+listed_edits s (listed.Constant ty a) = constant_edits s ty a
+listed_edits s (listed.Cast name ty v) = cast_edits s name ty v
 listed_edits s (listed.List es) = es.items
 
 -- the number of operations that an edit makes, and that some edits make

@@ -2,7 +2,6 @@
 use Rattle.std.specs.Prelude.{ℕ, ◌+◌, List, [], ◌∷◌, Option, Some, None}
 use Rattle.ir_event.specs.types.declared.word.Word.TheVariants.{ArithAddi, ArithMuli, ArithSubi, ArithXori, Predicate}
 use Rattle.ir_event.specs.types.WordNames.{word_number}
-use Rattle.ir_event.specs.trees.Tree.{Op}
 use Rattle.ir_event.specs.trees.declared.value.Value.{Value}
 use Rattle.ir_event.specs.trees.declared.value.Value.TheVariants.{Result}
 use Rattle.patterns_base.specs.declared.edit.Edit.{Edit}
@@ -21,16 +20,12 @@ result_at s k = Result (s.next + k) 0
 abbrev pub giving : InsertionPoint → Value → List Edit
 giving s v = Replace (Result s.op 0) v ∷ Erase s.op ∷ []
 
--- a new operation is inserted, its result replaces the result of the site's operation, and that is erased
-abbrev pub making : InsertionPoint → Op → List Edit
-making s o = Make s.point o ∷ giving s (first_result s)
-
 -- the edits of each plan
 abbrev pub constant_edits : InsertionPoint → ℕ → ℕ → List Edit
-constant_edits s ty value = making s (new_constant ty value)
+constant_edits s ty value = Make s.point (new_constant ty value) ∷ giving s (first_result s)
 
 abbrev pub cast_edits : InsertionPoint → ℕ → ℕ → Value → List Edit
-cast_edits s name ty v = making s (new_cast name ty v)
+cast_edits s name ty v = Make s.point (new_cast name ty v) ∷ giving s (first_result s)
 
 abbrev pub combined_edits : InsertionPoint → ℕ → ℕ → Value → ℕ → Option ℕ → List Edit
 combined_edits s name ty v value flags =

@@ -13,8 +13,10 @@ ghost use Rattle.patterns.specs.Planned.{IsFree, MadeIsOf, WereCarried, planned_
 use crate::count::made_makes;
 use crate::insertion_point::InsertionPoint;
 use crate::limits::limit_reason;
-use crate::make::{PlanEdits, edits_for};
+use crate::make::edits_for;
+use crate::operations::{new_cast, new_constant};
 use crate::plan::PlacedPlan;
+use crate::plan_edits::PlanEdits;
 use ir_event::analysis::Analysis;
 use ir_event::trees::value::Value;
 use ir_event::types::ids::OpId;
@@ -29,6 +31,7 @@ use std::alloc::Global;
 ///
 /// Errors: `Memory`.
 fn apply_listed<L: Analysis>(
+    alloc: Global,
     bench: &mut Bench<L>,
     site: &InsertionPoint,
     edits: PlanEdits,
@@ -46,24 +49,36 @@ fn apply_listed<L: Analysis>(
     ensures journal { JournalAfter L.meaning result bench.old bench.new }
 {
     let op = site.op;
+    let place = site.point;
     let old = Value::Result(op, 0);
+    let new = Value::Result(site.next, 0);
     match edits {
         PlanEdits::Erase => apply_unchecked(bench, &[Edit::Erase { op }]),
         PlanEdits::Give(new) => {
             apply_unchecked(bench, &[Edit::Replace { old, new }, Edit::Erase { op }])
         }
-        PlanEdits::Make(header) => {
-            let place = site.point;
-            let new = Value::Result(site.next, 0);
-            apply_unchecked(
+        PlanEdits::Constant { ty, value } => match new_constant(alloc, ty, value) {
+            Ok(constant) => apply_unchecked(
                 bench,
                 &[
-                    Edit::Make { place, op: header },
+                    Edit::Make { place, op: constant },
                     Edit::Replace { old, new },
                     Edit::Erase { op },
                 ],
-            )
-        }
+            ),
+            Err(_) => Err(Refusal::Memory),
+        },
+        PlanEdits::Cast { name, ty, value } => match new_cast(alloc, name, ty, &value) {
+            Ok(cast) => apply_unchecked(
+                bench,
+                &[
+                    Edit::Make { place, op: cast },
+                    Edit::Replace { old, new },
+                    Edit::Erase { op },
+                ],
+            ),
+            Err(_) => Err(Refusal::Memory),
+        },
         PlanEdits::List(edits) => apply_unchecked(bench, &edits),
     }
 }
@@ -101,7 +116,7 @@ pub(crate) fn apply_plan<L: Analysis>(
         Err(refusal) => return Err(refusal),
     };
     bench.is_wellformed();
-    match apply_listed(bench, &site, edits) {
+    match apply_listed(alloc, bench, &site, edits) {
         Ok(()) => Ok(()),
         Err(refusal) => Err(refusal),
     }

@@ -15,6 +15,7 @@ pub mod limits;
 mod make;
 mod operations;
 mod plan;
+mod plan_edits;
 mod plans;
 mod prefilter;
 pub mod rules_by_name;

@@ -8,29 +8,15 @@ ghost use Rattle.patterns.specs.Planned.{MadeIsOf, made_edits};
 
 use crate::insertion_point::InsertionPoint;
 use crate::plan::RulePlan;
+use crate::plan_edits::PlanEdits;
 use crate::plans::{choice, combination, constant, difference, mirrored, recast, remainder};
 use ir_event::analysis::Analysis;
-use ir_event::trees::tree::TreeOp;
-use ir_event::trees::value::Value;
 use ir_event::types::refusal::Refusal;
 use patterns_lowering::Bench;
 use patterns_lowering::edit::Edit;
 use patterns_lowering::edits::lowering_edits;
 use patterns_plans::reads::plan::{LargePlan, RewritePlan};
 use std::alloc::Global;
-
-/// The edits of a plan. Those of the most frequent plans aren't in a list, which takes memory.
-#[derive(Drop)]
-pub enum PlanEdits {
-    /// The site's operation is erased.
-    Erase,
-    /// A value replaces the result of the site's operation, which is erased.
-    Give(Value),
-    /// The operation is inserted at the site. Its result replaces the result of the site's operation, which is erased.
-    Make(TreeOp),
-    /// These edits.
-    List(Vec<Edit>),
-}
 
 /// Returns the edits of a large plan at a site, and interns the names, types and attributes that they need. The module
 /// stays the same. There must be enough free ids.
@@ -103,16 +89,11 @@ fn plan_edits<L: Analysis>(
         RewritePlan::Erase => Ok(PlanEdits::Erase),
         RewritePlan::Give { value } => Ok(PlanEdits::Give(value)),
         RewritePlan::Edits(edits) => Ok(PlanEdits::List(edits)),
-        RewritePlan::Constant { ty, bits } => match constant(alloc, bench, site, ty, bits) {
-            Ok(op) => Ok(PlanEdits::Make(op)),
+        RewritePlan::Constant { ty, bits } => match constant(bench, site, ty, bits) {
+            Ok(edits) => Ok(edits),
             Err(refusal) => Err(refusal),
         },
-        RewritePlan::Cast { name, ty, value } => match recast(
-            alloc, bench, site, name, ty, &value,
-        ) {
-            Ok(op) => Ok(PlanEdits::Make(op)),
-            Err(refusal) => Err(refusal),
-        },
+        RewritePlan::Cast { name, ty, value } => Ok(recast(bench, site, name, ty, value)),
         RewritePlan::Large(plan) => match large_edits(alloc, bench, site, &*plan) {
             Ok(edits) => Ok(PlanEdits::List(edits)),
             Err(refusal) => Err(refusal),

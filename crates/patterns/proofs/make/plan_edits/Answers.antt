@@ -9,3 +9,6 @@ returns-in-Give-clause-added g c = added_none g.L.Analysis.meaning c.args.bench.
 
 pub returns-in-Edits-clause-added : goal.returns-in-Edits-clause-added
 returns-in-Edits-clause-added g c = added_none g.L.Analysis.meaning c.args.bench.now
+
+pub returns-in-Cast-clause-added : goal.returns-in-Cast-clause-added
+returns-in-Cast-clause-added g c = added_none g.L.Analysis.meaning c.args.bench.now
