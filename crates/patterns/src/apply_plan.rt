@@ -61,7 +61,10 @@ fn apply_listed<L: Analysis>(
             Ok(constant) => apply_unchecked(
                 bench,
                 &[
-                    Edit::Make { place, op: constant },
+                    Edit::Make {
+                        place,
+                        op: constant,
+                    },
                     Edit::Replace { old, new },
                     Edit::Erase { op },
                 ],
