@@ -4,9 +4,10 @@ ghost use Rattle.listeners_support.specs.Map as idmap;
 ghost use Rattle.listeners_support.specs.Map.{entries_from};
 ghost use Rattle.ir_event.specs.types.declared.bits.Bits.{Bits as Known};
 ghost use Rattle.ir_event.specs.declared.row.Row.{Row as Line};
-ghost use Rattle.constants.specs.Tables.{cells_of};
+ghost use Rattle.constants.specs.Tables.{cells_of, entries_about, entry_at, entry_of};
 
 use ir_event::row::{Cell, Row};
+use ir_event::subject::Subject;
 use ir_event::trees::value::Value;
 use ir_event::types::bits::Bits;
 use ir_event::types::ids::OpId;
@@ -94,4 +95,54 @@ pub(crate) fn lines(alloc: Global, table: &IdMap<Bits>) -> Result<Vec<Row>, Allo
     let mut out = Vec::new(alloc);
     push_lines(alloc, table, &mut out)?;
     Ok(out)
+}
+
+/// Returns the row about the result of an operation or about a value, if its value is known.
+pub(crate) fn lines_about(
+    alloc: Global,
+    table: &IdMap<Bits>,
+    subject: &Subject,
+) -> Result<Vec<Row>, AllocError>
+    ensures { IfOk result (λ out. map (λ (r : Line). r.cells.items) out.items
+        ≡ map cells_of (entries_about subject.now table.now)) }
+{
+    let mut out = Vec::new(alloc);
+    match subject {
+        Subject::Op(op) => push_line_of(alloc, table, *op, &mut out)?,
+        Subject::Val(value) => push_line_of_value(alloc, table, value, &mut out)?,
+    }
+    Ok(out)
+}
+
+/// Appends the row of a value, if it is known.
+fn push_line_of_value(
+    alloc: Global,
+    table: &IdMap<Bits>,
+    value: &Value,
+    out: &mut Vec<Row>,
+) -> Result<(), AllocError>
+    ensures { OnOk result (map (λ (r : Line). r.cells.items) out.new.items
+        ≡ map (λ (r : Line). r.cells.items) out.old.items ++ map cells_of (entry_at value.now table.now)) }
+{
+    match *value {
+        Value::Result(op, place) if place == 0 => push_line_of(alloc, table, op, out),
+        Value::Result(_, _) => Ok(()),
+        Value::Arg(_, _, _) => Ok(()),
+    }
+}
+
+/// Appends the row of an operation's result, if its value is known.
+fn push_line_of(
+    alloc: Global,
+    table: &IdMap<Bits>,
+    op: OpId,
+    out: &mut Vec<Row>,
+) -> Result<(), AllocError>
+    ensures { OnOk result (map (λ (r : Line). r.cells.items) out.new.items
+        ≡ map (λ (r : Line). r.cells.items) out.old.items ++ map cells_of (entry_of op table.now)) }
+{
+    match table.get(op.number()) {
+        None => Ok(()),
+        Some(bits) => push_line(alloc, op, bits, out),
+    }
 }

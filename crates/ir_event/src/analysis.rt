@@ -3,12 +3,14 @@ ghost use Rattle.std.specs.Prelude.{◌≡◌, true, OnErr, OnOk, MatchResult};
 ghost use Rattle.op_registry.specs.types.Things.{ContextModel};
 ghost use Rattle.ir_event.specs.Modules.{Module, context_model, module_in};
 ghost use Rattle.ir_event.specs.Rows.{Shows};
+ghost use Rattle.ir_event.specs.Subjects.{rows_about};
 ghost use Rattle.ir_event.specs.Listener.{Listener, SameAnalysis};
 ghost use Rattle.ir_event.specs.Notification.{IsNotified};
 ghost use Rattle.ir_event.specs.declared.row.ReportFault.TheVariants.{Stale, Memory as NoMemory};
 
 use crate::event::Event;
 use crate::row::{Kind, Memory, ReportFault, Row};
+use crate::subject::Subject;
 use crate::view::View;
 use crate::world::World;
 
@@ -41,6 +43,12 @@ pub trait Analysis: Drop {
     fn report(&self) -> Result<Vec<Row>, ReportFault>
         ensures agreed { (c : ContextModel) (m : Module) → (meaning self.now).agrees c m → MatchResult result (λ rows. Shows c rows.items ((meaning self.now).analysis m.tree)) (λ e. e ≡ NoMemory) }
         ensures stale { (meaning self.now).stale ≡ true → MatchResult result (λ _. ⊥) (λ e. e ≡ Stale) };
+
+    /// Returns the rows of the report that are about an operation or a value, in order, allocated by the allocator of
+    /// the listener. `world` shows the module. `keep_rows_about` selects these rows from a whole report.
+    fn report_about(&self, world: &World, subject: &Subject) -> Result<Vec<Row>, ReportFault>
+        ensures agreed { (meaning self.now).agrees (context_model world.now) (module_in world.now) → MatchResult result (λ rows. Shows (context_model world.now) rows.items (rows_about subject.now ((meaning self.now).analysis (module_in world.now).tree))) (λ e. e ≡ NoMemory) }
+        ensures stale { (meaning self.now).stale ≡ true → MatchResult result (λ _. ⊥) (λ e. e ≡ Stale) };
 }
 
 /// A boxed listener behaves as the listener in the box.
@@ -65,5 +73,9 @@ impl Analysis for Box<dyn Analysis> {
 
     fn report(&self) -> Result<Vec<Row>, ReportFault> {
         (**self).report()
+    }
+
+    fn report_about(&self, world: &World, subject: &Subject) -> Result<Vec<Row>, ReportFault> {
+        (**self).report_about(world, subject)
     }
 }

@@ -1,13 +1,16 @@
 //! The rows of the report.
 ghost use Rattle.std.specs.Prelude.{◌≡◌, ◌++◌, [], ◌∷◌, map, OnOk, IfOk};
+ghost use Rattle.std.specs.Ordering.{nat_cmp};
+ghost use Rattle.std.specs.BTreeMap.{get};
 ghost use Rattle.ir_verify_base.specs.events.declared.row.Row.{Row as Line};
 ghost use Rattle.ir_verify.specs.Sets.{reported_rules};
-ghost use Rattle.ir_verify.specs.Reports.{rule_cells, rules_cells, all_cells};
+ghost use Rattle.ir_verify.specs.Reports.{rule_cells, rules_cells, all_cells, cells_about, found_cells};
 
 use crate::finding::Finding;
 use ir_tree::value::Value;
 use ir_types::ids::OpId;
 use ir_verify_base::events::row::{Cell, Row};
+use ir_verify_base::events::subject::Subject;
 use std::alloc::{AllocError, Global};
 use std::collections::BTreeMap;
 
@@ -71,4 +74,36 @@ fn push_all(
         push_reported(alloc, OpId::new(*op), rules, out)?;
     }
     Ok(())
+}
+
+/// Returns a row for each reported rule of the operation that the report is about. No row is about a value.
+pub(crate) fn rows_about(
+    alloc: Global,
+    table: &BTreeMap<u32, Finding>,
+    subject: &Subject,
+) -> Result<Vec<Row>, AllocError>
+    ensures { IfOk result (λ out. map (λ (r : Line). r.cells.items) out.items ≡ cells_about subject.now table.now) }
+{
+    let mut out = Vec::new(alloc);
+    match subject {
+        Subject::Op(op) => push_reported_of(alloc, table, *op, &mut out)?,
+        Subject::Val(_) => {}
+    }
+    Ok(out)
+}
+
+/// Appends the rows of an operation, if the table has it.
+fn push_reported_of(
+    alloc: Global,
+    table: &BTreeMap<u32, Finding>,
+    op: OpId,
+    out: &mut Vec<Row>,
+) -> Result<(), AllocError>
+    ensures { OnOk result (map (λ (r : Line). r.cells.items) out.new.items
+        ≡ map (λ (r : Line). r.cells.items) out.old.items ++ found_cells op (get nat_cmp table.now op)) }
+{
+    match table.get(&op.number()) {
+        None => Ok(()),
+        Some(finding) => push_reported(alloc, op, finding, out),
+    }
 }

@@ -6,6 +6,7 @@ ghost use Rattle.ir_event.specs.declared.row.Row.{Row as Line};
 use ir_event::analysis::Analysis;
 use ir_event::event::Event;
 use ir_event::row::{Cell, Kind, Memory, ReportFault, Row};
+use ir_event::subject::Subject;
 use ir_event::trees::value::Value;
 use ir_event::types::context::Context;
 use ir_event::types::ids::{NameId, OpId};
@@ -101,6 +102,18 @@ impl Analysis for AdditionCount {
             Ok(rows) => Ok(rows),
             Err(_) => Err(ReportFault::Memory),
         }
+    }
+
+    /// No row is about an operation or a value.
+    fn report_about(
+        &self,
+        _world: &World,
+        _subject: &Subject,
+    ) -> Result<Vec<Row>, ReportFault> {
+        if self.kept.stale() {
+            return Err(ReportFault::Stale);
+        }
+        Ok(Vec::new(self.alloc))
     }
 }
 

@@ -6,8 +6,10 @@ ghost use Rattle.listeners_support.specs.Map as idmap;
 ghost use Rattle.std.specs.BTreeSet as set;
 ghost use Rattle.std.specs.BTreeSet.{contains};
 ghost use Rattle.listeners_symbols.specs.Telling.{HasThose, HasThose-prop, has_some, hides, names, concerns_symbols};
+ghost use Rattle.listeners_symbols.specs.Telling.{said_about, said_at};
 
 use crate::role::Role;
+use ir_event::subject::Subject;
 use ir_event::types::ids::OpId;
 use listeners_support::IdMap;
 use std::alloc::{AllocError, Global};
@@ -93,6 +95,48 @@ impl Roles {
         );
         drop_unless(&mut self.hidden, op, !hides_of(gone.as_ref()));
         drop_unless(&mut self.naming, op, !names_of(gone.as_ref()));
+    }
+}
+
+/// Returns whether a report of symbols may have rows about an operation or a value: whether it is an operation that
+/// defines, references or calls a symbol.
+pub(crate) fn may_tell(roles: &Roles, subject: &Subject) -> bool
+    ensures { result ≡ said_about concerns_symbols subject.now (idmap.get roles.now.all) }
+{
+    match subject {
+        Subject::Op(op) => says_symbols(roles, *op),
+        Subject::Val(_) => false,
+    }
+}
+
+/// Returns whether a report of unreached symbols may have rows about an operation or a value: whether it is an operation
+/// that defines a symbol with private visibility.
+pub fn may_hide(roles: &Roles, subject: &Subject) -> bool
+    ensures { result ≡ said_about hides subject.now (idmap.get roles.now.all) }
+{
+    match subject {
+        Subject::Op(op) => says_hidden(roles, *op),
+        Subject::Val(_) => false,
+    }
+}
+
+/// Returns whether the table has an operation, and the operation defines, references or calls a symbol.
+fn says_symbols(roles: &Roles, op: OpId) -> bool
+    ensures { result ≡ said_at concerns_symbols (idmap.get roles.now.all op) }
+{
+    match roles.get(op) {
+        None => false,
+        Some(role) => concerns_symbols(role),
+    }
+}
+
+/// Returns whether the table has an operation, and the operation defines a symbol with private visibility.
+fn says_hidden(roles: &Roles, op: OpId) -> bool
+    ensures { result ≡ said_at hides (idmap.get roles.now.all op) }
+{
+    match roles.get(op) {
+        None => false,
+        Some(role) => hides(role),
     }
 }
 

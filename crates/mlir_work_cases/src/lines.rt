@@ -1,5 +1,6 @@
 //! What lines of a script and words say, and how texts are cut.
 use crate::texts::{both_shown, bytes, shown, write_all_shown};
+use ir_event::subject::Subject;
 use ir_event::trees::value::Value;
 use ir_event::types::ids::OpId;
 use mlir_work_session::clauses::Clauses;
@@ -14,7 +15,6 @@ use mlir_work_session::numbers;
 use mlir_work_session::registry_command::RegistryCommand;
 use mlir_work_session::rule_name::RuleName;
 use mlir_work_session::session_command::SessionCommand;
-use mlir_work_session::subject::Subject;
 use mlir_work_session::values::{op_named, value_named};
 use mlir_work_session::words::{split_word, trim};
 use std::alloc::{AllocError, Global};

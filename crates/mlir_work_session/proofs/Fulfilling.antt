@@ -11,8 +11,8 @@ use Rattle.mlir_work_transforms.specs.rewriter.Panels.{Shown}
 use Rattle.mlir_work_script.specs.SessionCommands.{Attach, CanonAt, Fired, SessionCommand, PrintIds, Rewrite, Trace, TraceConvert, Why, ReportOf}
 use Rattle.mlir_work_session_base.specs.IdsText.{ids_text}
 use Rattle.mlir_work_session.specs.Machine.{AsksWhy, AttachesKind, RunsSessionCommand, SessionCommandAsks, SessionSetting, limit_or, session_command_bytes, bytes_if, AsksAbout, session_command_shows, shows_about}
-use Rattle.mlir_work_script_base.specs.declared.subject.Subject.{Subject}
-use Rattle.mlir_work_session_base.specs.Subjects.{absent, is_there}
+use Rattle.ir_event.specs.declared.subject.Subject.{Subject}
+use Rattle.ir_event.specs.Subjects.{absent, is_there}
 use Rattle.mlir_work_transforms.specs.registry.Replies.{IsBounded, is_accepted}
 use Rattle.mlir_work_transforms.specs.greedy.Changes.{canonical_reply, rewriting}
 use Rattle.mlir_work_transforms.specs.greedy.Tracing.{trace_of}

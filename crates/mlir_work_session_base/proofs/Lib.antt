@@ -1,3 +1,2 @@
 pub mod RowWalks
 pub mod Lines
-pub mod Abouts

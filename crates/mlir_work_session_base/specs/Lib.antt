@@ -1,3 +1,2 @@
 pub mod RowText
 pub mod IdsText
-pub mod Subjects

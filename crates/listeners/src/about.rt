@@ -1,0 +1,162 @@
+//! The report rows about one operation or one value. They come from the module, which lists the uses of each value, so
+//! they take no time for the uses of other values.
+ghost use Rattle.std.specs.Prelude.{◌≡◌, ◌++◌, map, option_map, IfOk, OnOk};
+ghost use Rattle.ir_event.specs.declared.row.Row.{Row as Line};
+ghost use Rattle.ir_event.specs.store.Nodes.{node_of};
+ghost use Rattle.ir_event.specs.trees.Ids.{find};
+ghost use Rattle.listeners.specs.About.{AreSortedUses, PushesAllUses, PushesUses, about, arguments_from};
+ghost use Rattle.listeners.specs.About.{region_arguments, results_from, values_about, values_found, values_of};
+ghost use Rattle.listeners.specs.Keys.{key_cells, keys_of};
+ghost use Rattle.listeners.specs.Uses.{all_uses};
+
+use crate::gather::key;
+use crate::key::{Use, UseKey};
+use crate::report::rows_of_keys;
+use ir_event::row::Row;
+use ir_event::store::node::Node;
+use ir_event::subject::Subject;
+use ir_event::trees::value::Value;
+use ir_event::types::ids::OpId;
+use ir_event::world::World;
+use std::alloc::{AllocError, Global};
+
+/// Appends the results of an operation, given their number.
+fn push_results(op: OpId, count: u32, values: &mut Vec<Value>) -> Result<(), AllocError>
+    ensures { OnOk result (values.new.items ≡ values.old.items ++ results_from op 0 count) }
+{
+    let mut place = 0;
+    'results: while place < count {
+        values.push(Value::Result(op, place))?;
+        place += 1;
+    }
+    Ok(())
+}
+
+/// Appends the arguments of a region's block, given their number.
+fn push_arguments(
+    op: OpId,
+    region: u32,
+    count: u32,
+    values: &mut Vec<Value>,
+) -> Result<(), AllocError>
+    ensures { OnOk result (values.new.items ≡ values.old.items ++ arguments_from op region 0 count) }
+{
+    let mut place = 0;
+    'arguments: while place < count {
+        values.push(Value::Arg(op, region, place))?;
+        place += 1;
+    }
+    Ok(())
+}
+
+/// Appends the results and block arguments of an operation.
+fn push_values(op: OpId, node: &Node<'_>, values: &mut Vec<Value>) -> Result<(), AllocError>
+    ensures { OnOk result (values.new.items ≡ values.old.items ++ values_of op node.now) }
+{
+    push_results(op, node.results().len() as u32, values)?;
+    push_region_arguments(op, node, values)
+}
+
+/// Appends the arguments of an operation's blocks.
+fn push_region_arguments(
+    op: OpId,
+    node: &Node<'_>,
+    values: &mut Vec<Value>,
+) -> Result<(), AllocError>
+    ensures { OnOk result (values.new.items ≡ values.old.items ++ region_arguments op 0 node.now.arguments) }
+{
+    let mut region = 0;
+    'regions: while region < node.region_count() {
+        if let Some(types) = node.arguments(region) {
+            push_arguments(op, region as u32, types.len() as u32, values)?;
+        }
+        region += 1;
+    }
+    Ok(())
+}
+
+/// Returns the values that a report is about: the value, or the results and block arguments of the operation.
+fn values_about(
+    alloc: Global,
+    world: &World,
+    subject: &Subject,
+) -> Result<Vec<Value>, AllocError>
+    ensures { IfOk result (λ values. values.items ≡ values_about subject.now world.now.store.module_of.tree) }
+{
+    let mut values = Vec::new(alloc);
+    match subject {
+        Subject::Val(value) => values.push(*value)?,
+        Subject::Op(op) => push_values_of(world, *op, &mut values)?,
+    }
+    Ok(values)
+}
+
+/// Appends the results and block arguments of an operation, if it is in the module.
+fn push_values_of(world: &World, op: OpId, values: &mut Vec<Value>) -> Result<(), AllocError>
+    ensures { OnOk result (values.new.items
+        ≡ values.old.items ++ values_found op (option_map node_of (find op world.now.store.module_of.tree))) }
+{
+    match world.shown(op) {
+        None => Ok(()),
+        Some(node) => push_values(op, &node, values),
+    }
+}
+
+/// Appends the keys of the uses of a value.
+fn push_uses(world: &World, value: Value, keys: &mut Vec<UseKey>) -> Result<(), AllocError>
+    ensures { OnOk result (PushesUses value world.now.store.module_of.tree keys.old.items keys.new.items) }
+{
+    let mut rest = world.store.uses(value);
+    'uses: while let Some((user, operand)) = rest.next() {
+        keys.push(key(&Use {
+            value,
+            user,
+            operand,
+        }))?;
+    }
+    Ok(())
+}
+
+/// Appends the keys of the uses of values.
+fn push_all_uses(
+    world: &World,
+    values: &[Value],
+    keys: &mut Vec<UseKey>,
+) -> Result<(), AllocError>
+    ensures { OnOk result (PushesAllUses values.now world.now.store.module_of.tree keys.old.items keys.new.items) }
+{
+    let mut left = values;
+    'values: while let [value, more @ ..] = left {
+        push_uses(world, *value, keys)?;
+        left = more;
+    }
+    Ok(())
+}
+
+/// Returns the sorted keys of the uses of values.
+fn sorted_uses(
+    alloc: Global,
+    world: &World,
+    values: &[Value],
+) -> Result<Vec<UseKey>, AllocError>
+    ensures { IfOk result (λ keys. AreSortedUses values.now world.now.store.module_of.tree keys.items) }
+{
+    let mut keys = Vec::new(alloc);
+    push_all_uses(world, values, &mut keys)?;
+    keys.sort_unstable();
+    Ok(keys)
+}
+
+/// Returns the rows about an operation or a value, in order.
+pub(crate) fn rows_about(
+    alloc: Global,
+    world: &World,
+    subject: &Subject,
+) -> Result<Vec<Row>, AllocError>
+    ensures { IfOk result (λ rows. map (λ (r : Line). r.cells.items) rows.items
+        ≡ map key_cells (keys_of (about subject.now (all_uses world.now.store.module_of.tree)))) }
+{
+    let values = values_about(alloc, world, subject)?;
+    let keys = sorted_uses(alloc, world, &values)?;
+    rows_of_keys(alloc, &keys)
+}
