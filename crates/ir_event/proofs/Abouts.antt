@@ -61,36 +61,37 @@ about_joined s (r ∷ a) b = elim (is_about s r) as (λ z. cond z (r ∷ rows_ab
 ]
 
 -- rows by entries of a table
-module _ {V : Type 0} (s : Subject) (rows : ℕ × V → List RowTerm) where
-  abbrev pub all_rows : List (ℕ × V) → List RowTerm
-  all_rows [] = []
-  all_rows (p ∷ ps) = rows p ++ all_rows ps
+abbrev pub all_rows : {V : Type 0} → (ℕ × V → List RowTerm) → List (ℕ × V) → List RowTerm
+all_rows rows [] = []
+all_rows rows (p ∷ ps) = rows p ++ all_rows rows ps
 
+module _ {V : Type 0} (s : Subject) (rows : ℕ × V → List RowTerm) where
   -- no entry has rows about the subject
-  pub about_none : ((p : ℕ × V) → rows_about s (rows p) ≡ []) → (ps : List (ℕ × V)) → rows_about s (all_rows ps) ≡ []
+  pub about_none : ((p : ℕ × V) → rows_about s (rows p) ≡ []) → (ps : List (ℕ × V)) → rows_about s (all_rows rows ps) ≡ []
   about_none none [] = refl
-  about_none none (p ∷ ps) = about_joined s (rows p) (all_rows ps) ∙ (λ i. none p i ++ about_none none ps i)
+  about_none none (p ∷ ps) = about_joined s (rows p) (all_rows rows ps) ∙ λ i. none p i ++ about_none none ps i
+
+  -- the rows about the subject, by the entry of x
+  abbrev pub rows_at : ℕ → Option V → List RowTerm
+  rows_at x None = []
+  rows_at x (Some v) = rows_about s (rows (x, v))
 
   -- only the entry of x has rows about the subject
   module _ (x : ℕ) (others : (p : ℕ × V) → (x ≡ p.0 → ⊥) → rows_about s (rows p) ≡ []) where
-    none_above : (ps : List (ℕ × V)) → Above x ps → rows_about s (all_rows ps) ≡ []
+    none_above : (ps : List (ℕ × V)) → Above x ps → rows_about s (all_rows rows ps) ≡ []
     none_above [] a = refl
     none_above (p ∷ ps) a =
         let apart : x ≡ p.0 → ⊥ = λ e. (let l = a.0 in omega (arith, e, l)) in
-        about_joined s (rows p) (all_rows ps) ∙ (λ i. others p apart i ++ none_above ps a.1 i)
+        about_joined s (rows p) (all_rows rows ps) ∙ λ i. others p apart i ++ none_above ps a.1 i
 
-    abbrev pub rows_at : Option V → List RowTerm
-    rows_at None = []
-    rows_at (Some v) = rows_about s (rows (x, v))
-
-    pub about_entry : (ps : List (ℕ × V)) → Rising ps → rows_about s (all_rows ps) ≡ rows_at (look x ps)
+    pub about_entry : (ps : List (ℕ × V)) → Rising ps → rows_about s (all_rows rows ps) ≡ rows_at x (look x ps)
     about_entry [] r = refl
     about_entry (p ∷ ps) r =
-        about_joined s (rows p) (all_rows ps)
+        about_joined s (rows p) (all_rows rows ps)
         ∙ elim (cases_eq x p.0) [
           | inl e ↦ ap (λ l. rows_about s (rows p) ++ l) (none_above ps (subst (λ k. Above k ps) (sym e) r.0))
               ∙ append-nil (rows_about s (rows p))
               ∙ ap (λ k. rows_about s (rows (k, p.1))) (sym e)
-              ∙ sym (ap rows_at (ap (λ k. look k (p ∷ ps)) e ∙ look_here p ps))
-          | inr ne ↦ ap (λ l. l ++ rows_about s (all_rows ps)) (others p ne) ∙ about_entry ps r.1 ∙ sym (ap rows_at (look_past x p ps ne))
+              ∙ sym (ap (rows_at x) (ap (λ k. look k (p ∷ ps)) e ∙ look_here p ps))
+          | inr ne ↦ ap (λ l. l ++ rows_about s (all_rows rows ps)) (others p ne) ∙ about_entry ps r.1 ∙ sym (ap (rows_at x) (look_past x p ps ne))
         ]
