@@ -2,7 +2,7 @@
 use Rattle.std.proofs.Common.{◌≡◌, ◌∙◌, refl, sym, ap, subst, ℕ, ◌<◌, Bool, true, false, cond, List, [], ◌∷◌, ◌++◌, map, filter, append-nil, Option, Some, None, slice_get, inl, inr, arith}
 use Rattle.std.specs.Prelude.{option_map, All}
 use Rattle.std.proofs.lemmas.Bool.{cases_eq}
-use Rattle.std.proofs.lemmas.List.Elements.{All-filter}
+use Rattle.std.proofs.lemmas.List.Elements.{All-filter, All-nil}
 use Rattle.std.proofs.lemmas.Option.{slice_get-map}
 use Rattle.op_registry.specs.types.Things.{ContextModel}
 use Rattle.op_registry.specs.types.Terms.{name_term, type_term, attr_term}
@@ -51,6 +51,10 @@ module _ (d : ContextModel) (s : Subject) where
     says = ap (rows_meaning d) is ∙ kept_say rows ∙ ap (rows_about s) shows.says;
     known = subst (All (RowIsOf d)) (sym is) (All-filter is_row_about (RowIsOf d) rows shows.known);
   }
+
+-- no rows
+pub shows_none : (d : ContextModel) (rows : List Row) (terms : List RowTerm) → rows ≡ [] → terms ≡ [] → Shows d rows terms
+shows_none d rows terms e f = record { says = ap (rows_meaning d) e ∙ sym f; known = subst (All (RowIsOf d)) (sym e) (All-nil (RowIsOf d)) }
 
 -- the rows of two lists about a subject
 pub about_joined : (s : Subject) (a b : List RowTerm) → rows_about s (a ++ b) ≡ rows_about s a ++ rows_about s b

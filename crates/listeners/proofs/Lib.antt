@@ -15,7 +15,7 @@ pub mod Taken
 pub mod Sets
 pub mod Under
 pub mod Numbers
-pub mod Entries
+pub mod Quiet
 pub mod Reported
 pub mod Steps
 pub mod Silent

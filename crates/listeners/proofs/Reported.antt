@@ -32,7 +32,7 @@ use Rattle.listeners.specs.Lines.{lines_cells, is_out}
 use Rattle.listeners.proofs.Least.{in_among, among_in}
 use Rattle.listeners.proofs.Sets.{in_reached, reached_is_in}
 use Rattle.listeners.proofs.Numbers.{private_meant, definition_meant, to_tree, from_tree}
-use Rattle.listeners.proofs.Entries.{each_entry}
+use Rattle.listeners_symbols.proofs.Entries.{each_entry}
 use Rattle.ir_event.proofs.of_types.Truths.{same_bool}
 use Rattle.ir_event.proofs.of_tree_laws.Reasoned.{some_there}
 

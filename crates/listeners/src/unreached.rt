@@ -106,6 +106,7 @@ impl Analysis for Unreached {
         if self.stale {
             return Err(ReportFault::Stale);
         }
+        self.roles.ordered();
         if !may_hide(&self.roles, subject) {
             return Ok(Vec::new(self.alloc));
         }

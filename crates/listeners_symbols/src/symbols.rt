@@ -108,6 +108,7 @@ impl Analysis for Symbols {
         if self.stale {
             return Err(ReportFault::Stale);
         }
+        self.roles.ordered();
         if !may_tell(&self.roles, subject) {
             return Ok(Vec::new(self.alloc));
         }
