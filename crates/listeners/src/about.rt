@@ -1,12 +1,13 @@
 //! The report rows about one operation or one value. They come from the module, which lists the uses of each value, so
 //! they take no time for the uses of other values.
-ghost use Rattle.std.specs.Prelude.{◌≡◌, ◌++◌, map, option_map, IfOk, OnOk};
+ghost use Rattle.std.specs.Prelude.{◌≡◌, ◌++◌, ◌∷◌, [], map, option_and_then, option_map, slice_get, IfOk, OnOk};
 ghost use Rattle.ir_event.specs.declared.row.Row.{Row as Line};
 ghost use Rattle.ir_event.specs.store.Nodes.{node_of};
 ghost use Rattle.ir_event.specs.trees.Ids.{find};
-ghost use Rattle.listeners.specs.About.{AreSortedUses, PushesAllUses, PushesUses, about, arguments_from};
-ghost use Rattle.listeners.specs.About.{region_arguments, results_from, values_about, values_found, values_of};
-ghost use Rattle.listeners.specs.Keys.{key_cells, keys_of};
+ghost use Rattle.ir_event.specs.trees.declared.value.Value.TheVariants as value;
+ghost use Rattle.listeners.specs.About.{AreSortedUses, PushesAllUses, PushesUses, about, argument_count, arguments_from};
+ghost use Rattle.listeners.specs.About.{region_arguments, results_from, use_with, values_about, values_found, values_of};
+ghost use Rattle.listeners.specs.Keys.{key_cells, key_of, keys_of};
 ghost use Rattle.listeners.specs.Uses.{all_uses};
 
 use crate::gather::key;
@@ -14,47 +15,88 @@ use crate::key::{Use, UseKey};
 use crate::report::rows_of_keys;
 use ir_event::row::Row;
 use ir_event::store::node::Node;
+use ir_event::store::uses::UsesOf;
 use ir_event::subject::Subject;
 use ir_event::trees::value::Value;
 use ir_event::types::ids::OpId;
 use ir_event::world::World;
 use std::alloc::{AllocError, Global};
 
+/// Appends a result of an operation.
+fn push_result(op: OpId, place: usize, values: &mut Vec<Value>) -> Result<(), AllocError>
+    ensures { OnOk result (values.new.items ≡ values.old.items ++ value.Result op place ∷ []) }
+{
+    // An operation of a module has at most 256 results.
+    let Ok(number) = u32::try_from(place) else {
+        return Err(AllocError);
+    };
+    values.push(Value::Result(op, number))?;
+    Ok(())
+}
+
 /// Appends the results of an operation, given their number.
-fn push_results(op: OpId, count: u32, values: &mut Vec<Value>) -> Result<(), AllocError>
+fn push_results(op: OpId, count: usize, values: &mut Vec<Value>) -> Result<(), AllocError>
     ensures { OnOk result (values.new.items ≡ values.old.items ++ results_from op 0 count) }
 {
     let mut place = 0;
     'results: while place < count {
-        values.push(Value::Result(op, place))?;
+        push_result(op, place, values)?;
         place += 1;
     }
+    Ok(())
+}
+
+/// Appends an argument of a region's block.
+fn push_argument(
+    op: OpId,
+    region: usize,
+    place: usize,
+    values: &mut Vec<Value>,
+) -> Result<(), AllocError>
+    ensures { OnOk result (values.new.items ≡ values.old.items ++ value.Arg op region place ∷ []) }
+{
+    // An operation of a module has at most 16 regions, and a block at most 256 arguments.
+    let Ok(outer) = u32::try_from(region) else {
+        return Err(AllocError);
+    };
+    let Ok(number) = u32::try_from(place) else {
+        return Err(AllocError);
+    };
+    values.push(Value::Arg(op, outer, number))?;
     Ok(())
 }
 
 /// Appends the arguments of a region's block, given their number.
 fn push_arguments(
     op: OpId,
-    region: u32,
-    count: u32,
+    region: usize,
+    count: usize,
     values: &mut Vec<Value>,
 ) -> Result<(), AllocError>
     ensures { OnOk result (values.new.items ≡ values.old.items ++ arguments_from op region 0 count) }
 {
     let mut place = 0;
     'arguments: while place < count {
-        values.push(Value::Arg(op, region, place))?;
+        push_argument(op, region, place, values)?;
         place += 1;
     }
     Ok(())
 }
 
-/// Appends the results and block arguments of an operation.
-fn push_values(op: OpId, node: &Node<'_>, values: &mut Vec<Value>) -> Result<(), AllocError>
-    ensures { OnOk result (values.new.items ≡ values.old.items ++ values_of op node.now) }
+/// Appends the arguments of the block of a region of an operation, if it has one.
+fn push_arguments_of(
+    op: OpId,
+    node: &Node<'_>,
+    region: usize,
+    values: &mut Vec<Value>,
+) -> Result<(), AllocError>
+    ensures { OnOk result (values.new.items ≡ values.old.items
+        ++ arguments_from op region 0 (argument_count (option_and_then (λ a. a) (slice_get node.now.arguments region)))) }
 {
-    push_results(op, node.results().len() as u32, values)?;
-    push_region_arguments(op, node, values)
+    match node.arguments(region) {
+        None => Ok(()),
+        Some(types) => push_arguments(op, region, types.len(), values),
+    }
 }
 
 /// Appends the arguments of an operation's blocks.
@@ -67,11 +109,18 @@ fn push_region_arguments(
 {
     let mut region = 0;
     'regions: while region < node.region_count() {
-        if let Some(types) = node.arguments(region) {
-            push_arguments(op, region as u32, types.len() as u32, values)?;
-        }
+        push_arguments_of(op, node, region, values)?;
         region += 1;
     }
+    Ok(())
+}
+
+/// Appends the results and block arguments of an operation.
+fn push_values(op: OpId, node: &Node<'_>, values: &mut Vec<Value>) -> Result<(), AllocError>
+    ensures { OnOk result (values.new.items ≡ values.old.items ++ values_of op node.now) }
+{
+    push_results(op, node.results().len(), values)?;
+    push_region_arguments(op, node, values)?;
     Ok(())
 }
 
@@ -102,18 +151,42 @@ fn push_values_of(world: &World, op: OpId, values: &mut Vec<Value>) -> Result<()
     }
 }
 
+/// Appends the key of the use of a value by an operand.
+fn push_use(
+    value: Value,
+    user: OpId,
+    operand: u32,
+    keys: &mut Vec<UseKey>,
+) -> Result<(), AllocError>
+    ensures { OnOk result (keys.new.items ≡ keys.old.items ++ key_of (use_with value (user, operand)) ∷ []) }
+{
+    keys.push(key(&Use {
+        value,
+        user,
+        operand,
+    }))?;
+    Ok(())
+}
+
+/// Appends the keys of uses of a value.
+fn push_each_use(
+    uses: UsesOf<'_>,
+    value: Value,
+    keys: &mut Vec<UseKey>,
+) -> Result<(), AllocError>
+    ensures { OnOk result (keys.new.items ≡ keys.old.items ++ keys_of (map (use_with value) uses.entry)) }
+{
+    for (user, operand) in uses {
+        push_use(value, user, operand, keys)?;
+    }
+    Ok(())
+}
+
 /// Appends the keys of the uses of a value.
 fn push_uses(world: &World, value: Value, keys: &mut Vec<UseKey>) -> Result<(), AllocError>
     ensures { OnOk result (PushesUses value world.now.store.module_of.tree keys.old.items keys.new.items) }
 {
-    let mut rest = world.store.uses(value);
-    'uses: while let Some((user, operand)) = rest.next() {
-        keys.push(key(&Use {
-            value,
-            user,
-            operand,
-        }))?;
-    }
+    push_each_use(world.store.uses(value), value, keys)?;
     Ok(())
 }
 

@@ -7,6 +7,9 @@ use Rattle.ir_event.specs.trees.Meaning.{Operation}
 use Rattle.ir_event.specs.declared.row.Cell.{Cell}
 use Rattle.ir_event.specs.declared.row.Cell.TheVariants.{Num}
 use Rattle.ir_event.specs.declared.row.Row.{Row as Line}
+use Rattle.ir_event.specs.declared.subject.Subject.{Subject}
+use Rattle.ir_event.specs.declared.subject.Subject.TheVariants as subject
+use Rattle.ir_event.specs.Subjects.{rows_about}
 use Rattle.ir_event.specs.Rows.{cell_meaning, rows_meaning, CellIsOf, RowIsOf, Shows}
 use Rattle.listeners_support.specs.Facts.{kept_facts}
 use Rattle.listeners_example.specs.declared.additions.IsAddition.{IsAddition}
@@ -33,3 +36,8 @@ module _ (c : ContextModel) where
     says = lines_say rows ∙ ap (map (map (cell_meaning c))) is ∙ ap (λ k. map (map (cell_meaning c)) ((Num k ∷ []) ∷ [])) (count ∙ ap length e);
     known = lines_known rows (subst AreOf (sym is) (one_known n));
   }
+
+-- the row is about no operation and about no value
+pub none_about : (s : Subject) (t : Operation) → rows_about s (additions_of t) ≡ []
+none_about (subject.Op x) t = refl
+none_about (subject.Val v) t = refl
