@@ -11,9 +11,9 @@ use crate::report::{lines, lines_about};
 use ir_event::analysis::Analysis;
 use ir_event::event::Event;
 use ir_event::row::{Kind, Memory, ReportFault, Row};
+use ir_event::subject::Subject;
 use ir_event::types::bits::Bits;
 use ir_event::types::ids::OpId;
-use ir_event::subject::Subject;
 use ir_event::view::View;
 use ir_event::world::World;
 use listeners_support::IdMap;
@@ -98,11 +98,7 @@ impl Analysis for Constants {
         }
     }
 
-    fn report_about(
-        &self,
-        _world: &World,
-        subject: &Subject,
-    ) -> Result<Vec<Row>, ReportFault> {
+    fn report_about(&self, _world: &World, subject: &Subject) -> Result<Vec<Row>, ReportFault> {
         if self.stale {
             return Err(ReportFault::Stale);
         }

@@ -106,43 +106,39 @@ pub(crate) fn lines_about(
     ensures { IfOk result (λ out. map (λ (r : Line). r.cells.items) out.items
         ≡ map cells_of (entries_about subject.now table.now)) }
 {
-    let mut out = Vec::new(alloc);
     match subject {
-        Subject::Op(op) => push_line_of(alloc, table, *op, &mut out)?,
-        Subject::Val(value) => push_line_of_value(alloc, table, value, &mut out)?,
+        Subject::Op(op) => lines_of(alloc, table, *op),
+        Subject::Val(value) => lines_of_value(alloc, table, value),
     }
-    Ok(out)
 }
 
-/// Appends the row of a value, if it is known.
-fn push_line_of_value(
-    alloc: Global,
-    table: &IdMap<Bits>,
-    value: &Value,
-    out: &mut Vec<Row>,
-) -> Result<(), AllocError>
-    ensures { OnOk result (map (λ (r : Line). r.cells.items) out.new.items
-        ≡ map (λ (r : Line). r.cells.items) out.old.items ++ map cells_of (entry_at value.now table.now)) }
+/// Returns the row of a value, if it is known.
+fn lines_of_value(alloc: Global, table: &IdMap<Bits>, value: &Value) -> Result<Vec<Row>, AllocError>
+    ensures { IfOk result (λ out. map (λ (r : Line). r.cells.items) out.items
+        ≡ map cells_of (entry_at value.now table.now)) }
 {
     match *value {
-        Value::Result(op, place) if place == 0 => push_line_of(alloc, table, op, out),
-        Value::Result(_, _) => Ok(()),
-        Value::Arg(_, _, _) => Ok(()),
+        Value::Result(op, place) if place == 0 => lines_of(alloc, table, op),
+        Value::Result(_, _) => Ok(Vec::new(alloc)),
+        Value::Arg(_, _, _) => Ok(Vec::new(alloc)),
     }
 }
 
-/// Appends the row of an operation's result, if its value is known.
-fn push_line_of(
-    alloc: Global,
-    table: &IdMap<Bits>,
-    op: OpId,
-    out: &mut Vec<Row>,
-) -> Result<(), AllocError>
-    ensures { OnOk result (map (λ (r : Line). r.cells.items) out.new.items
-        ≡ map (λ (r : Line). r.cells.items) out.old.items ++ map cells_of (entry_of op table.now)) }
+/// Returns the row of an operation's result, if its value is known.
+fn lines_of(alloc: Global, table: &IdMap<Bits>, op: OpId) -> Result<Vec<Row>, AllocError>
+    ensures { IfOk result (λ out. map (λ (r : Line). r.cells.items) out.items ≡ map cells_of (entry_of op table.now)) }
 {
     match table.get(op.number()) {
-        None => Ok(()),
-        Some(bits) => push_line(alloc, op, bits, out),
+        None => Ok(Vec::new(alloc)),
+        Some(bits) => one_line(alloc, op, bits),
     }
+}
+
+/// Returns the row of a known value, alone.
+fn one_line(alloc: Global, op: OpId, bits: &Bits) -> Result<Vec<Row>, AllocError>
+    ensures { IfOk result (λ out. map (λ (r : Line). r.cells.items) out.items ≡ cells_of (op, bits.now) ∷ []) }
+{
+    let mut out = Vec::new(alloc);
+    push_line(alloc, op, bits, &mut out)?;
+    Ok(out)
 }

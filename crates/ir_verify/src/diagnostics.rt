@@ -68,11 +68,7 @@ impl Analysis for Diagnostics {
         }
     }
 
-    fn report_about(
-        &self,
-        _world: &World,
-        subject: &Subject,
-    ) -> Result<Vec<Row>, ReportFault> {
+    fn report_about(&self, _world: &World, subject: &Subject) -> Result<Vec<Row>, ReportFault> {
         if self.kept.stale() {
             return Err(ReportFault::Stale);
         }

@@ -84,26 +84,28 @@ pub(crate) fn rows_about(
 ) -> Result<Vec<Row>, AllocError>
     ensures { IfOk result (λ out. map (λ (r : Line). r.cells.items) out.items ≡ cells_about subject.now table.now) }
 {
-    let mut out = Vec::new(alloc);
     match subject {
-        Subject::Op(op) => push_reported_of(alloc, table, *op, &mut out)?,
-        Subject::Val(_) => {}
+        Subject::Op(op) => rows_of(alloc, table, *op),
+        Subject::Val(_) => Ok(Vec::new(alloc)),
     }
-    Ok(out)
 }
 
-/// Appends the rows of an operation, if the table has it.
-fn push_reported_of(
-    alloc: Global,
-    table: &BTreeMap<u32, Finding>,
-    op: OpId,
-    out: &mut Vec<Row>,
-) -> Result<(), AllocError>
-    ensures { OnOk result (map (λ (r : Line). r.cells.items) out.new.items
-        ≡ map (λ (r : Line). r.cells.items) out.old.items ++ found_cells op (get nat_cmp table.now op)) }
+/// Returns a row for each reported rule of an operation, if the table has it.
+fn rows_of(alloc: Global, table: &BTreeMap<u32, Finding>, op: OpId) -> Result<Vec<Row>, AllocError>
+    ensures { IfOk result (λ out. map (λ (r : Line). r.cells.items) out.items ≡ found_cells op (get nat_cmp table.now op)) }
 {
     match table.get(&op.number()) {
-        None => Ok(()),
-        Some(finding) => push_reported(alloc, op, finding, out),
+        None => Ok(Vec::new(alloc)),
+        Some(finding) => reported_rows(alloc, op, finding),
     }
+}
+
+/// Returns a row for each reported rule of an operation.
+fn reported_rows(alloc: Global, op: OpId, finding: &Finding) -> Result<Vec<Row>, AllocError>
+    ensures { IfOk result (λ out. map (λ (r : Line). r.cells.items) out.items
+        ≡ rules_cells op (reported_rules finding.now)) }
+{
+    let mut out = Vec::new(alloc);
+    push_reported(alloc, op, finding, &mut out)?;
+    Ok(out)
 }

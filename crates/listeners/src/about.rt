@@ -125,30 +125,33 @@ fn push_values(op: OpId, node: &Node<'_>, values: &mut Vec<Value>) -> Result<(),
 }
 
 /// Returns the values that a report is about: the value, or the results and block arguments of the operation.
-fn values_about(
-    alloc: Global,
-    world: &World,
-    subject: &Subject,
-) -> Result<Vec<Value>, AllocError>
+fn values_about(alloc: Global, world: &World, subject: &Subject) -> Result<Vec<Value>, AllocError>
     ensures { IfOk result (λ values. values.items ≡ values_about subject.now world.now.store.module_of.tree) }
 {
-    let mut values = Vec::new(alloc);
     match subject {
-        Subject::Val(value) => values.push(*value)?,
-        Subject::Op(op) => push_values_of(world, *op, &mut values)?,
+        Subject::Op(op) => values_of_op(alloc, world, *op),
+        Subject::Val(value) => [*value].to_vec(alloc),
     }
-    Ok(values)
 }
 
-/// Appends the results and block arguments of an operation, if it is in the module.
-fn push_values_of(world: &World, op: OpId, values: &mut Vec<Value>) -> Result<(), AllocError>
-    ensures { OnOk result (values.new.items
-        ≡ values.old.items ++ values_found op (option_map node_of (find op world.now.store.module_of.tree))) }
+/// Returns the results and block arguments of an operation, if it is in the module.
+fn values_of_op(alloc: Global, world: &World, op: OpId) -> Result<Vec<Value>, AllocError>
+    ensures { IfOk result (λ values. values.items
+        ≡ values_found op (option_map node_of (find op world.now.store.module_of.tree))) }
 {
     match world.shown(op) {
-        None => Ok(()),
-        Some(node) => push_values(op, &node, values),
+        None => Ok(Vec::new(alloc)),
+        Some(node) => values_of(alloc, op, &node),
     }
+}
+
+/// Returns the results and block arguments of an operation.
+fn values_of(alloc: Global, op: OpId, node: &Node<'_>) -> Result<Vec<Value>, AllocError>
+    ensures { IfOk result (λ values. values.items ≡ values_of op node.now) }
+{
+    let mut values = Vec::new(alloc);
+    push_values(op, node, &mut values)?;
+    Ok(values)
 }
 
 /// Appends the key of the use of a value by an operand.
@@ -169,11 +172,7 @@ fn push_use(
 }
 
 /// Appends the keys of uses of a value.
-fn push_each_use(
-    uses: UsesOf<'_>,
-    value: Value,
-    keys: &mut Vec<UseKey>,
-) -> Result<(), AllocError>
+fn push_each_use(uses: UsesOf<'_>, value: Value, keys: &mut Vec<UseKey>) -> Result<(), AllocError>
     ensures { OnOk result (keys.new.items ≡ keys.old.items ++ keys_of (map (use_with value) uses.entry)) }
 {
     for (user, operand) in uses {
@@ -191,11 +190,7 @@ fn push_uses(world: &World, value: Value, keys: &mut Vec<UseKey>) -> Result<(), 
 }
 
 /// Appends the keys of the uses of values.
-fn push_all_uses(
-    world: &World,
-    values: &[Value],
-    keys: &mut Vec<UseKey>,
-) -> Result<(), AllocError>
+fn push_all_uses(world: &World, values: &[Value], keys: &mut Vec<UseKey>) -> Result<(), AllocError>
     ensures { OnOk result (PushesAllUses values.now world.now.store.module_of.tree keys.old.items keys.new.items) }
 {
     let mut left = values;
@@ -207,11 +202,7 @@ fn push_all_uses(
 }
 
 /// Returns the sorted keys of the uses of values.
-fn sorted_uses(
-    alloc: Global,
-    world: &World,
-    values: &[Value],
-) -> Result<Vec<UseKey>, AllocError>
+fn sorted_uses(alloc: Global, world: &World, values: &[Value]) -> Result<Vec<UseKey>, AllocError>
     ensures { IfOk result (λ keys. AreSortedUses values.now world.now.store.module_of.tree keys.items) }
 {
     let mut keys = Vec::new(alloc);

@@ -98,11 +98,7 @@ impl Analysis for Unreached {
         }
     }
 
-    fn report_about(
-        &self,
-        _world: &World,
-        subject: &Subject,
-    ) -> Result<Vec<Row>, ReportFault> {
+    fn report_about(&self, _world: &World, subject: &Subject) -> Result<Vec<Row>, ReportFault> {
         if self.stale {
             return Err(ReportFault::Stale);
         }

@@ -105,11 +105,7 @@ impl Analysis for AdditionCount {
     }
 
     /// No row is about an operation or a value.
-    fn report_about(
-        &self,
-        _world: &World,
-        _subject: &Subject,
-    ) -> Result<Vec<Row>, ReportFault> {
+    fn report_about(&self, _world: &World, _subject: &Subject) -> Result<Vec<Row>, ReportFault> {
         if self.kept.stale() {
             return Err(ReportFault::Stale);
         }

@@ -100,11 +100,7 @@ impl Analysis for Symbols {
         }
     }
 
-    fn report_about(
-        &self,
-        _world: &World,
-        subject: &Subject,
-    ) -> Result<Vec<Row>, ReportFault> {
+    fn report_about(&self, _world: &World, subject: &Subject) -> Result<Vec<Row>, ReportFault> {
         if self.stale {
             return Err(ReportFault::Stale);
         }

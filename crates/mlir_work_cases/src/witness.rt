@@ -87,11 +87,7 @@ impl Analysis for Witness {
         Ok(Vec::new(self.alloc))
     }
 
-    fn report_about(
-        &self,
-        _world: &World,
-        _subject: &Subject,
-    ) -> Result<Vec<Row>, ReportFault> {
+    fn report_about(&self, _world: &World, _subject: &Subject) -> Result<Vec<Row>, ReportFault> {
         if self.stale {
             return Err(ReportFault::Stale);
         }
