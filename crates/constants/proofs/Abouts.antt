@@ -20,7 +20,7 @@ use Rattle.constants.specs.Tables.{entries_about, entry_at, entry_if, entry_of, 
 abbrev pub said : List (ℕ × Bits) → List (ℕ × Known)
 said es = map (λ (e : ℕ × Bits). (e.0, (e.1.kind, e.1.value))) es
 
-rows : ℕ × Known → List RowTerm
+abbrev rows : ℕ × Known → List RowTerm
 rows p = constant_row p ∷ []
 
 gathered : (ps : List (ℕ × Known)) → map constant_row ps ≡ all_rows rows ps

@@ -17,7 +17,7 @@ use Rattle.effects.specs.Reports.{having, those, cells_of, cell_of}
 
 -- ---- effects
 
-effect_rows : ℕ × EffectKinds → List RowTerm
+abbrev effect_rows : ℕ × EffectKinds → List RowTerm
 effect_rows p = map (cells_of Op Tag) (having (p ∷ []))
 
 effects_gathered : (ps : List (ℕ × EffectKinds)) → map (cells_of Op Tag) (having ps) ≡ all_rows effect_rows ps
@@ -56,7 +56,7 @@ no_effects v ps = ap (rows_about (subject.Val v)) (effects_gathered ps) ∙ abou
 
 -- ---- dead operations
 
-dead_row : ℕ × Bool → List RowTerm
+abbrev dead_row : ℕ × Bool → List RowTerm
 dead_row p = map (cell_of Op) (those (p ∷ []))
 
 dead_gathered : (ps : List (ℕ × Bool)) → map (cell_of Op) (those ps) ≡ all_rows dead_row ps

@@ -2,7 +2,7 @@
 use Rattle.std.proofs.Common.{◌≡◌, ◌∙◌, refl, sym, ap, subst, ℕ, ◌<◌, Bool, true, false, cond, List, [], ◌∷◌, ◌++◌, map, filter, append-nil, Option, Some, None, slice_get, inl, inr, arith}
 use Rattle.std.specs.Prelude.{option_map, All}
 use Rattle.std.proofs.lemmas.Bool.{cases_eq}
-use Rattle.std.proofs.lemmas.List.Elements.{All-filter, All-nil}
+use Rattle.std.proofs.lemmas.List.Elements.{All-filter, All-nil, filter-append}
 use Rattle.std.proofs.lemmas.Option.{slice_get-map}
 use Rattle.op_registry.specs.types.Things.{ContextModel}
 use Rattle.op_registry.specs.types.Terms.{name_term, type_term, attr_term}
@@ -56,14 +56,6 @@ module _ (d : ContextModel) (s : Subject) where
 pub shows_none : (d : ContextModel) (rows : List Row) (terms : List RowTerm) → rows ≡ [] → terms ≡ [] → Shows d rows terms
 shows_none d rows terms e f = record { says = ap (rows_meaning d) e ∙ sym f; known = subst (All (RowIsOf d)) (sym e) (All-nil (RowIsOf d)) }
 
--- the rows of two lists about a subject
-pub about_joined : (s : Subject) (a b : List RowTerm) → rows_about s (a ++ b) ≡ rows_about s a ++ rows_about s b
-about_joined s [] b = refl
-about_joined s (r ∷ a) b = elim (is_about s r) as (λ z. cond z (r ∷ rows_about s (a ++ b)) (rows_about s (a ++ b)) ≡ cond z (r ∷ rows_about s a) (rows_about s a) ++ rows_about s b) [
-  | true ↦ ap (λ l. r ∷ l) (about_joined s a b)
-  | false ↦ about_joined s a b
-]
-
 -- rows by entries of a table
 abbrev pub all_rows : {V : Type 0} → (ℕ × V → List RowTerm) → List (ℕ × V) → List RowTerm
 all_rows rows [] = []
@@ -73,7 +65,7 @@ module _ {V : Type 0} (s : Subject) (rows : ℕ × V → List RowTerm) where
   -- no entry has rows about the subject
   pub about_none : ((p : ℕ × V) → rows_about s (rows p) ≡ []) → (ps : List (ℕ × V)) → rows_about s (all_rows rows ps) ≡ []
   about_none none [] = refl
-  about_none none (p ∷ ps) = about_joined s (rows p) (all_rows rows ps) ∙ λ i. none p i ++ about_none none ps i
+  about_none none (p ∷ ps) = filter-append (is_about s) (rows p) (all_rows rows ps) ∙ λ i. none p i ++ about_none none ps i
 
   -- the rows about the subject, by the entry of x
   abbrev pub rows_at : ℕ → Option V → List RowTerm
@@ -86,12 +78,12 @@ module _ {V : Type 0} (s : Subject) (rows : ℕ × V → List RowTerm) where
     none_above [] a = refl
     none_above (p ∷ ps) a =
         let apart : x ≡ p.0 → ⊥ = λ e. (let l = a.0 in omega (arith, e, l)) in
-        about_joined s (rows p) (all_rows rows ps) ∙ λ i. others p apart i ++ none_above ps a.1 i
+        filter-append (is_about s) (rows p) (all_rows rows ps) ∙ λ i. others p apart i ++ none_above ps a.1 i
 
     pub about_entry : (ps : List (ℕ × V)) → Rising ps → rows_about s (all_rows rows ps) ≡ rows_at x (look x ps)
     about_entry [] r = refl
     about_entry (p ∷ ps) r =
-        about_joined s (rows p) (all_rows rows ps)
+        filter-append (is_about s) (rows p) (all_rows rows ps)
         ∙ elim (cases_eq x p.0) [
           | inl e ↦ ap (λ l. rows_about s (rows p) ++ l) (none_above ps (subst (λ k. Above k ps) (sym e) r.0))
               ∙ append-nil (rows_about s (rows p))

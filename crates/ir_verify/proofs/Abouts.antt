@@ -49,7 +49,7 @@ look_read x (e ∷ es) =
 
 -- ---- rows
 
-entry_rows : ℕ × List ℕ → List RowTerm
+abbrev entry_rows : ℕ × List ℕ → List RowTerm
 entry_rows p = rule_rows p.0 p.1
 
 gathered : (ps : List (ℕ × List ℕ)) → rows_of ps ≡ all_rows entry_rows ps

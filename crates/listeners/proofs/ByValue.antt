@@ -3,7 +3,7 @@ use Rattle.std.proofs.Common.{◌≡◌, refl, ap, sym, ◌∙◌, subst, ℕ, z
 use Rattle.std.specs.Prelude.{option_map, option_and_then, is_some, slice_get}
 use Rattle.std.specs.List.{AllByRecursion, IsDistinct, list_all}
 use Rattle.std.proofs.lemmas.List.{map-append}
-use Rattle.std.proofs.lemmas.Option.{slice_get_within}
+use Rattle.std.proofs.lemmas.List.Elements.{filter-append}
 use Rattle.ir_event.specs.trees.declared.value.Value.{Value}
 use Rattle.ir_event.specs.trees.declared.value.Value.TheVariants.{Result, Arg}
 use Rattle.ir_event.specs.trees.Frames.{owner_of}
@@ -46,13 +46,6 @@ operands_with v x k (w ∷ ws) = go (operands_with v x (k + 1) ws) (same_value v
     go rest true e = λ i. record { value = same_value_true v w e i; user = x; operand = k } ∷ rest i
     go rest false e = rest
 
-filter_joined : {X : Type 0} (p : X → Bool) (as bs : List X) → filter p (as ++ bs) ≡ filter p as ++ filter p bs
-filter_joined p [] bs = refl
-filter_joined p (a ∷ as) bs = elim (p a) as (λ b. cond b (a ∷ filter p (as ++ bs)) (filter p (as ++ bs)) ≡ cond b (a ∷ filter p as) (filter p as) ++ filter p bs) [
-  | true ↦ ap (λ l. a ∷ l) (filter_joined p as bs)
-  | false ↦ filter_joined p as bs
-]
-
 -- the uses of an operation
 abbrev own : OpWithPathOf ℕ ℕ ℕ → List Use
 own s = operand_uses (op_with_path_id s) 0 (head s.here).operands
@@ -65,7 +58,7 @@ gathered_with v [] = refl
 gathered_with v (s ∷ ss) =
     map-append (use_with v) (own_of v s) (gather (own_of v) ss)
     ∙ (λ i. operands_with v (op_with_path_id s) 0 (head s.here).operands i ++ gathered_with v ss i)
-    ∙ sym (filter_joined (is_of v) (own s) (gather own ss))
+    ∙ sym (filter-append (is_of v) (own s) (gather own ss))
 
 -- the uses of a value are among the uses of the tree
 uses_with : (v : Value) (t : Op) → map (use_with v) (uses_of v t) ≡ filter (is_of v) (uses_in t)
@@ -181,11 +174,9 @@ module _ (t : Op) where
 
 -- ---- the values about a subject
 below : {X : Type 0} (xs : List X) (k : ℕ) → is_some (slice_get xs k) ≡ true → k < length xs
-below xs k e = go (slice_get xs k) refl e
-  where
-    go : (o : Option _) → slice_get xs k ≡ o → is_some o ≡ true → k < length xs
-    go None i h = absurd (true≢false (sym h))
-    go (Some y) i h = slice_get_within xs k y i
+below [] k e = absurd (true≢false (sym e))
+below (x ∷ xs) zero e = omega arith
+below (x ∷ xs) (suc k) e = omega (arith, below xs k e)
 
 -- whether an operation has a value, by its index
 abbrev has_here : Value → Op → Bool
@@ -208,11 +199,7 @@ module _ (x : ℕ) where
   once_results : (k n : ℕ) → Once (results_from x k n)
   once_results k zero = tt
   once_results k (suc n) =
-      ((λ h. (let r = in_results (Result x k) (k + 1) n h in let same : k ≡ r.0 = ap place r.1 in let l = r.2 in absurd (omega (arith, same, l)))), once_results (k + 1) n)
-    where
-      place : Value → ℕ
-      place (Result y j) = j
-      place (Arg y r j) = j
+      ((λ h. (let r = in_results (Result x k) (k + 1) n h in let e : Result x k ≡ Result x r.0 = r.1 in let same : k ≡ r.0 = cc in let l = r.2 in absurd (omega (arith, same, l)))), once_results (k + 1) n)
 
   module _ (r : ℕ) where
     in_arguments : (v : Value) (k n : ℕ) → In v (arguments_from x r k n) → (j : ℕ) × (v ≡ Arg x r j) × (k ≤ j)
@@ -230,11 +217,7 @@ module _ (x : ℕ) where
     once_arguments : (k n : ℕ) → Once (arguments_from x r k n)
     once_arguments k zero = tt
     once_arguments k (suc n) =
-        ((λ h. (let q = in_arguments (Arg x r k) (k + 1) n h in let same : k ≡ q.0 = ap place q.1 in let l = q.2 in absurd (omega (arith, same, l)))), once_arguments (k + 1) n)
-      where
-        place : Value → ℕ
-        place (Result y j) = j
-        place (Arg y s j) = j
+        ((λ h. (let q = in_arguments (Arg x r k) (k + 1) n h in let e : Arg x r k ≡ Arg x r q.0 = q.1 in let same : k ≡ q.0 = cc in let l = q.2 in absurd (omega (arith, same, l)))), once_arguments (k + 1) n)
 
   module _ {T : Type 0} where
     in_regions : (v : Value) (r : ℕ) (as : List (Option (List T))) → In v (region_arguments x r as) → (s j : ℕ) × (v ≡ Arg x s j) × (r ≤ s)
@@ -250,13 +233,10 @@ module _ (x : ℕ) where
         once_joined (arguments_from x r 0 (argument_count a)) (region_arguments x (r + 1) as) (once_arguments r 0 (argument_count a)) (once_regions (r + 1) as)
         (λ v h k. (let q = in_arguments r v 0 (argument_count a) h in
           let p = in_regions v (r + 1) as k in
-          let same : r ≡ p.0 = ap number (sym q.1 ∙ p.2) in
+          let e : Arg x r q.0 ≡ Arg x p.0 p.1 = sym q.1 ∙ p.2 in
+          let same : r ≡ p.0 = cc in
           let l = p.3 in
           absurd (omega (arith, same, l))))
-      where
-        number : Value → ℕ
-        number (Result y j) = 0
-        number (Arg y s j) = s
 
   once_values : (n : NodeOf ℕ ℕ ℕ) → Once (values_of x n)
   once_values n =
@@ -298,7 +278,8 @@ module _ (x : ℕ) where
       (subst (λ z. In (Result z k) (results_from x 0 (length h.results))) (sym e) (result_in k 0 (length h.results) (omega arith) (omega (arith, few))))
   value_there (Arg y r k) (op h rs) e i =
       in_right (Arg y r k) (results_from x 0 (length h.results)) (region_arguments x 0 (regions_arguments rs))
-      (subst (λ z. In (Arg z r k) (region_arguments x 0 (regions_arguments rs))) (sym e) (argument_there r k 0 rs i))
+      (subst (λ z. In (Arg z r k) (region_arguments x 0 (regions_arguments rs))) (sym e)
+      (subst (λ s. In (Arg x s k) (region_arguments x 0 (regions_arguments rs))) (let at : 0 + r ≡ r = omega arith in at) (argument_there r k 0 rs i)))
 
   value_found : (v : Value) (t : Op) → (owner_of v).0 ≡ x → has_value v t ≡ true → In v (values_found x (option_map node_of (find x t)))
   value_found (Result y k) t e h = go (find x t) refl

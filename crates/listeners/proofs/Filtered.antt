@@ -2,7 +2,7 @@
 use Rattle.std.proofs.Common.{◌≡◌, refl, ap, sym, ◌∙◌, subst, Bool, true, false, true≢false, cond, List, [], ◌∷◌, ◌++◌, filter, inl, inr}
 use Rattle.std.specs.Ordering.{is_gt}
 use Rattle.ir_event.specs.tree_laws.Members.{In}
-use Rattle.ir_event.proofs.of_tree_laws.Listed.{bool_cases, in_left, in_right, in_parts}
+use Rattle.ir_event.proofs.of_tree_laws.Listed.{bool_cases, in_filtered, in_left, in_right, in_parts}
 use Rattle.listeners.specs.declared.key.Use.{Use}
 use Rattle.listeners.specs.Uses.{use_cmp, put_use, in_order}
 use Rattle.listeners.proofs.Orders.{insert_sorted, not_both, put_after, put_first, trailing}
@@ -101,19 +101,7 @@ pub once_filter : {X : Type 0} (p : X → Bool) (xs : List X) → Once xs → On
 once_filter p [] o = tt
 once_filter p (x ∷ xs) o =
     let rest = once_filter p xs o.1 in
-    elim (p x) as (λ b. Once (cond b (x ∷ filter p xs) (filter p xs))) [ true ↦ ((λ h. o.0 (within h)), rest) | false ↦ rest ]
-  where
-    from : (x : X) (xs : List X) → In x (filter p xs) → In x xs
-    from x [] h = h
-    from x (y ∷ ys) h = go (p y) h
-      where
-        go : (b : Bool) → In x (cond b (y ∷ filter p ys) (filter p ys)) → In x (y ∷ ys)
-        go true (inl e) = inl e
-        go true (inr k) = inr (from x ys k)
-        go false k = inr (from x ys k)
-
-    within : In x (filter p xs) → In x xs
-    within h = from x xs h
+    elim (p x) as (λ b. Once (cond b (x ∷ filter p xs) (filter p xs))) [ true ↦ ((λ h. o.0 (in_filtered p x xs h).0), rest) | false ↦ rest ]
 
 record Split (u : Use) (ws : List Use) : Type 0 where
   preceding : List Use

@@ -1,6 +1,7 @@
 -- The lists that the code builds step by step.
 use Rattle.std.proofs.Common.{◌≡◌, refl, ap, sym, ◌∙◌, subst, ℕ, zero, suc, ◌+◌, ◌-◌, ◌<◌, ◌≤◌, List, [], ◌∷◌, ◌++◌, append_assoc, append-nil, length, map, drop, take, Option, Some, None, arith}
 use Rattle.std.specs.Prelude.{option_and_then, slice_get}
+use Rattle.std.proofs.lemmas.List.{drop_all}
 use Rattle.ir_event.specs.store.Using.{AreUses}
 use Rattle.ir_event.specs.trees.Tree.{Op}
 use Rattle.ir_event.specs.trees.declared.value.Value.{Value}
@@ -55,13 +56,9 @@ pub region_next : (x s r : ℕ) (as : List (Option (List ℕ))) → r < length a
 region_next x s r [] l = absurd (omega (arith, l))
 region_next x s zero (None ∷ as) l = refl
 region_next x s zero (Some ts ∷ as) l = refl
-region_next x s (suc r) (a ∷ as) l = region_next x s r as (omega (arith, l))
-
-none_left : {X : Type 0} (xs : List X) (k : ℕ) → length xs ≤ k → drop k xs ≡ []
-none_left [] zero l = refl
-none_left [] (suc k) l = refl
-none_left (x ∷ xs) zero l = absurd (omega (arith, l))
-none_left (x ∷ xs) (suc k) l = none_left xs k (omega (arith, l))
+region_next x s (suc r) (a ∷ as) l =
+    let at : suc (r + 1) ≡ suc r + 1 = omega arith in
+    region_next x s r as (omega (arith, l)) ∙ ap (λ k. arguments_from x s 0 (argument_count (option_and_then (λ a. a) (slice_get as r))) ++ region_arguments x (s + 1) (drop k (a ∷ as))) at
 
 module _ (x : ℕ) (as : List (Option (List ℕ))) (out : List Value) where
   pub regions_more : (r : ℕ) (now new : List Value) → r < length as → new ≡ now ++ arguments_from x r 0 (argument_count (option_and_then (λ a. a) (slice_get as r)))
@@ -69,7 +66,7 @@ module _ (x : ℕ) (as : List (Option (List ℕ))) (out : List Value) where
   regions_more r now new l is e = some_more now new _ (region_arguments x (r + 1) (drop (r + 1) as)) _ is (ap (λ m. now ++ m) (sym (region_next x r r as l)) ∙ e)
 
   pub regions_end : (r : ℕ) (now : List Value) → length as ≤ r → now ++ region_arguments x r (drop r as) ≡ out ++ region_arguments x 0 as → now ≡ out ++ region_arguments x 0 as
-  regions_end r now l e = sym (append-nil now) ∙ ap (λ m. now ++ region_arguments x r m) (sym (none_left as r l)) ∙ e
+  regions_end r now l e = sym (append-nil now) ∙ ap (λ m. now ++ region_arguments x r m) (sym (drop_all r as l)) ∙ e
 
 -- ---- uses
 -- whatever the uses of the values that are left are, they end the uses of all values

@@ -1,6 +1,7 @@
 -- A report of symbols has no rows about an operation that defines, references and calls no symbol, nor about a value.
 use Rattle.std.proofs.Common.{◌≡◌, ◌∙◌, refl, sym, ap, subst, ℕ, Bool, true, false, true≢false, ◌&&◌, ◌||◌, cond, eqb, eqb-true, List, [], ◌∷◌, ◌++◌, map, Option, Some, None, inl, inr}
 use Rattle.std.specs.Prelude.{option_map, is_some}
+use Rattle.std.proofs.lemmas.Bool.{or_parts}
 use Rattle.listeners_support.specs.Map as idmap
 use Rattle.ir_event.specs.types.Things.{ContextModel}
 use Rattle.ir_event.specs.types.Terms.{TypeTerm, AttrTerm, name_term, type_term, attr_term}
@@ -164,10 +165,6 @@ module _ {N T A : Type 0} (x : ℕ) where
 
 -- ---- an operation whose entry concerns no symbols
 
-parts : (a b : Bool) → (a || b) ≡ false → (a ≡ false) × (b ≡ false)
-parts true b e = absurd (true≢false e)
-parts false b e = (refl, e)
-
 module _ (b : ContextModel) where
   no_definition : (home symbol : Option ℕ) → (is_some home && is_some symbol) ≡ false → (is_some home && is_some (option_map (name_term b) symbol)) ≡ false
   no_definition None symbol e = refl
@@ -184,8 +181,8 @@ module _ (b : ContextModel) where
 
   quiet_role : (x : ℕ) (r : Numbers) → concerns_symbols r ≡ false → IsQuiet x (role_meaning b r)
   quiet_role x r e =
-      let one = parts (is_some r.home && is_some r.symbol) (has_some r.references.items || is_some r.call) e in
-      let two = parts (has_some r.references.items) (is_some r.call) one.1 in
+      let one = or_parts (is_some r.home && is_some r.symbol) (has_some r.references.items || is_some r.call) e in
+      let two = or_parts (has_some r.references.items) (is_some r.call) one.1 in
       (no_definition r.home r.symbol one.0, no_references r.references.items two.0, no_call r.call two.1)
 
   quiet_entries : (x : ℕ) (es : List (ℕ × Numbers)) → Each (λ (e : ℕ × Numbers). eqb e.0 x ≡ true → concerns_symbols e.1 ≡ false) es → Quiet x (meant b es)
