@@ -56,10 +56,10 @@ module _ (ps : List (ℕ × Known)) (rising : Rising ps) (table : IdMap Bits) wh
   other_result : (x k : ℕ) → eqb k 0 ≡ false → rows_about (subject.Val (Result x k)) (map constant_row ps) ≡ []
   other_result x k ne =
       ap (rows_about (subject.Val (Result x k))) (gathered ps)
-      ∙ about_none (subject.Val (Result x k)) rows (λ p. ap (λ b. cond (eqb p.0 x && b) (constant_row p ∷ []) []) zero ∙ neither (eqb p.0 x) (constant_row p)) ps
+      ∙ about_none (subject.Val (Result x k)) rows (λ p. ap (λ b. cond (eqb p.0 x && b) (constant_row p ∷ []) []) apart ∙ neither (eqb p.0 x) (constant_row p)) ps
     where
-      zero : eqb 0 k ≡ false
-      zero = ne_eqb 0 k (λ e. true≢false (sym (eq-eqb k 0 (sym e)) ∙ ne))
+      apart : eqb 0 k ≡ false
+      apart = ne_eqb 0 k (λ e. true≢false (sym (eq-eqb k 0 (sym e)) ∙ ne))
 
       neither : (b : Bool) (r : RowTerm) → cond (b && false) (r ∷ []) [] ≡ []
       neither true r = refl

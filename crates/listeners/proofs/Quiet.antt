@@ -58,8 +58,8 @@ all_others x reached (e ∷ es) q = joined x (line_of (reached e.0) e.0 (private
 
 -- ---- an operation whose entry isn't a private definition
 module _ (b : ContextModel) where
-  no_name : (home : Option ℕ) (private : Bool) (symbol : Option ℕ) → is_some (cond (is_some home && private) symbol None) ≡ false → is_some (cond (is_some home && private) (option_map (name_term b) symbol) None) ≡ false
-  no_name None private symbol e = refl
+  no_name : (home : Option ℕ) (hidden : Bool) (symbol : Option ℕ) → is_some (cond (is_some home && hidden) symbol None) ≡ false → is_some (cond (is_some home && hidden) (option_map (name_term b) symbol) None) ≡ false
+  no_name None hidden symbol e = refl
   no_name (Some t) false symbol e = refl
   no_name (Some t) true None e = refl
   no_name (Some t) true (Some n) e = e
