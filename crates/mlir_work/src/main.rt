@@ -16,12 +16,12 @@ use mlir_work_cli::count::op_count;
 use mlir_work_cli::dry_run::Bytes;
 use mlir_work_cli::error::PatternError;
 use mlir_work_cli::input::split;
-use mlir_work_cli::json::run_as_json;
+use mlir_work_cli::json::{run_as_json, run_live_as_json};
 use mlir_work_cli::live::run_live;
 use mlir_work_cli::options::{CommandLine, Format, options_of};
 use mlir_work_cli::positions::line_feeds;
 use mlir_work_cli::reading::PatternFileError;
-use mlir_work_cli::run::{Options, ParseError, run_watched, tree_of};
+use mlir_work_cli::run::{ParseError, run_watched, tree_of};
 use mlir_work_cli::sink::Sink;
 use mlir_work_cli::source::Source;
 use mlir_work_cli::watched::Watched;
@@ -167,20 +167,26 @@ fn line_after(first: usize, input: &[u8]) -> usize {
 }
 
 /// Runs the input of a reader with the program's analyses, in the order of their kinds, and user patterns. Returns
-/// the status.
-fn run_one<R: Source, W: Sink>(
+/// the status and the writer.
+fn run_one<R: Source, W: Sink + Drop>(
     rt: &HostRuntime,
     given: &CommandLine<'_>,
     patterns: &[PatternFile<'_>],
     reader: &mut R,
-    writer: &mut W,
-) -> Result<u8, AllocError> {
+    mut writer: W,
+) -> Result<(u8, W), AllocError> {
     let boxes = all_listeners(rt.alloc(), given.options.opaque)?;
     let registry = rebuild_registry(rt.alloc(), patterns)?;
     let (alloc, key, options) = (rt.alloc(), key_of(rt), given.options);
     match given.format {
-        Format::Text => Ok(run_watched(alloc, key, options, reader, writer, boxes, registry)),
-        Format::Json => run_as_json(alloc, key, options, reader, writer, boxes, registry),
+        Format::Text => {
+            let status = run_watched(alloc, key, options, reader, &mut writer, boxes, registry);
+            Ok((status, writer))
+        }
+        Format::Json => {
+            let (ran, writer) = run_as_json(alloc, key, options, reader, writer, boxes, registry);
+            Ok((ran?, writer))
+        }
     }
 }
 
@@ -202,8 +208,9 @@ fn run_standard(
     patterns: &[PatternFile<'_>],
 ) -> Result<u8, AllocError> {
     let mut reader = Watched::new(rt.stdin());
-    let mut writer = watched(rt.alloc(), io::writer(rt))?;
-    run_one(rt, given, patterns, &mut reader, &mut writer)
+    let writer = watched(rt.alloc(), io::writer(rt))?;
+    let (status, _) = run_one(rt, given, patterns, &mut reader, writer)?;
+    Ok(status)
 }
 
 /// Writes the separator between the outputs of two modules: the divider, or its JSON object.
@@ -234,7 +241,8 @@ fn run_inputs<W: io::Write + Drop>(
         let mut reader = Bytes {
             rest: input.as_slice(),
         };
-        let status = run_one(rt, given, patterns, &mut reader, &mut writer)?;
+        let (status, back) = run_one(rt, given, patterns, &mut reader, writer)?;
+        writer = back;
         if needs_comment(input, status) {
             comment(rt, given, line, input)?;
         }
@@ -277,26 +285,22 @@ fn run_named(
 /// patterns. Returns the status, which is also 4 if a line is too long or memory ran out for one.
 fn answer_lines(
     rt: &HostRuntime,
-    options: Options,
+    given: &CommandLine<'_>,
     patterns: &[PatternFile<'_>],
 ) -> Result<u8, AllocError> {
-    let listeners = all_listeners(rt.alloc(), options.opaque)?;
+    let boxes = all_listeners(rt.alloc(), given.options.opaque)?;
     let registry = rebuild_registry(rt.alloc(), patterns)?;
-    let Ok(writer) = BufWriter::new(rt.alloc(), io::writer(rt)) else {
-        return Err(AllocError);
-    };
     let mut reader = Watched::new(rt.stdin());
-    let mut writer = Watched::new(writer);
-    let key = key_of(rt);
-    let ran = run_live(
-        rt.alloc(),
-        key,
-        options,
-        &mut reader,
-        &mut writer,
-        listeners,
-        registry,
-    );
+    let mut writer = watched(rt.alloc(), io::writer(rt))?;
+    let (alloc, key, options) = (rt.alloc(), key_of(rt), given.options);
+    let ran = match given.format {
+        Format::Text => run_live(alloc, key, options, &mut reader, &mut writer, boxes, registry),
+        Format::Json => {
+            let (ran, _) =
+                run_live_as_json(alloc, key, options, &mut reader, writer, boxes, registry);
+            ran
+        }
+    };
     Ok(ran.unwrap_or(4))
 }
 
@@ -310,7 +314,7 @@ fn run_with(
         return run_named(rt, given, patterns);
     }
     if given.options.ends {
-        return answer_lines(rt, given.options, patterns);
+        return answer_lines(rt, given, patterns);
     }
     run_standard(rt, given, patterns)
 }

@@ -107,7 +107,7 @@ fn split<'a>(alloc: Global) -> Arg<'a> {
 }
 
 /// Declares `--interactive`. It conflicts with the options that name files or commands, since lines then come from
-/// standard input only, and with `--format`.
+/// standard input only.
 fn interactive<'a>(alloc: Global) -> Result<Arg<'a>, AllocError> {
     Arg::new(alloc, "interactive")
         .long("interactive")
@@ -117,8 +117,7 @@ fn interactive<'a>(alloc: Global) -> Result<Arg<'a>, AllocError> {
         .conflicts_with("script")?
         .conflicts_with("command")?
         .conflicts_with("output")?
-        .conflicts_with("split")?
-        .conflicts_with("format")
+        .conflicts_with("split")
 }
 
 /// Declares the positional argument MODULE.

@@ -5,3 +5,4 @@ pub mod Forms
 pub mod Replies
 pub mod Rows
 pub mod Lines
+pub mod Printing

@@ -1,0 +1,297 @@
+-- Proofs about a writer that converts lines to JSON.
+use Rattle.std.proofs.Common.{◌≡◌, ℕ, suc, ◌+◌, ◌-◌, List, [], ◌∷◌, ◌++◌, Bool, true, false, true≢false, not, is_err, if◌then◌else◌, Option, Some, None, Result, Ok, Err, length, take, drop, get_or, refl, ap, sym, subst, ◌∙◌, append_assoc, append-nil, length-append, arith}
+use Rattle.std.specs.Prelude.{◌&&◌, ◌||◌}
+use Rattle.std.specs.Str.{bytes_eq}
+use Rattle.std.specs.Io.KnownBytes.{Appends, Keeps}
+use Rattle.std.proofs.lemmas.Bool.{and_parts, and_from}
+use Rattle.std.proofs.lemmas.List.{append_cancel_left, take-append-drop}
+use Rattle.std.proofs.lemmas.Slice.Eq.{bytes_eq-Decides}
+use Rattle.std.proofs.lemmas.Grind.{common_steps}
+use Rattle.mlir_work_json.specs.Cuts.{parts}
+use Rattle.mlir_work_json.specs.Lines.{json_line, json_lines, json_text}
+use Rattle.mlir_work_json.specs.Printing.{Prints, PrintsAll, are_right, are_same, flag_number, has_line, has_more, is_memory, is_printed, json_of, known_mark, mark, text_of}
+use Rattle.mlir_work_json.specs.declared.printing.PrintFault.{PrintFault}
+use Rattle.mlir_work_json.specs.declared.printing.PrintFault.TheVariants.{Memory, Write}
+use Rattle.mlir_work_script_base.specs.Lines.{is_newline, onto_first}
+use Rattle.mlir_work_script_base.specs.Writes.{AppendsPreceding, Fails, Grows, GrowsPreceding, Stays, Stream}
+use Rattle.mlir_work_script_base.proofs.Joins.{appends_join, appends_none, grows_join}
+
+-- ---- the JSON of complete lines
+
+onto_some : (b : ℕ) (ls : List (List ℕ)) → onto_first b ls ≡ [] → ⊥
+onto_some b [] e = absurd cc
+onto_some b (l ∷ ls) e = absurd cc
+
+onto_more : (b : ℕ) (ls rest : List (List ℕ)) → (ls ≡ [] → ⊥) → onto_first b (ls ++ rest) ≡ onto_first b ls ++ rest
+onto_more b [] rest some = absurd (some refl)
+onto_more b (l ∷ ls) rest some = refl
+
+if_some : (t : Bool) (b : ℕ) (ls : List (List ℕ)) → (if t then [] ∷ ls else onto_first b ls) ≡ [] → ⊥
+if_some true b ls e = absurd cc
+if_some false b ls e = onto_some b ls e
+
+-- a line with its line feed is a part
+some_part : (line : List ℕ) → parts is_newline (line ++ 10 ∷ []) ≡ [] → ⊥
+some_part [] e = absurd cc
+some_part (b ∷ bs) e = if_some (is_newline b) b (parts is_newline (bs ++ 10 ∷ [])) e
+
+parts_from : (t : Bool) (b : ℕ) (ls rest : List (List ℕ)) → (ls ≡ [] → ⊥) → (if t then [] ∷ (ls ++ rest) else onto_first b (ls ++ rest)) ≡ (if t then [] ∷ ls else onto_first b ls) ++ rest
+parts_from true b ls rest some = refl
+parts_from false b ls rest some = onto_more b ls rest some
+
+-- the parts after a line feed don't depend on what precedes it
+parts_after : (line rest : List ℕ) → parts is_newline ((line ++ 10 ∷ []) ++ rest) ≡ parts is_newline (line ++ 10 ∷ []) ++ parts is_newline rest
+parts_after [] rest = refl
+parts_after (b ∷ bs) rest =
+    let ih = parts_after bs rest in
+    ap (λ ls. if is_newline b then [] ∷ ls else onto_first b ls) ih
+    ∙ parts_from (is_newline b) b (parts is_newline (bs ++ 10 ∷ [])) (parts is_newline rest) (some_part bs)
+
+lines_more : (ls rest : List (List ℕ)) → json_lines (ls ++ rest) ≡ json_lines ls ++ json_lines rest
+lines_more [] rest = refl
+lines_more (l ∷ ls) rest = ap (λ xs. (json_line l ++ 10 ∷ []) ++ xs) (lines_more ls rest) ∙ sym (append_assoc (json_line l ++ 10 ∷ []) (json_lines ls) (json_lines rest))
+
+json_after : (line rest : List ℕ) → json_text ((line ++ 10 ∷ []) ++ rest) ≡ json_text (line ++ 10 ∷ []) ++ json_text rest
+json_after line rest = ap json_lines (parts_after line rest) ∙ lines_more (parts is_newline (line ++ 10 ∷ [])) (parts is_newline rest)
+
+-- the JSON of a text whose first lines are complete
+pub json_whole : (ls : List (List ℕ)) (rest : List ℕ) → json_text (text_of ls ++ rest) ≡ json_of ls ++ json_text rest
+json_whole [] rest = refl
+json_whole (l ∷ ls) rest =
+    ap json_text (append_assoc (l ++ 10 ∷ []) (text_of ls) rest) ∙ json_after l (text_of ls ++ rest)
+    ∙ ap (λ xs. json_text (l ++ 10 ∷ []) ++ xs) (json_whole ls rest)
+    ∙ sym (append_assoc (json_text (l ++ 10 ∷ [])) (json_of ls) (json_text rest))
+
+json_more : (ls : List (List ℕ)) (l : List ℕ) → json_of (ls ++ l ∷ []) ≡ json_of ls ++ json_text (l ++ 10 ∷ [])
+json_more [] l = append-nil (json_text (l ++ 10 ∷ []))
+json_more (k ∷ ks) l = ap (λ xs. json_text (k ++ 10 ∷ []) ++ xs) (json_more ks l) ∙ sym (append_assoc (json_text (k ++ 10 ∷ [])) (json_of ks) (json_text (l ++ 10 ∷ [])))
+
+pub text_more : (ls : List (List ℕ)) (l : List ℕ) → text_of (ls ++ l ∷ []) ≡ text_of ls ++ (l ++ 10 ∷ [])
+text_more [] l = append-nil (l ++ 10 ∷ [])
+text_more (k ∷ ks) l = ap (λ xs. (k ++ 10 ∷ []) ++ xs) (text_more ks l) ∙ sym (append_assoc (k ++ 10 ∷ []) (text_of ks) (l ++ 10 ∷ []))
+
+-- ---- the bytes of the writer of the objects
+
+-- without `broken`, the bytes were written
+more_written : (a b : Option (List ℕ)) (json : List ℕ) → has_more a b json false ≡ true → Appends a b json
+more_written None b json e = tt
+more_written (Some old) None json e = absurd (true≢false (sym e))
+more_written (Some old) (Some new) json e = (bytes_eq-Decides new (old ++ json)).0 e
+
+written_more : (a b : Option (List ℕ)) (json : List ℕ) → Appends a b json → has_more a b json false ≡ true
+written_more None b json h = refl
+written_more (Some old) None json h = absurd h
+written_more (Some old) (Some new) json h = (bytes_eq-Decides new (old ++ json)).1 h
+
+-- with `broken`, a prefix was written
+more_preceding : (a b : Option (List ℕ)) (json : List ℕ) → has_more a b json true ≡ true → AppendsPreceding a b json
+more_preceding None b json e = ([], json, refl, tt)
+more_preceding (Some old) None json e = absurd (true≢false (sym e))
+more_preceding (Some old) (Some new) json e =
+    let n = length new - length old in
+    (take n json, drop n json, sym (take-append-drop n json), (bytes_eq-Decides new (old ++ take n json)).0 e)
+
+took : (old preceding back : List ℕ) → take (length (old ++ preceding) - length old) (preceding ++ back) ≡ preceding
+took old preceding back =
+    let n : length (old ++ preceding) - length old ≡ length preceding = omega (arith, length-append old preceding) in
+    rw n (grind (arith, common_steps))
+
+preceding_more : (a b : Option (List ℕ)) (json : List ℕ) → AppendsPreceding a b json → has_more a b json true ≡ true
+preceding_more None b json h = refl
+preceding_more (Some old) None json (preceding, back, is, h) = absurd h
+preceding_more (Some old) (Some new) json (preceding, back, is, h) =
+    let cut : new ≡ old ++ take (length new - length old) json =
+    subst (λ (xs : List ℕ). xs ≡ old ++ take (length xs - length old) json) (sym h)
+    (ap (λ xs. old ++ xs) (sym (ap (take (length (old ++ preceding) - length old)) is ∙ took old preceding back))) in
+    (bytes_eq-Decides new (old ++ take (length new - length old) json)).1 cut
+
+-- ---- the flags
+
+same_flags : (a b : Bool) → are_same a b ≡ true → b ≡ a
+same_flags true b e = e
+same_flags false true e = absurd (true≢false (sym e))
+same_flags false false e = refl
+
+flags_same : (a b : Bool) → b ≡ a → are_same a b ≡ true
+flags_same true b e = e
+flags_same false true e = absurd (true≢false e)
+flags_same false false e = refl
+
+not_failed : (f : Bool) → not f ≡ true → f ≡ false
+not_failed true e = absurd (true≢false (sym e))
+not_failed false e = refl
+
+or_true : (a b : Bool) → b ≡ true → (a || b) ≡ true
+or_true true b e = refl
+or_true false b e = e
+
+or_first : (a b : Bool) → a ≡ true → (a || b) ≡ true
+or_first true b e = refl
+or_first false b e = absurd (true≢false (sym e))
+
+or_left : (a b : Bool) → (a || b) ≡ true → b ≡ false → a ≡ true
+or_left true b e f = refl
+or_left false b e f = absurd (true≢false (sym e ∙ f))
+
+has_last : (ls : List (List ℕ)) (l : List ℕ) → has_line (ls ++ l ∷ []) ≡ true
+has_last [] l = refl
+has_last (k ∷ ks) l = refl
+
+-- the record of a writer that printed all lines so far
+pub record Whole (start now : Stream) (ls : List (List ℕ)) (failed : Bool) : Type 0 where
+  pub wrote : Grows start now (json_of ls)
+  pub right : failed ≡ false
+
+pub whole_of : (s n : Stream) (ls : List (List ℕ)) (r f : Bool) → is_printed s n ls false r f ≡ true → Whole s n ls f
+whole_of s n ls r f e =
+    let both = and_parts (has_more s.contents n.contents (json_of ls) false) (are_same s.failed n.failed && not f) e in
+    let flags = and_parts (are_same s.failed n.failed) (not f) both.1 in
+    record { wrote = (more_written s.contents n.contents (json_of ls) both.0, same_flags s.failed n.failed flags.0); right = not_failed f flags.1 }
+
+of_whole : (s n : Stream) (ls : List (List ℕ)) (r f : Bool) → Grows s n (json_of ls) → f ≡ false → is_printed s n ls false r f ≡ true
+of_whole s n ls r f h e =
+    and_from (has_more s.contents n.contents (json_of ls) false) (are_same s.failed n.failed && not f) (written_more s.contents n.contents (json_of ls) h.0)
+    (and_from (are_same s.failed n.failed) (not f) (flags_same s.failed n.failed h.1) (ap not e))
+
+-- the record of a writer that printed a prefix
+pub record Part (start now : Stream) (ls : List (List ℕ)) (refused failed : Bool) : Type 0 where
+  pub wrote : AppendsPreceding start.contents now.contents (json_of ls)
+  pub since : (now.failed || refused) ≡ true
+  pub reason : (has_line ls || failed) ≡ true
+
+pub part_of : (s n : Stream) (ls : List (List ℕ)) (r f : Bool) → is_printed s n ls true r f ≡ true → Part s n ls r f
+part_of s n ls r f e =
+    let both = and_parts (has_more s.contents n.contents (json_of ls) true) ((n.failed || r) && (has_line ls || f)) e in
+    let flags = and_parts (n.failed || r) (has_line ls || f) both.1 in
+    record { wrote = more_preceding s.contents n.contents (json_of ls) both.0; since = flags.0; reason = flags.1 }
+
+of_part : (s n : Stream) (ls : List (List ℕ)) (r f : Bool) → AppendsPreceding s.contents n.contents (json_of ls) → (n.failed || r) ≡ true → (has_line ls || f) ≡ true → is_printed s n ls true r f ≡ true
+of_part s n ls r f h p q =
+    and_from (has_more s.contents n.contents (json_of ls) true) ((n.failed || r) && (has_line ls || f)) (preceding_more s.contents n.contents (json_of ls) h)
+    (and_from (n.failed || r) (has_line ls || f) p q)
+
+keeps_same : (a : Option (List ℕ)) → Keeps a a
+keeps_same None = tt
+keeps_same (Some xs) = refl
+
+keeps_of : (a b : Option (List ℕ)) → Appends a b [] → Keeps a b
+keeps_of None b h = tt
+keeps_of (Some xs) None h = h
+keeps_of (Some xs) (Some ys) h = h ∙ append-nil xs
+
+-- all was written, so a prefix was
+all_preceding : (a b : Option (List ℕ)) (json : List ℕ) → Appends a b json → AppendsPreceding a b json
+all_preceding a b json h = (json, [], sym (append-nil json), h)
+
+-- ---- steps of the writer
+
+-- at the start
+pub printed_none : (s : Stream) → is_printed s s [] false false false ≡ true
+printed_none s = of_whole s s [] false false (appends_none s.contents s.contents (keeps_same s.contents), refl) refl
+
+-- memory ran out for a byte
+pub printed_refused : (s n : Stream) (ls : List (List ℕ)) (r f : Bool) → is_printed s n ls false r f ≡ true → is_printed s n ls true true true ≡ true
+printed_refused s n ls r f e =
+    of_part s n ls true true (all_preceding s.contents n.contents (json_of ls) (whole_of s n ls r f e).wrote.0) (or_true n.failed true refl) (or_true (has_line ls) true refl)
+
+-- a fault is reported
+pub printed_reported : (s n : Stream) (ls : List (List ℕ)) (r f : Bool) → is_printed s n ls true r f ≡ true → is_printed s n ls true r true ≡ true
+printed_reported s n ls r f e =
+    let part = part_of s n ls r f e in
+    of_part s n ls r true part.wrote part.since (or_true (has_line ls) true refl)
+
+keeps_after : (a b c : Option (List ℕ)) (xs : List ℕ) → Appends a b xs → Keeps b c → Appends a c xs
+keeps_after a b c xs h k = subst (Appends a c) (append-nil xs) (appends_join a b c xs [] h (appends_none b c k))
+
+-- a flush
+pub printed_flushed : (s n m : Stream) (ls : List (List ℕ)) (r f : Bool) → is_printed s n ls false r f ≡ true → Stays n m → is_printed s m ls false r f ≡ true
+printed_flushed s n m ls r f e h =
+    let whole = whole_of s n ls r f e in
+    of_whole s m ls r f (keeps_after s.contents n.contents m.contents (json_of ls) whole.wrote.0 h.0, h.1 ∙ whole.wrote.1) whole.right
+
+-- a failed flush
+pub printed_unflushed : (s n m : Stream) (ls : List (List ℕ)) (r f : Bool) → is_printed s n ls false r f ≡ true → Fails n m → is_printed s m ls true false true ≡ true
+printed_unflushed s n m ls r f e h =
+    let whole = whole_of s n ls r f e in
+    of_part s m ls false true (all_preceding s.contents m.contents (json_of ls) (keeps_after s.contents n.contents m.contents (json_of ls) whole.wrote.0 h.0))
+    (or_first m.failed false h.1) (or_true (has_line ls) true refl)
+
+preceding_join : (a b c : Option (List ℕ)) (xs ys : List ℕ) → Appends a b xs → AppendsPreceding b c ys → AppendsPreceding a c (xs ++ ys)
+preceding_join a b c xs ys h (preceding, back, is, k) = (xs ++ preceding, back, ap (λ zs. xs ++ zs) is ∙ sym (append_assoc xs preceding back), appends_join a b c xs preceding h k)
+
+-- a line
+pub printed_line : {T : Type 0} (s n m : Stream) (ls : List (List ℕ)) (l : List ℕ) (r f : Bool) (result : Result T PrintFault) → is_printed s n ls false r f ≡ true
+    → Prints n m (json_text (l ++ 10 ∷ [])) result → is_printed s m (ls ++ l ∷ []) (is_err result) (is_memory result) f ≡ true
+printed_line s n m ls l r f (Ok done) e h =
+    let whole = whole_of s n ls r f e in
+    of_whole s m (ls ++ l ∷ []) false f (subst (Grows s m) (sym (json_more ls l)) (grows_join s n m (json_of ls) (json_text (l ++ 10 ∷ [])) whole.wrote h)) whole.right
+printed_line s n m ls l r f (Err Memory) e h =
+    let whole = whole_of s n ls r f e in
+    let wrote = keeps_after s.contents n.contents m.contents (json_of ls) whole.wrote.0 h.0 in
+    of_part s m (ls ++ l ∷ []) true f (json_of ls, json_text (l ++ 10 ∷ []), json_more ls l, wrote)
+    (or_true m.failed true refl) (or_first (has_line (ls ++ l ∷ [])) f (has_last ls l))
+printed_line s n m ls l r f (Err Write) e h =
+    let whole = whole_of s n ls r f e in
+    of_part s m (ls ++ l ∷ []) false f (subst (AppendsPreceding s.contents m.contents) (sym (json_more ls l)) (preceding_join s.contents n.contents m.contents (json_of ls) (json_text (l ++ 10 ∷ [])) whole.wrote.0 h.0))
+    (or_first m.failed false h.1) (or_first (has_line (ls ++ l ∷ [])) f (has_last ls l))
+
+-- ---- the end
+
+-- the last line follows the complete ones
+pub printed_last : {T : Type 0} (s n m : Stream) (ls : List (List ℕ)) (l : List ℕ) (r f : Bool) (result : Result T PrintFault) → is_printed s n ls false r f ≡ true
+    → Prints n m (json_text l) result → PrintsAll s m (json_text (text_of ls ++ l)) result
+printed_last s n m ls l r f (Ok done) e h = subst (Grows s m) (sym (json_whole ls l)) (grows_join s n m (json_of ls) (json_text l) (whole_of s n ls r f e).wrote h)
+printed_last s n m ls l r f (Err Memory) e h =
+    let whole = whole_of s n ls r f e in
+    ((json_of ls, json_text l, json_whole ls l, keeps_after s.contents n.contents m.contents (json_of ls) whole.wrote.0 h.0), h.1 ∙ whole.wrote.1)
+printed_last s n m ls l r f (Err Write) e h =
+    (subst (AppendsPreceding s.contents m.contents) (sym (json_whole ls l)) (preceding_join s.contents n.contents m.contents (json_of ls) (json_text l) (whole_of s n ls r f e).wrote.0 h.0), h.1)
+
+-- what was written is a prefix of the JSON of each text that begins with the complete lines
+pub cut_off : (s n : Stream) (ls : List (List ℕ)) (b r f : Bool) (rest : List ℕ) → is_printed s n ls b r f ≡ true → AppendsPreceding s.contents n.contents (json_text (text_of ls ++ rest))
+cut_off s n ls true r f rest e =
+    let (preceding, back, is, h) = (part_of s n ls r f e).wrote in
+    (preceding, back ++ json_text rest, json_whole ls rest ∙ ap (λ xs. xs ++ json_text rest) is ∙ append_assoc preceding back (json_text rest), h)
+cut_off s n ls false r f rest e = (json_of ls, json_text rest, json_whole ls rest, (whole_of s n ls r f e).wrote.0)
+
+-- nothing was printed, unless there is a line or a fault
+pub unprinted : (s n : Stream) (b r : Bool) → is_printed s n [] b r false ≡ true → Stays s n × (b ≡ false)
+unprinted s n true r e = absurd (true≢false (sym (part_of s n [] r false e).reason))
+unprinted s n false r e = let wrote = (whole_of s n [] r false e).wrote in ((keeps_of s.contents n.contents wrote.0, wrote.1), refl)
+
+-- ---- the record of the text
+
+same_text : (xs ys s t : List ℕ) → length xs ≡ length ys → xs ++ s ≡ ys ++ t → (xs ≡ ys) × (s ≡ t)
+same_text [] [] s t n e = (refl, e)
+same_text [] (y ∷ ys) s t n e = absurd (omega (arith, n))
+same_text (x ∷ xs) [] s t n e = absurd (omega (arith, n))
+same_text (x ∷ xs) (y ∷ ys) s t n e =
+    let heads : x ≡ y = ap (λ (l : List ℕ). get_or l 0 0) e in
+    let tails : xs ++ s ≡ ys ++ t = ap (drop 1) e in
+    let shorter : length xs ≡ length ys = omega (arith, n) in
+    let ih = same_text xs ys s t shorter tails in
+    (rw (heads, ih.0) refl, ih.1)
+
+known_marks : (a b : Option (List ℕ)) (s t : List ℕ) → known_mark a ++ s ≡ known_mark b ++ t → (a ≡ b) × (s ≡ t)
+known_marks None None s t e = (refl, ap (drop 1) e)
+known_marks None (Some ys) s t e = let heads : 0 ≡ suc (length ys) = ap (λ (l : List ℕ). get_or l 0 0) e in absurd (omega (arith, heads))
+known_marks (Some xs) None s t e = let heads : suc (length xs) ≡ 0 = ap (λ (l : List ℕ). get_or l 0 0) e in absurd (omega (arith, heads))
+known_marks (Some xs) (Some ys) s t e =
+    let heads : suc (length xs) ≡ suc (length ys) = ap (λ (l : List ℕ). get_or l 0 0) e in
+    let tails : xs ++ s ≡ ys ++ t = ap (drop 1) e in
+    let same = same_text xs ys s t (omega (arith, heads)) tails in
+    (ap Some same.0, same.1)
+
+flag_numbers : (a b : Bool) → flag_number a ≡ flag_number b → a ≡ b
+flag_numbers true true e = refl
+flag_numbers false false e = refl
+flag_numbers true false e = absurd (omega (arith, e))
+flag_numbers false true e = absurd (omega (arith, e))
+
+-- two records of texts begin with one mark
+pub same_start : (s t : Stream) (xs ys : List ℕ) → mark s ++ xs ≡ mark t ++ ys → (s.contents ≡ t.contents) × (s.failed ≡ t.failed) × (xs ≡ ys)
+same_start s t xs ys e =
+    let heads : flag_number s.failed ≡ flag_number t.failed = ap (λ (l : List ℕ). get_or l 0 0) e in
+    let tails : known_mark s.contents ++ xs ≡ known_mark t.contents ++ ys = ap (drop 1) e in
+    let same = known_marks s.contents t.contents xs ys tails in
+    (same.0, flag_numbers s.failed t.failed heads, same.1)
