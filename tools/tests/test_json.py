@@ -46,10 +46,13 @@ class Program(unittest.TestCase):
                             env={**os.environ, **more})
         return it.returncode, it.stdout, it.stderr
 
-    def test_run(self):
-        words, given, wanted = (re.sub("(?m)^    ", "", it) for it in RUN.search(PAGE).groups())
-        self.assertEqual(words, "--brief --format json")
-        self.assertEqual(self.ran("--format", "json", given=given.encode()), (1, wanted.encode(), b""))
+    def test_runs(self):
+        runs = RUN.findall(PAGE)
+        self.assertEqual([words for words, _, _ in runs],
+                         ["--brief --format json", "--brief --format json --interactive"])
+        for status, run in zip((1, 0), runs):
+            words, given, wanted = (re.sub("(?m)^    ", "", it) for it in run)
+            self.assertEqual(self.ran(*words.split()[1:], given=given.encode()), (status, wanted.encode(), b""))
 
     def test_formats(self):
         status, text, _ = self.ran()
@@ -57,6 +60,13 @@ class Program(unittest.TestCase):
         status, text, _ = self.ran("--explain")
         self.assertEqual(self.ran("--format=json"), (status, json_lines.json_of(text), b""))
         self.assertEqual(self.ran("--format=json", "--explain"), (status, json_lines.json_of(text), b""))
+
+    def test_answers(self):
+        for words in ([], ["--opaque"]):
+            status, text, _ = self.ran("--interactive", "--explain", *words)
+            told = self.ran("--interactive", "--format", "json", *words)
+            self.assertEqual(told, (status, json_lines.json_of(text), b""))
+            self.assertEqual(told[1].count(b'{"end":true}\n'), 3)
 
     def test_files(self):
         _, text, _ = self.ran("--explain")
@@ -69,15 +79,16 @@ class Program(unittest.TestCase):
             self.assertEqual(out.read_bytes(), json_lines.json_of(text))
 
     def test_wrong_words(self):
-        for words in (["--format"], ["--format", "xml"], ["--format", "JSON"], ["--format=json", "--interactive"],
-                      ["--format=text", "--format=json"]):
+        for words in (["--format"], ["--format", "xml"], ["--format", "JSON"], ["--format=text", "--format=json"],
+                      ["--format=json", "--interactive", "-e", "print"]):
             status, out, told = self.ran(*words)
             self.assertEqual((status, out), (2, b""), words)
             self.assertIn(b"error:", told)
 
     def test_ends(self):
-        with open("/dev/full", "wb") as full:
-            self.assertEqual(self.ran("--format", "json", to=full)[0], 4)
+        for words in ([], ["--interactive"]):
+            with open("/dev/full", "wb") as full:
+                self.assertEqual(self.ran("--format", "json", *words, to=full)[0], 4)
         self.assertEqual(self.ran("--format", "json", given=b"(")[:2],
                          (3, b'{"offset":0,"refused":2,"word":"Unexpected"}\n'))
 
