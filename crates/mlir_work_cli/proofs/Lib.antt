@@ -2,3 +2,4 @@ pub mod JsonEnds
 mod Joined
 mod Ending
 mod Precedings
+mod Given

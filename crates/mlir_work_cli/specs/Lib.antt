@@ -3,3 +3,4 @@ pub mod Inputs
 pub mod Patterns
 pub mod Readings
 pub mod Positions
+pub mod CommandLines

@@ -1,5 +1,5 @@
 //! Runs whose output is JSON.
-ghost use Rattle.std.specs.Prelude.{◌≡◌, ◌+◌, length, IfOk, IfSome, OnErr};
+ghost use Rattle.std.specs.Prelude.{◌≡◌, ◌+◌, length, false, IfOk, IfSome, OnErr};
 ghost use Rattle.mlir_work_run.specs.session.Limits.{most_reads};
 ghost use Rattle.mlir_work_run.specs.session.Panels.{all_shown};
 ghost use Rattle.mlir_work_run.specs.session.Parts.{module_text, script_text};
@@ -36,7 +36,8 @@ fn ended(printed: Result<(), PrintFault>, status: u8) -> Result<u8, AllocError>
 /// only if a read or a write failed, and the writer.
 ///
 /// Unless the status is 4, all is flushed. At most `MAX_READS` reads are made. If memory runs out for a line, the whole
-/// input was read, a prefix of the output is written, and the status is `Err`.
+/// input was read, a prefix of the output is written, and the status is `Err`. What is said of failed writes and of
+/// flushes is about a writer that records them (`Watched`).
 pub fn run_as_json<L: AnalysisSource, R: Source, W: Sink>(
     alloc: Global,
     key: u64,
@@ -49,10 +50,10 @@ pub fn run_as_json<L: AnalysisSource, R: Source, W: Sink>(
     ensures ran { IfSome (R.intake reader.old).remaining (λ input. JsonRan
         (IsJsonOutput (setting_with L.supply options (registry_model registry)) (all_shown L.meaning boxes.items) input)
         (W.stream writer).contents (W.stream result.1).contents result.0) }
-    ensures leaves { IfOk result.0 (λ status. LeavesAt (R.intake reader.old) (R.intake reader.new)
+    ensures leaves { (W.stream writer).failed ≡ false → IfOk result.0 (λ status. LeavesAt (R.intake reader.old) (R.intake reader.new)
         (W.stream writer) (W.stream result.1) (W.handed result.1) status) }
-    ensures fault { IfOk result.0 (λ status. status ≡ 4 → HasFailed (R.intake reader.old) (R.intake reader.new) (W.stream result.1)) }
-    ensures memory { OnErr result.0 (IsReadWhole (R.intake reader.old) (R.intake reader.new)) }
+    ensures fault { (W.stream writer).failed ≡ false → IfOk result.0 (λ status. status ≡ 4 → HasFailed (R.intake reader.old) (R.intake reader.new) (W.stream result.1)) }
+    ensures memory { (W.stream writer).failed ≡ false → OnErr result.0 (IsReadWhole (R.intake reader.old) (R.intake reader.new)) }
     ensures made { AreMadeAtMost (R.intake reader.old).reads (R.intake reader.new).reads most_reads }
 {
     let mut printer = JsonLines::new(alloc, writer);
@@ -85,7 +86,8 @@ fn ended_live(
 
 /// Answers each line as `run_live` does, with one JSON object a line. Returns the status and the writer.
 ///
-/// Errors: those of `run_live`; memory ran out for an object, and a prefix of the output is written.
+/// Errors: those of `run_live`; memory ran out for an object, and a prefix of the output is written. The contract is about
+/// a writer that records failed writes (`Watched`).
 pub fn run_live_as_json<L: AnalysisSource, R: Source, W: Sink>(
     alloc: Global,
     key: u64,
@@ -95,10 +97,10 @@ pub fn run_live_as_json<L: AnalysisSource, R: Source, W: Sink>(
     boxes: Vec<L>,
     registry: PatternRegistry,
 ) -> (Result<u8, Unanswered>, W)
-    ensures live { IfSome (R.intake reader.old).remaining (λ input. JsonEndedAt (length (module_text input) + divider_bytes)
+    ensures live { (W.stream writer).failed ≡ false → IfSome (R.intake reader.old).remaining (λ input. JsonEndedAt (length (module_text input) + divider_bytes)
         (IsJsonOf (IsLiveOf (setting_with L.supply options (registry_model registry)) (all_shown L.meaning boxes.items) input)) (whole_lines (script_text input))
         (R.intake reader.new) (W.stream writer) (W.stream result.1) (W.handed result.1) result.0) }
-    ensures whole { IfSome (R.intake reader.old).remaining (λ input. JsonEndedAt (length (module_text input) + divider_bytes)
+    ensures whole { (W.stream writer).failed ≡ false → IfSome (R.intake reader.old).remaining (λ input. JsonEndedAt (length (module_text input) + divider_bytes)
         (IsJsonOf (IsWholeUpTo (setting_with L.supply options (registry_model registry)) (all_shown L.meaning boxes.items) input)) (whole_lines (script_text input))
         (R.intake reader.new) (W.stream writer) (W.stream result.1) (W.handed result.1) result.0) }
     ensures fault { IfOk result.0 (λ status. status ≡ 4 → HasFailedLive (R.intake reader.new) (W.stream result.1)) }

@@ -1,4 +1,7 @@
 //! Parses the command line.
+ghost use Rattle.std.specs.Prelude.{◌≡◌, ◌||◌, map, option_map, IfOk, codes, Bool};
+ghost use Rattle.clap.specs.Matches.{first_value, found_of};
+ghost use Rattle.mlir_work_cli.specs.CommandLines.{IsFlag, format_named, is_json, values_of};
 
 use crate::text;
 use clap::{Arg, ArgAction, ArgMatches, Command, Error, value_parser};
@@ -186,12 +189,21 @@ fn command<'a>(alloc: Global) -> Result<Command<'a>, AllocError> {
         .arg(interactive(alloc)?)
 }
 
+/// Returns whether a flag was given.
+fn flag(matches: &ArgMatches<'_>, name: &str) -> bool
+    ensures { IsFlag (found_of matches.now) name.now result }
+{
+    matches.get_flag(name)
+}
+
 /// Returns the values of a repeatable option in order.
 fn values_of<'a>(
     alloc: Global,
     matches: &ArgMatches<'a>,
     name: &str,
-) -> Result<Vec<&'a str>, AllocError> {
+) -> Result<Vec<&'a str>, AllocError>
+    ensures { IfOk result (λ values. map (λ s. s.now) values.items ≡ values_of (found_of matches.now) name.now) }
+{
     let mut values = Vec::new(alloc);
     if let Some(found) = matches.get_strs(name) {
         values.extend_from_slice(found)?;
@@ -200,11 +212,72 @@ fn values_of<'a>(
 }
 
 /// Returns the requested output format.
-fn format_of(matches: &ArgMatches<'_>) -> Format {
+fn format_of(matches: &ArgMatches<'_>) -> Format
+    ensures { result ≡ format_named (first_value (found_of matches.now) (codes "format")) }
+{
     match matches.get_str("format") {
         Some(word) if word == text::JSON => Format::Json,
         _ => Format::Text,
     }
+}
+
+/// Returns whether the format is JSON.
+fn is_json(format: Format) -> bool
+    ensures { result ≡ is_json format }
+{
+    format == Format::Json
+}
+
+/// Returns the options of the run. JSON explains refusals.
+fn run_options_of(matches: &ArgMatches<'_>) -> Options
+    ensures brief { IsFlag (found_of matches.now) (codes "brief") result.brief }
+    ensures ends { IsFlag (found_of matches.now) (codes "interactive") result.ends }
+    ensures opaque { IsFlag (found_of matches.now) (codes "opaque") result.opaque }
+    ensures strict { IsFlag (found_of matches.now) (codes "strict") result.strict }
+    ensures explain { (asked : Bool) × IsFlag (found_of matches.now) (codes "explain") asked
+        × (result.explain ≡ (asked || is_json (format_named (first_value (found_of matches.now) (codes "format"))))) }
+{
+    let explain = flag(matches, "explain");
+    Options {
+        brief: flag(matches, "brief"),
+        limit: matches.get_one::<u32>("limit").unwrap_or(DEFAULT_LIMIT),
+        ends: flag(matches, "interactive"),
+        opaque: flag(matches, "opaque"),
+        explain: explain || is_json(format_of(matches)),
+        strict: flag(matches, "strict"),
+    }
+}
+
+/// Returns the command line that was found. Each field is the value of its option.
+fn command_line_of<'a>(
+    alloc: Global,
+    matches: &ArgMatches<'a>,
+) -> Result<CommandLine<'a>, AllocError>
+    ensures brief { IfOk result (λ given. IsFlag (found_of matches.now) (codes "brief") given.options.brief) }
+    ensures ends { IfOk result (λ given. IsFlag (found_of matches.now) (codes "interactive") given.options.ends) }
+    ensures opaque { IfOk result (λ given. IsFlag (found_of matches.now) (codes "opaque") given.options.opaque) }
+    ensures strict { IfOk result (λ given. IsFlag (found_of matches.now) (codes "strict") given.options.strict) }
+    ensures split { IfOk result (λ given. IsFlag (found_of matches.now) (codes "split") given.split) }
+    ensures module { IfOk result (λ given. option_map (λ s. s.now) given.module ≡ first_value (found_of matches.now) (codes "module")) }
+    ensures output { IfOk result (λ given. option_map (λ s. s.now) given.output ≡ first_value (found_of matches.now) (codes "output")) }
+    ensures scripts { IfOk result (λ given. map (λ s. s.now) given.scripts.items ≡ values_of (found_of matches.now) (codes "script")) }
+    ensures commands { IfOk result (λ given. map (λ s. s.now) given.commands.items ≡ values_of (found_of matches.now) (codes "command")) }
+    ensures patterns { IfOk result (λ given. map (λ s. s.now) given.patterns.items ≡ values_of (found_of matches.now) (codes "patterns")) }
+    ensures format { IfOk result (λ given. given.format ≡ format_named (first_value (found_of matches.now) (codes "format"))) }
+{
+    let scripts = values_of(alloc, matches, "script")?;
+    let commands = values_of(alloc, matches, "command")?;
+    let patterns = values_of(alloc, matches, "patterns")?;
+    Ok(CommandLine {
+        options: run_options_of(matches),
+        module: matches.get_str("module"),
+        scripts,
+        commands,
+        patterns,
+        output: matches.get_str("output"),
+        format: format_of(matches),
+        split: flag(matches, "split"),
+    })
 }
 
 /// Parses the words of a command line, with the program's name first.
@@ -213,22 +286,5 @@ fn format_of(matches: &ArgMatches<'_>) -> Format {
 pub fn options_of<'a>(alloc: Global, words: &'a [String]) -> Result<CommandLine<'a>, Error> {
     let command = command(alloc)?;
     let matches = command.try_get_matches_from(words)?;
-    let format = format_of(&matches);
-    Ok(CommandLine {
-        options: Options {
-            brief: matches.get_flag("brief"),
-            limit: matches.get_one::<u32>("limit").unwrap_or(DEFAULT_LIMIT),
-            ends: matches.get_flag("interactive"),
-            opaque: matches.get_flag("opaque"),
-            explain: matches.get_flag("explain") || format == Format::Json,
-            strict: matches.get_flag("strict"),
-        },
-        module: matches.get_str("module"),
-        scripts: values_of(alloc, &matches, "script")?,
-        commands: values_of(alloc, &matches, "command")?,
-        patterns: values_of(alloc, &matches, "patterns")?,
-        output: matches.get_str("output"),
-        format,
-        split: matches.get_flag("split"),
-    })
+    Ok(command_line_of(alloc, &matches)?)
 }

@@ -1,10 +1,10 @@
 -- Proofs about a writer that converts lines to JSON.
-use Rattle.std.proofs.Common.{◌≡◌, ℕ, suc, ◌+◌, ◌-◌, List, [], ◌∷◌, ◌++◌, Bool, true, false, true≢false, not, is_err, if◌then◌else◌, Option, Some, None, Result, Ok, Err, length, take, drop, get_or, refl, ap, sym, subst, ◌∙◌, append_assoc, append-nil, length-append, arith}
+use Rattle.std.proofs.Common.{◌≡◌, ℕ, suc, ◌+◌, ◌-◌, ◌<◌, List, [], ◌∷◌, ◌++◌, Bool, true, false, true≢false, not, is_err, if◌then◌else◌, Option, Some, None, Result, Ok, Err, length, map, take, drop, get_or, refl, ap, sym, subst, ◌∙◌, ◌⊎◌, inl, inr, append_assoc, append-nil, length-append, arith}
 use Rattle.std.specs.Prelude.{◌&&◌, ◌||◌}
 use Rattle.std.specs.Str.{bytes_eq}
 use Rattle.std.specs.Io.KnownBytes.{Appends, Keeps}
 use Rattle.std.proofs.lemmas.Bool.{and_parts, and_from}
-use Rattle.std.proofs.lemmas.List.{append_cancel_left, take-append-drop}
+use Rattle.std.proofs.lemmas.List.{map-append, take-append-drop}
 use Rattle.std.proofs.lemmas.Slice.Eq.{bytes_eq-Decides}
 use Rattle.std.proofs.lemmas.Grind.{common_steps}
 use Rattle.mlir_work_json.specs.Cuts.{parts}
@@ -12,6 +12,7 @@ use Rattle.mlir_work_json.specs.Lines.{json_line, json_lines, json_text}
 use Rattle.mlir_work_json.specs.Printing.{Prints, PrintsAll, are_right, are_same, flag_number, has_line, has_more, is_memory, is_printed, json_of, known_mark, mark, text_of}
 use Rattle.mlir_work_json.specs.declared.printing.PrintFault.{PrintFault}
 use Rattle.mlir_work_json.specs.declared.printing.PrintFault.TheVariants.{Memory, Write}
+use Rattle.mlir_work_script_base.specs.Cuts.{before}
 use Rattle.mlir_work_script_base.specs.Lines.{is_newline, onto_first}
 use Rattle.mlir_work_script_base.specs.Writes.{AppendsPreceding, Fails, Grows, GrowsPreceding, Stays, Stream}
 use Rattle.mlir_work_script_base.proofs.Joins.{appends_join, appends_none, grows_join}
@@ -69,6 +70,38 @@ json_more (k ∷ ks) l = ap (λ xs. json_text (k ++ 10 ∷ []) ++ xs) (json_more
 pub text_more : (ls : List (List ℕ)) (l : List ℕ) → text_of (ls ++ l ∷ []) ≡ text_of ls ++ (l ++ 10 ∷ [])
 text_more [] l = append-nil (l ++ 10 ∷ [])
 text_more (k ∷ ks) l = ap (λ xs. (k ++ 10 ∷ []) ++ xs) (text_more ks l) ∙ sym (append_assoc (k ++ 10 ∷ []) (text_of ks) (l ++ 10 ∷ []))
+
+-- the byte after the first line is a line feed, if there is one
+feed_from : (t : Bool) (b : ℕ) (bs : List ℕ) → is_newline b ≡ t
+    → (length (before is_newline bs) < length bs → take (length (before is_newline bs) + 1) bs ≡ before is_newline bs ++ 10 ∷ [])
+    → length (if t then [] else b ∷ before is_newline bs) < suc (length bs)
+    → take (length (if t then [] else b ∷ before is_newline bs) + 1) (b ∷ bs) ≡ (if t then [] else b ∷ before is_newline bs) ++ 10 ∷ []
+feed_from true b bs e ih h = let is : b ≡ 10 = grind (arith, e) in ap (λ x. x ∷ []) is
+feed_from false b bs e ih h =
+    let n = length (before is_newline bs) in
+    let more : suc n + 1 ≡ suc (n + 1) = omega arith in
+    ap (λ k. take k (b ∷ bs)) more ∙ ap (λ xs. b ∷ xs) (ih (omega (arith, h)))
+
+pub feed_after : (bytes : List ℕ) → length (before is_newline bytes) < length bytes → take (length (before is_newline bytes) + 1) bytes ≡ before is_newline bytes ++ 10 ∷ []
+feed_after [] h = absurd (omega (arith, h))
+feed_after (b ∷ bs) h = feed_from (is_newline b) b bs refl (feed_after bs) h
+
+-- a line feed ends the line that is kept
+pub text_step : {V : Type 0} (f : V → List ℕ) (m : List ℕ) (ls more : List V) (v : V) (kept empty line bytes : List ℕ) → more ≡ ls ++ v ∷ [] → f v ≡ kept ++ line → empty ≡ [] → bytes ≡ line ++ 10 ∷ []
+    → m ++ (text_of (map f more) ++ empty) ≡ (m ++ (text_of (map f ls) ++ kept)) ++ bytes
+text_step f m ls more v kept empty line bytes ls_are v_is none are =
+    let before = text_of (map f ls) in
+    let whole : text_of (map f more) ≡ before ++ (kept ++ (line ++ 10 ∷ [])) =
+    ap (λ xs. text_of (map f xs)) ls_are ∙ ap text_of (map-append f ls (v ∷ [])) ∙ text_more (map f ls) (f v)
+    ∙ ap (λ xs. before ++ (xs ++ 10 ∷ [])) v_is ∙ ap (λ xs. before ++ xs) (append_assoc kept line (10 ∷ [])) in
+    ap (λ xs. m ++ (text_of (map f more) ++ xs)) none ∙ ap (λ xs. m ++ xs) (append-nil (text_of (map f more))) ∙ ap (λ xs. m ++ xs) whole
+    ∙ ap (λ xs. m ++ xs) (sym (append_assoc before kept (line ++ 10 ∷ []))) ∙ sym (append_assoc m (before ++ kept) (line ++ 10 ∷ []))
+    ∙ ap (λ xs. (m ++ (before ++ kept)) ++ xs) (sym are)
+
+-- bytes without a line feed follow the line that is kept
+pub text_kept : (m text kept more bytes : List ℕ) → more ≡ kept ++ bytes → m ++ (text ++ more) ≡ (m ++ (text ++ kept)) ++ bytes
+text_kept m text kept more bytes e =
+    ap (λ xs. m ++ (text ++ xs)) e ∙ ap (λ xs. m ++ xs) (sym (append_assoc text kept bytes)) ∙ sym (append_assoc m (text ++ kept) bytes)
 
 -- ---- the bytes of the writer of the objects
 
@@ -258,6 +291,68 @@ cut_off s n ls false r f rest e = (json_of ls, json_text rest, json_whole ls res
 pub unprinted : (s n : Stream) (b r : Bool) → is_printed s n [] b r false ≡ true → Stays s n × (b ≡ false)
 unprinted s n true r e = absurd (true≢false (sym (part_of s n [] r false e).reason))
 unprinted s n false r e = let wrote = (whole_of s n [] r false e).wrote in ((keeps_of s.contents n.contents wrote.0, wrote.1), refl)
+
+-- ---- the same, for flags that are known by equations
+
+known : (s n : Stream) (ls : List (List ℕ)) (b c r f : Bool) → is_printed s n ls b r f ≡ true → b ≡ c → is_printed s n ls c r f ≡ true
+known s n ls b c r f e is = subst (λ (x : Bool). is_printed s n ls x r f ≡ true) is e
+
+pub refused_so : (s n : Stream) (ls : List (List ℕ)) (b r f : Bool) → is_printed s n ls b r f ≡ true → b ≡ false → is_printed s n ls true true true ≡ true
+refused_so s n ls b r f e is = printed_refused s n ls r f (known s n ls b false r f e is)
+
+pub reported_so : (s n : Stream) (ls : List (List ℕ)) (b r f : Bool) → is_printed s n ls b r f ≡ true → b ≡ true → is_printed s n ls b r true ≡ true
+reported_so s n ls b r f e is = known s n ls true b r true (printed_reported s n ls r f (known s n ls b true r f e is)) (sym is)
+
+pub flushed_so : (s n m : Stream) (ls : List (List ℕ)) (b r f : Bool) → is_printed s n ls b r f ≡ true → b ≡ false → Stays n m → is_printed s m ls b r f ≡ true
+flushed_so s n m ls b r f e is h = known s m ls false b r f (printed_flushed s n m ls r f (known s n ls b false r f e is) h) (sym is)
+
+pub unflushed_so : (s n m : Stream) (ls : List (List ℕ)) (b r f : Bool) → is_printed s n ls b r f ≡ true → b ≡ false → Fails n m → is_printed s m ls true false true ≡ true
+unflushed_so s n m ls b r f e is h = printed_unflushed s n m ls r f (known s n ls b false r f e is) h
+
+pub line_so : {T V : Type 0} (g : V → List ℕ) (s n m : Stream) (ls more : List V) (v : V) (b r f broken refused : Bool) (result : Result T PrintFault)
+    → is_printed s n (map g ls) b r f ≡ true → b ≡ false → more ≡ ls ++ v ∷ [] → Prints n m (json_text (g v ++ 10 ∷ [])) result
+    → broken ≡ is_err result → refused ≡ is_memory result → is_printed s m (map g more) broken refused f ≡ true
+line_so g s n m ls more v b r f broken refused result e is are h broken_is refused_is =
+    let lines : map g more ≡ map g ls ++ g v ∷ [] = ap (map g) are ∙ map-append g ls (v ∷ []) in
+    let printed = printed_line s n m (map g ls) (g v) r f result (known s n (map g ls) b false r f e is) h in
+    rw (lines, broken_is, refused_is) printed
+
+pub last_so : {T : Type 0} (s n m : Stream) (ls : List (List ℕ)) (l : List ℕ) (b r f : Bool) (result : Result T PrintFault) → is_printed s n ls b r f ≡ true → b ≡ false
+    → Prints n m (json_text l) result → PrintsAll s m (json_text (text_of ls ++ l)) result
+last_so s n m ls l b r f result e is h = printed_last s n m ls l r f result (known s n ls b false r f e is) h
+
+-- ---- what the flags say
+
+-- a write failed, unless memory ran out
+pub write_failed : (s n : Stream) (ls : List (List ℕ)) (b r f : Bool) → is_printed s n ls b r f ≡ true → (s.failed || (f || b)) ≡ true → (b && r) ≡ false → n.failed ≡ true
+write_failed s n ls true r f e some none = or_left n.failed r (part_of s n ls r f e).since none
+write_failed s n ls false r f e some none =
+    let whole = whole_of s n ls r f e in
+    whole.wrote.1 ∙ or_left s.failed (f || false) some (ap (λ x. x || false) whole.right)
+
+true_or_false : (b : Bool) → (b ≡ true) ⊎ (b ≡ false)
+true_or_false true = inl refl
+true_or_false false = inr refl
+
+pub silent_so : (s n : Stream) (ls : List (List ℕ)) (b r f : Bool) → is_printed s n ls b r f ≡ true → b ≡ false → f ≡ false
+silent_so s n ls b r f e is = (whole_of s n ls r f (known s n ls b false r f e is)).right
+
+-- what is reported is broken
+pub broken_so : (s n : Stream) (ls : List (List ℕ)) (b r f : Bool) → is_printed s n ls b r f ≡ true → f ≡ true → b ≡ true
+broken_so s n ls b r f e failed = elim (true_or_false b) [
+  | inl is ↦ is
+  | inr is ↦ absurd (true≢false (sym failed ∙ (whole_of s n ls r f (known s n ls b false r f e is)).right))
+]
+
+-- an empty text has no lines
+no_lines : (ls : List (List ℕ)) (line : List ℕ) → text_of ls ++ line ≡ [] → ls ≡ []
+no_lines [] line e = refl
+no_lines ([] ∷ ls) line e = absurd cc
+no_lines ((b ∷ bs) ∷ ls) line e = absurd cc
+
+-- nothing was printed of an empty text, unless a fault was reported
+pub none_so : (s n : Stream) (ls : List (List ℕ)) (line : List ℕ) (b r f : Bool) → is_printed s n ls b r f ≡ true → text_of ls ++ line ≡ [] → f ≡ false → Stays s n × (b ≡ false)
+none_so s n ls line b r f e none silent = let lines = no_lines ls line none in unprinted s n b r (subst (λ (x : Bool). is_printed s n [] b r x ≡ true) silent (subst (λ (xs : List (List ℕ)). is_printed s n xs b r f ≡ true) lines e))
 
 -- ---- the record of the text
 

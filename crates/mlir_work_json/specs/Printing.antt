@@ -80,6 +80,7 @@ known_mark (Some bytes) = suc (length bytes) ∷ bytes
 abbrev pub mark : Stream → List ℕ
 mark s = flag_number s.failed ∷ known_mark s.contents
 
--- the record of a text that is written as JSON: its bytes follow the mark of the writer's record at the start
+-- the record of a text that is written as JSON: its bytes follow the mark of the writer's record at the start. If that
+-- writer keeps no record, the flag is set
 abbrev pub text_stream : Stream → List ℕ → Bool → Stream
-text_stream start text failed = record { contents = Some (mark start ++ text); failed = failed }
+text_stream start text failed = record { contents = Some (mark start ++ text); failed = start.failed || failed }

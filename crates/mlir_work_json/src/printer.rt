@@ -3,8 +3,7 @@ ghost use Rattle.std.specs.Prelude.{◌≡◌, map, true};
 ghost use Rattle.mlir_work_json.specs.Printing.{is_printed};
 
 use crate::history::History;
-use crate::printing::{PrintFault, is_memory, print_last, print_line};
-use mlir_work_script_base::cuts::place_of;
+use crate::printing::{PrintFault, is_memory, print_last, print_line, whole_line};
 use mlir_work_script_base::sink::Sink;
 use mlir_work_script_base::writing::WriteFault;
 use std::alloc::Global;
@@ -118,18 +117,18 @@ impl<W: Sink> Sink for JsonLines<W> {
             self.failed = true;
             return Err(WriteFault);
         }
-        let Some(place) = place_of(bytes, b'\n') else {
+        let Some(line) = whole_line(bytes) else {
             return match self.keep(bytes) {
                 Ok(()) => Ok(bytes.len()),
                 Err(fault) => Err(fault),
             };
         };
-        match self.keep(&bytes[..place]) {
+        match self.keep(line) {
             Ok(()) => {}
             Err(fault) => return Err(fault),
         }
         self.end_line();
-        Ok(place + 1)
+        Ok(line.len() + 1)
     }
 
     fn flush_inner(&mut self) -> Result<(), WriteFault> {
@@ -150,6 +149,8 @@ impl<W: Sink> Sink for JsonLines<W> {
 }
 
 impl<W: Sink> JsonLines<W> {
+    ghost use Rattle.std.specs.Prelude.{◌&&◌};
+
     /// Returns whether an object wasn't written, or a flush failed.
     pub fn is_broken(&self) -> bool
         ensures { result ≡ self.now.broken }
@@ -159,15 +160,14 @@ impl<W: Sink> JsonLines<W> {
 
     /// Returns whether an object wasn't written since memory ran out.
     pub fn has_refused(&self) -> bool
-        ensures { result ≡ self.now.refused }
+        ensures { result ≡ (self.now.broken && self.now.refused) }
     {
-        self.refused
+        self.broken && self.refused
     }
-
 }
 
 impl<W: Sink> JsonLines<W> {
-    ghost use Rattle.std.specs.Prelude.{[], ◌++◌, ℕ, List, false};
+    ghost use Rattle.std.specs.Prelude.{[], ◌++◌, ◌&&◌, ◌||◌, ℕ, List, false};
     ghost use Rattle.mlir_work_json.specs.Lines.{json_text};
     ghost use Rattle.mlir_work_json.specs.Printing.{text_of};
     ghost use Rattle.mlir_work_script_base.specs.Writes.{AppendsPreceding, Stays};
@@ -178,25 +178,28 @@ impl<W: Sink> JsonLines<W> {
         ensures inner { result ≡ self.inner }
         ensures cut { (rest : List ℕ) → AppendsPreceding (W.stream self.start.value).contents (W.stream result).contents
             (json_text (text_of (map (λ l. l.items) self.lines.items) ++ rest)) }
-        ensures write { self.broken ≡ true → self.refused ≡ false → (W.stream result).failed ≡ true }
-        ensures reported { self.failed ≡ true → self.broken ≡ true }
-        ensures none { self.lines.items ≡ [] → self.failed ≡ false → Stays (W.stream self.start.value) (W.stream result) }
+        ensures write { ((W.stream self.start.value).failed || (self.failed || self.broken)) ≡ true
+            → (self.broken && self.refused) ≡ false → (W.stream result).failed ≡ true }
+        ensures none { text_of (map (λ l. l.items) self.lines.items) ++ self.line.items ≡ [] → self.failed ≡ false
+            → Stays (W.stream self.start.value) (W.stream result) × (self.broken ≡ false) }
     {
         self.inner
     }
 }
 
 impl<W: Sink> JsonLines<W> {
-    ghost use Rattle.std.specs.Prelude.{◌++◌, IfOk, false};
+    ghost use Rattle.std.specs.Prelude.{[], ◌++◌, IfOk, IsOk, false};
     ghost use Rattle.mlir_work_json.specs.Lines.{json_text};
     ghost use Rattle.mlir_work_json.specs.Printing.{PrintsAll, text_of};
 
-    /// Writes the last line as JSON, if it has no line feed, and flushes the writer of the objects. Returns that
+    /// Writes the last line as JSON, if it has no line feed, and then flushes the writer of the objects. Returns that
     /// writer, which has the JSON of the whole text, or a prefix of it.
     pub fn finish(self) -> (Result<(), PrintFault>, W)
         requires { self.broken ≡ false }
         ensures printed { PrintsAll (W.stream self.start.value) (W.stream result.1) (json_text (text_of (map (λ l. l.items) self.lines.items) ++ self.line.items)) result.0 }
-        ensures handed { IfOk result.0 (λ _. W.handed result.1 ≡ true) }
+        ensures handed { IfOk result.0 (λ _. W.handed self.inner ≡ true → W.handed result.1 ≡ true) }
+        ensures empty { self.line.items ≡ [] → IsOk result.0 }
+        ensures silent { self.failed ≡ false }
     {
         let (alloc, line) = (self.alloc, self.line);
         let mut inner = self.inner;

@@ -1,9 +1,10 @@
 //! Writes texts as JSON.
-ghost use Rattle.std.specs.Prelude.{◌≡◌, [], ◌∷◌, ◌++◌, IfOk, true};
+ghost use Rattle.std.specs.Prelude.{◌≡◌, ◌<◌, ◌+◌, [], ◌∷◌, ◌++◌, IfOk, IfSome, IsOk, length, take, true};
 ghost use Rattle.mlir_work_json.specs.Lines.{json_text};
 ghost use Rattle.mlir_work_json.specs.Printing.{Prints, is_memory};
 
 use crate::text::json_text;
+use mlir_work_script_base::cuts::cut_at;
 use mlir_work_script_base::sink::Sink;
 use mlir_work_script_base::writing::{flush, write};
 use std::alloc::Global;
@@ -25,8 +26,21 @@ pub(crate) fn is_memory(printed: &Result<(), PrintFault>) -> bool
     ensures { result ≡ is_memory printed.now }
 {
     match printed {
+        Ok(()) | Err(PrintFault::Write) => false,
         Err(PrintFault::Memory) => true,
-        _ => false,
+    }
+}
+
+/// Returns the first line without its line feed, if it has one.
+pub(crate) fn whole_line(bytes: &[u8]) -> Option<&[u8]>
+    ensures line { IfSome result (λ line. take (length line.now + 1) bytes.now ≡ line.now ++ 10 ∷ []) }
+    ensures within { IfSome result (λ line. length line.now < length bytes.now) }
+{
+    let (line, _) = cut_at(bytes, b'\n');
+    if line.len() < bytes.len() {
+        Some(line)
+    } else {
+        None
     }
 }
 
@@ -58,20 +72,22 @@ pub(crate) fn print_line<W: Sink>(
     print_text(alloc, line, writer)
 }
 
-/// Writes the last line, which has no line feed, as JSON, unless it is empty. Then flushes the writer.
+/// Writes the last line, which has no line feed, as JSON, and flushes the writer. Does nothing if the line is empty.
 pub(crate) fn print_last<W: Sink>(
     alloc: Global,
     line: &[u8],
     writer: &mut W,
 ) -> Result<(), PrintFault>
     ensures printed { Prints (W.stream writer.old) (W.stream writer.new) (json_text line.now) result }
-    ensures handed { IfOk result (λ _. W.handed writer.new ≡ true) }
+    ensures handed { IfOk result (λ _. W.handed writer.old ≡ true → W.handed writer.new ≡ true) }
+    ensures empty { line.now ≡ [] → IsOk result }
 {
-    if !line.is_empty() {
-        match print_text(alloc, line, writer) {
-            Ok(()) => {}
-            Err(fault) => return Err(fault),
-        }
+    if line.is_empty() {
+        return Ok(());
+    }
+    match print_text(alloc, line, writer) {
+        Ok(()) => {}
+        Err(fault) => return Err(fault),
     }
     match flush(writer) {
         Ok(()) => Ok(()),
