@@ -291,10 +291,13 @@ fn answer_lines(
     let boxes = all_listeners(rt.alloc(), given.options.opaque)?;
     let registry = rebuild_registry(rt.alloc(), patterns)?;
     let mut reader = Watched::new(rt.stdin());
-    let mut writer = watched(rt.alloc(), io::writer(rt))?;
+    let writer = watched(rt.alloc(), io::writer(rt))?;
     let (alloc, key, options) = (rt.alloc(), key_of(rt), given.options);
     let ran = match given.format {
-        Format::Text => run_live(alloc, key, options, &mut reader, &mut writer, boxes, registry),
+        Format::Text => {
+            let mut writer = writer;
+            run_live(alloc, key, options, &mut reader, &mut writer, boxes, registry)
+        }
         Format::Json => {
             let (ran, _) =
                 run_live_as_json(alloc, key, options, &mut reader, writer, boxes, registry);
