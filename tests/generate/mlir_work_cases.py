@@ -1515,7 +1515,8 @@ def interactive_json():
              "If the module is refused, its refusal is the only object."),
             ("module-unsupported", b'"a"() {x = 1.0 : f32} : () -> ()\n' + DIVIDER,
              "The refusal of a module names the unsupported construct."),
-            ("looks", TEXT + DIVIDER + looks, "Reports, a module and refusals are objects, and each answer has an end."),
+            ("looks", TEXT + DIVIDER + looks,
+             "Reports, a module and refusals are objects, and each answer has an end."),
             ("edits", TEXT + DIVIDER + edits, "Edits have the objects of their replies and of all rows."),
             ("patterns", TEXT + DIVIDER + patterns, "Patterns, checks, traces and counts are objects."),
             ("divider-in-script", TEXT + DIVIDER + DIVIDER + b"print\n", "A comment has no answer, and no object.")):

@@ -172,8 +172,8 @@ final_whole taken left a b on status other (inl h) = h.1.0
 final_whole taken left a b on status other (inr h) = absurd (other h.0)
 
 -- the flags of a watched writer before the run
-silent : (s : Stream) (f : Bool) → s.failed ≡ false → f ≡ false → (s.failed || f) ≡ false
-silent s f watched e = or_from s.failed f watched e
+quiet : (s : Stream) (f : Bool) → s.failed ≡ false → f ≡ false → (s.failed || f) ≡ false
+quiet s f watched e = or_from s.failed f watched e
 
 -- a run that doesn't end with status 4, with a last line
 pub final_leaves : {T : Type 0} (taken left : Intake) (s t n : Stream) (xs ys : List ℕ) (f g on broken handed : Bool) (status : ℕ) (printed : Result T PrintFault) (result : Result ℕ AllocError)
@@ -182,7 +182,7 @@ pub final_leaves : {T : Type 0} (taken left : Intake) (s t n : Stream) (xs ys : 
     → IfOk result (λ st. LeavesAt taken left s n handed st)
 final_leaves taken left s t n xs ys f g on broken handed status printed result start end watched other (inr h) = absurd (other h.0)
 final_leaves taken left s t n xs ys f g on broken handed status (Ok done) result start end watched other (inl h) wrote goes e =
-    let flag : (t.failed || g) ≡ false = h.1.1.0 ∙ silent s f watched start in
+    let flag : (t.failed || g) ≡ false = h.1.1.0 ∙ quiet s f watched start in
     let sound : n.failed ≡ s.failed = wrote.1 ∙ (or_parts t.failed g flag).0 ∙ sym watched in
     subst (λ (r : Result ℕ AllocError). IfOk r (λ st. LeavesAt taken left s n handed st)) (sym e) (inl (h.0, h.1.0, sound, goes (on_sound on broken h.1.1.1).0))
 final_leaves taken left s t n xs ys f g on broken handed status (Err Write) result start end watched other (inl h) wrote goes e =
@@ -204,7 +204,7 @@ pub cut_leaves : (taken left : Intake) (s t n : Stream) (xs ys : List ℕ) (f g 
 cut_leaves taken left s t n xs ys f g on broken refused handed status none start watched four unprinted reports enough (inl h) = absurd (not_final status four h.0)
 cut_leaves taken left s t n xs ys f g on broken refused handed status none start watched four unprinted reports enough (inr (e, inl (read, stays))) =
     let same = kept s t xs ys none stays.0 in
-    let flag : (t.failed || g) ≡ false = stays.1 ∙ silent s f watched start in
+    let flag : (t.failed || g) ≡ false = stays.1 ∙ quiet s f watched start in
     inr (refl, inl (read, stays_from s t n same.0 (unprinted same.1 (or_parts t.failed g flag).1).0))
 cut_leaves taken left s t n xs ys f g on broken refused handed status none start watched four unprinted reports enough (inr (e, inr (whole, failed))) =
     inr (refl, inr (whole, reports (or_wider t.failed g broken failed) enough))
@@ -216,7 +216,7 @@ pub refused_whole : (taken left : Intake) (s t n : Stream) (xs ys : List ℕ) (f
 refused_whole taken left s t n xs ys f g on broken refused status none start watched four unprinted memory (inl h) = absurd (not_final status four h.0)
 refused_whole taken left s t n xs ys f g on broken refused status none start watched four unprinted memory (inr (e, inl (read, stays))) =
     let same = kept s t xs ys none stays.0 in
-    let flag : (t.failed || g) ≡ false = stays.1 ∙ silent s f watched start in
+    let flag : (t.failed || g) ≡ false = stays.1 ∙ quiet s f watched start in
     absurd (true≢false (sym (and_first broken refused memory) ∙ (unprinted same.1 (or_parts t.failed g flag).1).1))
 refused_whole taken left s t n xs ys f g on broken refused status none start watched four unprinted memory (inr (e, inr (whole, failed))) = whole
 
@@ -328,9 +328,9 @@ last_printed P before all left s t n xs front line f g on handed ran result (Err
     let there = reached P before all left s t xs (front ++ line) f g on ran none watched end h in
     subst (λ (r : Result ℕ Unanswered). JsonEndedAt before (IsJsonOf P) all left s n handed r) (sym e) (inr (part_printed P all s t n front line (λ is. true≢false (sym (empty is))) there wrote.0))
 
-further : {T : Type 0} {on broken handed : Bool} (printed : Result T PrintFault) → IfOk printed (λ _. on ≡ true → handed ≡ true) → IfOk printed (λ _. (on && not broken) ≡ true → handed ≡ true)
-further {T} {on} {broken} {handed} (Ok done) goes = λ e. goes (and_first on (not broken) e)
-further (Err x) goes = tt
+handed_further : {T : Type 0} {on broken handed : Bool} (printed : Result T PrintFault) → IfOk printed (λ _. on ≡ true → handed ≡ true) → IfOk printed (λ _. (on && not broken) ≡ true → handed ≡ true)
+handed_further {T} {on} {broken} {handed} (Ok done) goes = λ e. goes (and_first on (not broken) e)
+handed_further (Err x) goes = tt
 
 pub if_printed : {T : Type 0} (o : Option (List ℕ)) (P : List ℕ → Answers) (before : List ℕ → ℕ) (all : List ℕ → List (List ℕ)) (left : Intake) (s t n : Stream) (xs front line : List ℕ) (f g on broken handed : Bool) (ran result : Result ℕ Unanswered) (printed : Result T PrintFault)
     → xs ≡ [] → s.failed ≡ false → g ≡ false → PrintsAll t n (json_text (front ++ line)) printed → IfOk printed (λ _. on ≡ true → handed ≡ true) → (line ≡ [] → is_ok printed ≡ true) → EndsLive printed ran result
@@ -338,7 +338,7 @@ pub if_printed : {T : Type 0} (o : Option (List ℕ)) (P : List ℕ → Answers)
     → IfSome o (λ input. JsonEndedAt (before input) (IsJsonOf (P input)) (all input) left s n handed result)
 if_printed None P before all left s t n xs front line f g on broken handed ran result printed none watched end wrote goes empty e h = tt
 if_printed (Some input) P before all left s t n xs front line f g on broken handed ran result printed none watched end wrote goes empty e h =
-    last_printed (P input) (before input) (all input) left s t n xs front line f g (on && not broken) handed ran result printed none watched end wrote (further printed goes) empty e h
+    last_printed (P input) (before input) (all input) left s t n xs front line f g (on && not broken) handed ran result printed none watched end wrote (handed_further printed goes) empty e h
 
 -- status 4 is that of a failed read or write
 pub printed_fault : {T : Type 0} (left : Intake) (s t n : Stream) (xs ys : List ℕ) (g : Bool) (ran result : Result ℕ Unanswered) (printed : Result T PrintFault) → g ≡ false

@@ -234,8 +234,8 @@ fn run_options_of(matches: &ArgMatches<'_>) -> Options
     ensures ends { IsFlag (found_of matches.now) (codes "interactive") result.ends }
     ensures opaque { IsFlag (found_of matches.now) (codes "opaque") result.opaque }
     ensures strict { IsFlag (found_of matches.now) (codes "strict") result.strict }
-    ensures explain { (asked : Bool) × IsFlag (found_of matches.now) (codes "explain") asked
-        × (result.explain ≡ (asked || is_json (format_named (first_value (found_of matches.now) (codes "format"))))) }
+    ensures explain { (alone : Bool) × IsFlag (found_of matches.now) (codes "explain") alone
+        × (result.explain ≡ (alone || is_json (format_named (first_value (found_of matches.now) (codes "format"))))) }
 {
     let explain = flag(matches, "explain");
     Options {

@@ -334,8 +334,8 @@ true_or_false : (b : Bool) → (b ≡ true) ⊎ (b ≡ false)
 true_or_false true = inl refl
 true_or_false false = inr refl
 
-pub silent_so : (s n : Stream) (ls : List (List ℕ)) (b r f : Bool) → is_printed s n ls b r f ≡ true → b ≡ false → f ≡ false
-silent_so s n ls b r f e is = (whole_of s n ls r f (known s n ls b false r f e is)).right
+pub unreported_so : (s n : Stream) (ls : List (List ℕ)) (b r f : Bool) → is_printed s n ls b r f ≡ true → b ≡ false → f ≡ false
+unreported_so s n ls b r f e is = (whole_of s n ls r f (known s n ls b false r f e is)).right
 
 -- what is reported is broken
 pub broken_so : (s n : Stream) (ls : List (List ℕ)) (b r f : Bool) → is_printed s n ls b r f ≡ true → f ≡ true → b ≡ true
@@ -352,7 +352,7 @@ no_lines ((b ∷ bs) ∷ ls) line e = absurd cc
 
 -- nothing was printed of an empty text, unless a fault was reported
 pub none_so : (s n : Stream) (ls : List (List ℕ)) (line : List ℕ) (b r f : Bool) → is_printed s n ls b r f ≡ true → text_of ls ++ line ≡ [] → f ≡ false → Stays s n × (b ≡ false)
-none_so s n ls line b r f e none silent = let lines = no_lines ls line none in unprinted s n b r (subst (λ (x : Bool). is_printed s n [] b r x ≡ true) silent (subst (λ (xs : List (List ℕ)). is_printed s n xs b r f ≡ true) lines e))
+none_so s n ls line b r f e none unreported = let lines = no_lines ls line none in unprinted s n b r (subst (λ (x : Bool). is_printed s n [] b r x ≡ true) unreported (subst (λ (xs : List (List ℕ)). is_printed s n xs b r f ≡ true) lines e))
 
 -- ---- the record of the text
 

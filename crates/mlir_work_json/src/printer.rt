@@ -199,7 +199,7 @@ impl<W: Sink> JsonLines<W> {
         ensures printed { PrintsAll (W.stream self.start.value) (W.stream result.1) (json_text (text_of (map (λ l. l.items) self.lines.items) ++ self.line.items)) result.0 }
         ensures handed { IfOk result.0 (λ _. W.handed self.inner ≡ true → W.handed result.1 ≡ true) }
         ensures empty { self.line.items ≡ [] → IsOk result.0 }
-        ensures silent { self.failed ≡ false }
+        ensures unreported { self.failed ≡ false }
     {
         let (alloc, line) = (self.alloc, self.line);
         let mut inner = self.inner;
