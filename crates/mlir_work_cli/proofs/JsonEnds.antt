@@ -6,6 +6,7 @@ use Rattle.std.specs.Prelude.{◌&&◌, ◌||◌, IfOk, IfSome, is_ok}
 use Rattle.std.specs.Io.KnownBytes.{Appends, Keeps}
 use Rattle.std.specs.declared.alloc.AllocError.{AllocError}
 use Rattle.std.proofs.lemmas.Bool.{or_from, or_parts}
+use Rattle.std.proofs.lemmas.Result.{IfOk-weaker}
 use Rattle.mlir_work_run.specs.session.Reads.{Intake, IsReadFault, IsReadWhole}
 use Rattle.mlir_work_run.specs.session.Writes.{AppendsPreceding, Grows, GrowsPreceding, Stays, Stream}
 use Rattle.mlir_work_json.specs.Lines.{json_text}
@@ -176,19 +177,30 @@ quiet : (s : Stream) (f : Bool) → s.failed ≡ false → f ≡ false → (s.fa
 quiet s f watched e = or_from s.failed f watched e
 
 -- a run that doesn't end with status 4, with a last line
+abbrev pub LeavesSo : Intake → Intake → Stream → Stream → Bool → Result ℕ AllocError → Type 0
+LeavesSo taken left s n handed result = IfOk result (λ st. LeavesAt taken left s n handed st)
+
+last_leaves : {T : Type 0} (taken left : Intake) (s t n : Stream) (out : List ℕ) (handed : Bool) (status : ℕ) (printed : Result T PrintFault) (result : Result ℕ AllocError)
+    → IsFinal status → IsReadWhole taken left → t.failed ≡ s.failed → PrintsAll t n (json_text out) printed → IfOk printed (λ _. handed ≡ true) → Ends printed status result → LeavesSo taken left s n handed result
+last_leaves taken left s t n out handed status (Ok done) result final whole same wrote all_on e =
+    subst (LeavesSo taken left s n handed) (sym e) (inl (final, whole, wrote.1 ∙ same, all_on))
+last_leaves taken left s t n out handed status (Err Write) result final whole same wrote all_on e =
+    subst (LeavesSo taken left s n handed) (sym e) (inr (refl, inr (whole, wrote.1)))
+last_leaves taken left s t n out handed status (Err Memory) (Ok x) final whole same wrote all_on e = absurd (true≢false (sym e))
+last_leaves taken left s t n out handed status (Err Memory) (Err x) final whole same wrote all_on e = tt
+
+handed_all : {T : Type 0} (on handed : Bool) (printed : Result T PrintFault) → on ≡ true → IfOk printed (λ _. on ≡ true → handed ≡ true) → IfOk printed (λ _. handed ≡ true)
+handed_all on handed (Ok done) is goes = goes is
+handed_all on handed (Err x) is goes = tt
+
 pub final_leaves : {T : Type 0} (taken left : Intake) (s t n : Stream) (xs ys : List ℕ) (f g on broken handed : Bool) (status : ℕ) (printed : Result T PrintFault) (result : Result ℕ AllocError)
-    → f ≡ false → g ≡ false → s.failed ≡ false → (status ≡ 4 → ⊥) → LeavesAt taken left (text_stream s xs f) (text_stream t ys g) (on && not broken) status
-    → PrintsAll t n (json_text ys) printed → IfOk printed (λ _. on ≡ true → handed ≡ true) → Ends printed status result
-    → IfOk result (λ st. LeavesAt taken left s n handed st)
-final_leaves taken left s t n xs ys f g on broken handed status printed result start end watched other (inr h) = absurd (other h.0)
-final_leaves taken left s t n xs ys f g on broken handed status (Ok done) result start end watched other (inl h) wrote goes e =
+    → f ≡ false → s.failed ≡ false → (status ≡ 4 → ⊥) → PrintsAll t n (json_text ys) printed → IfOk printed (λ _. on ≡ true → handed ≡ true) → Ends printed status result
+    → LeavesAt taken left (text_stream s xs f) (text_stream t ys g) (on && not broken) status → LeavesSo taken left s n handed result
+final_leaves taken left s t n xs ys f g on broken handed status printed result start watched other wrote goes e (inr h) = absurd (other h.0)
+final_leaves taken left s t n xs ys f g on broken handed status printed result start watched other wrote goes e (inl h) =
     let flag : (t.failed || g) ≡ false = h.1.1.0 ∙ quiet s f watched start in
-    let sound : n.failed ≡ s.failed = wrote.1 ∙ (or_parts t.failed g flag).0 ∙ sym watched in
-    subst (λ (r : Result ℕ AllocError). IfOk r (λ st. LeavesAt taken left s n handed st)) (sym e) (inl (h.0, h.1.0, sound, goes (on_sound on broken h.1.1.1).0))
-final_leaves taken left s t n xs ys f g on broken handed status (Err Write) result start end watched other (inl h) wrote goes e =
-    subst (λ (r : Result ℕ AllocError). IfOk r (λ st. LeavesAt taken left s n handed st)) (sym e) (inr (refl, inr (h.1.0, wrote.1)))
-final_leaves taken left s t n xs ys f g on broken handed status (Err Memory) (Ok x) start end watched other (inl h) wrote goes e = absurd (true≢false (sym e))
-final_leaves taken left s t n xs ys f g on broken handed status (Err Memory) (Err x) start end watched other (inl h) wrote goes e = tt
+    let same : t.failed ≡ s.failed = (or_parts t.failed g flag).0 ∙ sym watched in
+    last_leaves taken left s t n ys handed status printed result h.0 h.1.0 same wrote (handed_all on handed printed (on_sound on broken h.1.1.1).0 goes) e
 
 -- what the writer of lines says when it is given up
 abbrev pub Unprinted : Stream → Stream → List ℕ → Bool → Bool → Type 0
@@ -222,7 +234,7 @@ refused_whole taken left s t n xs ys f g on broken refused status none start wat
 
 -- ---- live runs
 
-abbrev Answers : Type 1
+abbrev pub Answers : Type 1
 Answers = List (List ℕ) → ℕ → List ℕ → Type 0
 
 -- an object wasn't written
@@ -340,15 +352,16 @@ if_printed None P before all left s t n xs front line f g on broken handed ran r
 if_printed (Some input) P before all left s t n xs front line f g on broken handed ran result printed none watched end wrote goes empty e h =
     last_printed (P input) (before input) (all input) left s t n xs front line f g (on && not broken) handed ran result printed none watched end wrote (handed_further printed goes) empty e h
 
+same_fault : (left : Intake) (t n : Stream) (ys : List ℕ) (g : Bool) → n.failed ≡ t.failed → g ≡ false → HasFailedLive left (text_stream t ys g) → HasFailedLive left n
+same_fault left t n ys g same end (inl read) = inl read
+same_fault left t n ys g same end (inr failed) = inr (same ∙ or_left t.failed g failed end)
+
 -- status 4 is that of a failed read or write
 pub printed_fault : {T : Type 0} (left : Intake) (s t n : Stream) (xs ys : List ℕ) (g : Bool) (ran result : Result ℕ Unanswered) (printed : Result T PrintFault) → g ≡ false
     → PrintsAll t n (json_text ys) printed → EndsLive printed ran result
     → IfOk ran (λ status. status ≡ 4 → HasFailedLive left (text_stream t ys g)) → IfOk result (λ status. status ≡ 4 → HasFailedLive left n)
-printed_fault left s t n xs ys g (Ok status) result (Ok done) end wrote e h =
-    subst (λ (r : Result ℕ Unanswered). IfOk r (λ st. st ≡ 4 → HasFailedLive left n)) (sym e) (λ four. elim (h four) [
-      | inl read ↦ inl read
-      | inr failed ↦ inr (wrote.1 ∙ or_left t.failed g failed end)
-    ])
-printed_fault left s t n xs ys g (Err x) result (Ok done) end wrote e h = subst (λ (r : Result ℕ Unanswered). IfOk r (λ st. st ≡ 4 → HasFailedLive left n)) (sym e) tt
+printed_fault left s t n xs ys g ran result (Ok done) end wrote e h =
+    subst (λ (r : Result ℕ Unanswered). IfOk r (λ st. st ≡ 4 → HasFailedLive left n)) (sym e)
+    (IfOk-weaker ran (λ st. st ≡ 4 → HasFailedLive left (text_stream t ys g)) (λ st. st ≡ 4 → HasFailedLive left n) (λ st fault four. same_fault left t n ys g wrote.1 end (fault four)) h)
 printed_fault left s t n xs ys g ran result (Err Write) end wrote e h = subst (λ (r : Result ℕ Unanswered). IfOk r (λ st. st ≡ 4 → HasFailedLive left n)) (sym e) (λ four. inr wrote.1)
 printed_fault left s t n xs ys g ran result (Err Memory) end wrote e h = subst (λ (r : Result ℕ Unanswered). IfOk r (λ st. st ≡ 4 → HasFailedLive left n)) (sym e) tt

@@ -1,12 +1,12 @@
 -- Proofs about a writer that converts lines to JSON.
-use Rattle.std.proofs.Common.{◌≡◌, ℕ, suc, ◌+◌, ◌-◌, ◌<◌, List, [], ◌∷◌, ◌++◌, Bool, true, false, true≢false, not, is_err, if◌then◌else◌, Option, Some, None, Result, Ok, Err, length, map, take, drop, get_or, refl, ap, sym, subst, ◌∙◌, ◌⊎◌, inl, inr, append_assoc, append-nil, length-append, arith}
-use Rattle.std.specs.Prelude.{◌&&◌, ◌||◌}
+use Rattle.std.proofs.Common.{◌≡◌, ℕ, suc, ◌+◌, ◌-◌, ◌<◌, List, [], ◌∷◌, ◌++◌, Bool, true, false, true≢false, not, if◌then◌else◌, Option, Some, None, Result, Ok, Err, length, map, take, drop, get_or, refl, ap, sym, subst, ◌∙◌, ◌⊎◌, inl, inr, append_assoc, append-nil, length-append, arith}
+use Rattle.std.specs.Prelude.{◌==◌, ◌&&◌, ◌||◌, is_err}
 use Rattle.std.specs.Str.{bytes_eq}
 use Rattle.std.specs.Io.KnownBytes.{Appends, Keeps}
+use lib.Seq.{take-append_seam}
 use Rattle.std.proofs.lemmas.Bool.{and_parts, and_from}
 use Rattle.std.proofs.lemmas.List.{map-append, take-append-drop}
 use Rattle.std.proofs.lemmas.Slice.Eq.{bytes_eq-Decides}
-use Rattle.std.proofs.lemmas.Grind.{common_steps}
 use Rattle.mlir_work_json.specs.Cuts.{parts}
 use Rattle.mlir_work_json.specs.Lines.{json_line, json_lines, json_text}
 use Rattle.mlir_work_json.specs.Printing.{Prints, PrintsAll, are_right, are_same, flag_number, has_line, has_more, is_memory, is_printed, json_of, known_mark, mark, text_of}
@@ -15,25 +15,25 @@ use Rattle.mlir_work_json.specs.declared.printing.PrintFault.TheVariants.{Memory
 use Rattle.mlir_work_script_base.specs.Cuts.{before}
 use Rattle.mlir_work_script_base.specs.Lines.{is_newline, onto_first}
 use Rattle.mlir_work_script_base.specs.Writes.{AppendsPreceding, Fails, Grows, GrowsPreceding, Stays, Stream}
-use Rattle.mlir_work_script_base.proofs.Joins.{appends_join, appends_none, grows_join}
+use Rattle.mlir_work_script_base.proofs.Joins.{appends_join, appends_none, grows_fails, grows_join, grows_stays}
 
 -- ---- the JSON of complete lines
 
 onto_some : (b : ℕ) (ls : List (List ℕ)) → onto_first b ls ≡ [] → ⊥
-onto_some b [] e = absurd cc
-onto_some b (l ∷ ls) e = absurd cc
+onto_some b [] e = let bad : (b ∷ []) ∷ [] ≡ [] = e in absurd cc
+onto_some b (l ∷ ls) e = let bad : (b ∷ l) ∷ ls ≡ [] = e in absurd cc
 
 onto_more : (b : ℕ) (ls rest : List (List ℕ)) → (ls ≡ [] → ⊥) → onto_first b (ls ++ rest) ≡ onto_first b ls ++ rest
 onto_more b [] rest some = absurd (some refl)
 onto_more b (l ∷ ls) rest some = refl
 
 if_some : (t : Bool) (b : ℕ) (ls : List (List ℕ)) → (if t then [] ∷ ls else onto_first b ls) ≡ [] → ⊥
-if_some true b ls e = absurd cc
+if_some true b ls e = let bad : [] ∷ ls ≡ [] = e in absurd cc
 if_some false b ls e = onto_some b ls e
 
 -- a line with its line feed is a part
 some_part : (line : List ℕ) → parts is_newline (line ++ 10 ∷ []) ≡ [] → ⊥
-some_part [] e = absurd cc
+some_part [] e = let bad : [] ∷ [] ≡ [] = e in absurd cc
 some_part (b ∷ bs) e = if_some (is_newline b) b (parts is_newline (bs ++ 10 ∷ [])) e
 
 parts_from : (t : Bool) (b : ℕ) (ls rest : List (List ℕ)) → (ls ≡ [] → ⊥) → (if t then [] ∷ (ls ++ rest) else onto_first b (ls ++ rest)) ≡ (if t then [] ∷ ls else onto_first b ls) ++ rest
@@ -90,13 +90,13 @@ feed_after (b ∷ bs) h = feed_from (is_newline b) b bs refl (feed_after bs) h
 pub text_step : {V : Type 0} (f : V → List ℕ) (m : List ℕ) (ls more : List V) (v : V) (kept empty line bytes : List ℕ) → more ≡ ls ++ v ∷ [] → f v ≡ kept ++ line → empty ≡ [] → bytes ≡ line ++ 10 ∷ []
     → m ++ (text_of (map f more) ++ empty) ≡ (m ++ (text_of (map f ls) ++ kept)) ++ bytes
 text_step f m ls more v kept empty line bytes ls_are v_is none are =
-    let before = text_of (map f ls) in
-    let whole : text_of (map f more) ≡ before ++ (kept ++ (line ++ 10 ∷ [])) =
+    let front = text_of (map f ls) in
+    let whole : text_of (map f more) ≡ front ++ (kept ++ (line ++ 10 ∷ [])) =
     ap (λ xs. text_of (map f xs)) ls_are ∙ ap text_of (map-append f ls (v ∷ [])) ∙ text_more (map f ls) (f v)
-    ∙ ap (λ xs. before ++ (xs ++ 10 ∷ [])) v_is ∙ ap (λ xs. before ++ xs) (append_assoc kept line (10 ∷ [])) in
+    ∙ ap (λ xs. front ++ (xs ++ 10 ∷ [])) v_is ∙ ap (λ xs. front ++ xs) (append_assoc kept line (10 ∷ [])) in
     ap (λ xs. m ++ (text_of (map f more) ++ xs)) none ∙ ap (λ xs. m ++ xs) (append-nil (text_of (map f more))) ∙ ap (λ xs. m ++ xs) whole
-    ∙ ap (λ xs. m ++ xs) (sym (append_assoc before kept (line ++ 10 ∷ []))) ∙ sym (append_assoc m (before ++ kept) (line ++ 10 ∷ []))
-    ∙ ap (λ xs. (m ++ (before ++ kept)) ++ xs) (sym are)
+    ∙ ap (λ xs. m ++ xs) (sym (append_assoc front kept (line ++ 10 ∷ []))) ∙ sym (append_assoc m (front ++ kept) (line ++ 10 ∷ []))
+    ∙ ap (λ xs. (m ++ (front ++ kept)) ++ xs) (sym are)
 
 -- bytes without a line feed follow the line that is kept
 pub text_kept : (m text kept more bytes : List ℕ) → more ≡ kept ++ bytes → m ++ (text ++ more) ≡ (m ++ (text ++ kept)) ++ bytes
@@ -127,7 +127,7 @@ more_preceding (Some old) (Some new) json e =
 took : (old preceding back : List ℕ) → take (length (old ++ preceding) - length old) (preceding ++ back) ≡ preceding
 took old preceding back =
     let n : length (old ++ preceding) - length old ≡ length preceding = omega (arith, length-append old preceding) in
-    rw n (grind (arith, common_steps))
+    ap (λ k. take k (preceding ++ back)) n ∙ take-append_seam preceding back
 
 preceding_more : (a b : Option (List ℕ)) (json : List ℕ) → AppendsPreceding a b json → has_more a b json true ≡ true
 preceding_more None b json h = refl
@@ -216,6 +216,27 @@ keeps_of (Some xs) (Some ys) h = h ∙ append-nil xs
 all_preceding : (a b : Option (List ℕ)) (json : List ℕ) → Appends a b json → AppendsPreceding a b json
 all_preceding a b json h = (json, [], sym (append-nil json), h)
 
+-- ---- writes of one text
+
+pub stays_same : (s : Stream) → Stays s s
+stays_same s = (keeps_same s.contents, refl)
+
+-- an empty text is written at once
+pub empty_printed : (s : Stream) (text : List ℕ) → (length text == 0) ≡ true → Grows s s (json_text text)
+empty_printed s [] e = (appends_none s.contents s.contents (keeps_same s.contents), refl)
+empty_printed s (b ∷ bs) e = absurd (grind (arith, e))
+
+pub never_empty : {A : Type 0} (text : List ℕ) → (length text == 0) ≡ false → text ≡ [] → A
+never_empty [] e is = absurd (true≢false e)
+never_empty (b ∷ bs) e is = absurd cc
+
+-- a flush after a text
+pub flushed_all : (a b c : Stream) (xs : List ℕ) → Grows a b xs → Stays b c → Grows a c xs
+flushed_all a b c xs h k = grows_stays a b c xs h k
+
+pub flushed_none : (a b c : Stream) (xs : List ℕ) → Grows a b xs → Fails b c → GrowsPreceding a c xs
+flushed_none a b c xs h k = grows_fails a b c xs xs [] (sym (append-nil xs)) h k
+
 -- ---- steps of the writer
 
 -- at the start
@@ -280,11 +301,13 @@ printed_last s n m ls l r f (Err Memory) e h =
 printed_last s n m ls l r f (Err Write) e h =
     (subst (AppendsPreceding s.contents m.contents) (sym (json_whole ls l)) (preceding_join s.contents n.contents m.contents (json_of ls) (json_text l) (whole_of s n ls r f e).wrote.0 h.0), h.1)
 
+preceding_wider : (a b : Option (List ℕ)) (xs ys : List ℕ) → AppendsPreceding a b xs → AppendsPreceding a b (xs ++ ys)
+preceding_wider a b xs ys (preceding, back, is, h) = (preceding, back ++ ys, ap (λ zs. zs ++ ys) is ∙ append_assoc preceding back ys, h)
+
 -- what was written is a prefix of the JSON of each text that begins with the complete lines
 pub cut_off : (s n : Stream) (ls : List (List ℕ)) (b r f : Bool) (rest : List ℕ) → is_printed s n ls b r f ≡ true → AppendsPreceding s.contents n.contents (json_text (text_of ls ++ rest))
 cut_off s n ls true r f rest e =
-    let (preceding, back, is, h) = (part_of s n ls r f e).wrote in
-    (preceding, back ++ json_text rest, json_whole ls rest ∙ ap (λ xs. xs ++ json_text rest) is ∙ append_assoc preceding back (json_text rest), h)
+    subst (AppendsPreceding s.contents n.contents) (sym (json_whole ls rest)) (preceding_wider s.contents n.contents (json_of ls) (json_text rest) (part_of s n ls r f e).wrote)
 cut_off s n ls false r f rest e = (json_of ls, json_text rest, json_whole ls rest, (whole_of s n ls r f e).wrote.0)
 
 -- nothing was printed, unless there is a line or a fault
@@ -347,8 +370,8 @@ broken_so s n ls b r f e failed = elim (true_or_false b) [
 -- an empty text has no lines
 no_lines : (ls : List (List ℕ)) (line : List ℕ) → text_of ls ++ line ≡ [] → ls ≡ []
 no_lines [] line e = refl
-no_lines ([] ∷ ls) line e = absurd cc
-no_lines ((b ∷ bs) ∷ ls) line e = absurd cc
+no_lines ([] ∷ ls) line e = let bad : 10 ∷ (text_of ls ++ line) ≡ [] = e in absurd cc
+no_lines ((b ∷ bs) ∷ ls) line e = let bad : b ∷ (((bs ++ 10 ∷ []) ++ text_of ls) ++ line) ≡ [] = e in absurd cc
 
 -- nothing was printed of an empty text, unless a fault was reported
 pub none_so : (s n : Stream) (ls : List (List ℕ)) (line : List ℕ) (b r f : Bool) → is_printed s n ls b r f ≡ true → text_of ls ++ line ≡ [] → f ≡ false → Stays s n × (b ≡ false)

@@ -38,6 +38,7 @@ impl<W: Sink> JsonLines<W> {
     ghost use Rattle.std.specs.Prelude.{[], false};
 
     /// Returns a writer of text that writes objects to a writer.
+    #[tactic(auto, using(crate::proofs::Printed::printed_none))]
     pub fn new(alloc: Global, inner: W) -> JsonLines<W>
         ensures start { result.start.value ≡ inner }
         ensures lines { result.lines.items ≡ [] }
@@ -81,6 +82,7 @@ impl<W: Sink> JsonLines<W> {
     ghost use Rattle.std.specs.Prelude.{◌++◌, ◌&&◌, OnErr, OnOk, not};
 
     /// Appends bytes to the line that is kept. If memory runs out, reports a fault.
+    #[tactic(auto, using(crate::proofs::Printed::refused_so))]
     fn keep(&mut self, bytes: &[u8]) -> Result<(), WriteFault>
         requires { self.old.broken ≡ false }
         ensures line { OnOk result (self.new.line.items ≡ self.old.line.items ++ bytes.now) }
@@ -112,6 +114,7 @@ impl<W: Sink> Sink for JsonLines<W> {
 
     ghost handed = { λ p. W.handed p.inner && not p.broken };
 
+    #[tactic(auto, using(crate::proofs::Printed::reported_so, crate::proofs::Printed::text_kept, crate::proofs::Printed::text_step))]
     fn write_some(&mut self, bytes: &[u8]) -> Result<usize, WriteFault> {
         if self.broken {
             self.failed = true;
@@ -131,6 +134,7 @@ impl<W: Sink> Sink for JsonLines<W> {
         Ok(line.len() + 1)
     }
 
+    #[tactic(auto, using(crate::proofs::Printed::reported_so, crate::proofs::Printed::flushed_so, crate::proofs::Printed::unflushed_so))]
     fn flush_inner(&mut self) -> Result<(), WriteFault> {
         if self.broken {
             self.failed = true;
@@ -174,6 +178,7 @@ impl<W: Sink> JsonLines<W> {
 
     /// Returns the writer of the objects, without the line that isn't complete yet. It has a prefix of the JSON of each
     /// text that begins with the complete lines.
+    #[tactic(auto, using(crate::proofs::Printed::cut_off, crate::proofs::Printed::write_failed, crate::proofs::Printed::none_so))]
     pub fn into_inner(self) -> W
         ensures inner { result ≡ self.inner }
         ensures cut { (rest : List ℕ) → AppendsPreceding (W.stream self.start.value).contents (W.stream result).contents
@@ -194,6 +199,7 @@ impl<W: Sink> JsonLines<W> {
 
     /// Writes the last line as JSON, if it has no line feed, and then flushes the writer of the objects. Returns that
     /// writer, which has the JSON of the whole text, or a prefix of it.
+    #[tactic(auto, using(crate::proofs::Printed::last_so, crate::proofs::Printed::unreported_so))]
     pub fn finish(self) -> (Result<(), PrintFault>, W)
         requires { self.broken ≡ false }
         ensures printed { PrintsAll (W.stream self.start.value) (W.stream result.1) (json_text (text_of (map (λ l. l.items) self.lines.items) ++ self.line.items)) result.0 }

@@ -32,6 +32,7 @@ pub(crate) fn is_memory(printed: &Result<(), PrintFault>) -> bool
 }
 
 /// Returns the first line without its line feed, if it has one.
+#[tactic(auto, using(crate::proofs::Printed::feed_after))]
 pub(crate) fn whole_line(bytes: &[u8]) -> Option<&[u8]>
     ensures line { IfSome result (λ line. take (length line.now + 1) bytes.now ≡ line.now ++ 10 ∷ []) }
     ensures within { IfSome result (λ line. length line.now < length bytes.now) }
@@ -45,6 +46,7 @@ pub(crate) fn whole_line(bytes: &[u8]) -> Option<&[u8]>
 }
 
 /// Writes a text as JSON.
+#[tactic(auto, using(crate::proofs::Printed::stays_same))]
 fn print_text<W: Sink>(alloc: Global, text: &[u8], writer: &mut W) -> Result<(), PrintFault>
     ensures { Prints (W.stream writer.old) (W.stream writer.new) (json_text text.now) result }
 {
@@ -58,6 +60,7 @@ fn print_text<W: Sink>(alloc: Global, text: &[u8], writer: &mut W) -> Result<(),
 }
 
 /// Writes a line as JSON, and appends the line feed to it, unless memory runs out.
+#[tactic(auto, using(crate::proofs::Printed::stays_same))]
 pub(crate) fn print_line<W: Sink>(
     alloc: Global,
     line: &mut Vec<u8>,
@@ -73,6 +76,7 @@ pub(crate) fn print_line<W: Sink>(
 }
 
 /// Writes the last line, which has no line feed, as JSON, and flushes the writer. Does nothing if the line is empty.
+#[tactic(auto, using(crate::proofs::Printed::empty_printed, crate::proofs::Printed::never_empty, crate::proofs::Printed::flushed_all, crate::proofs::Printed::flushed_none))]
 pub(crate) fn print_last<W: Sink>(
     alloc: Global,
     line: &[u8],
