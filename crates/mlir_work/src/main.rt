@@ -296,11 +296,26 @@ fn answer_lines(
     let ran = match given.format {
         Format::Text => {
             let mut writer = writer;
-            run_live(alloc, key, options, &mut reader, &mut writer, boxes, registry)
+            run_live(
+                alloc,
+                key,
+                options,
+                &mut reader,
+                &mut writer,
+                boxes,
+                registry,
+            )
         }
         Format::Json => {
-            let (ran, _) =
-                run_live_as_json(alloc, key, options, &mut reader, writer, boxes, registry);
+            let (ran, _) = run_live_as_json(
+                alloc,
+                key,
+                options,
+                &mut reader,
+                writer,
+                boxes,
+                registry,
+            );
             ran
         }
     };
