@@ -1,8 +1,8 @@
 -- Proofs about the end of a run with JSON output. A run writes its text to a writer of JSON lines: `s` is the record of
 -- the writer of the objects before the run, `t` is what the writer of lines has as that record, and `n` is the record
 -- after the run.
-use Rattle.std.proofs.Common.{◌≡◌, ◌∙◌, ◌⊎◌, inl, inr, ℕ, Bool, true, false, true≢false, not, List, [], ◌∷◌, ◌++◌, append_assoc, append-nil, Option, Some, None, Result, Ok, Err, refl, sym, ap, subst, arith}
-use Rattle.std.specs.Prelude.{◌&&◌, ◌||◌, IfOk, IfSome, is_ok}
+use Rattle.std.proofs.Common.{◌≡◌, ◌∙◌, ◌⊎◌, inl, inr, ℕ, Bool, true, false, true≢false, not, List, [], ◌∷◌, ◌++◌, append_assoc, append-nil, Option, Some, None, Result, Ok, Err, map, refl, sym, ap, subst, arith}
+use Rattle.std.specs.Prelude.{◌&&◌, ◌||◌, IfOk, IfSome, OnErr, is_ok}
 use Rattle.std.specs.Io.KnownBytes.{Appends, Keeps}
 use Rattle.std.specs.declared.alloc.AllocError.{AllocError}
 use Rattle.std.proofs.lemmas.Bool.{or_from, or_parts}
@@ -76,6 +76,10 @@ cut_of s t n ls line xs out none cuts (front, back, is, h) =
     let same = grown s t xs (text_of ls ++ line) front none h in
     let whole : text_of ls ++ (line ++ back) ≡ out = sym (append_assoc (text_of ls) line back) ∙ ap (λ (zs : List ℕ). zs ++ back) same.1 ∙ sym is in
     preceding_from s t n (json_text out) same.0 (subst (λ (zs : List ℕ). AppendsPreceding t.contents n.contents (json_text zs)) whole (cuts (line ++ back)))
+
+-- a writer of lines without lines has no text
+pub no_text : {V : Type 0} (f : V → List ℕ) (ls : List V) (line : List ℕ) → ls ≡ [] → line ≡ [] → text_of (map f ls) ++ line ≡ []
+no_text f ls line none empty = ap (λ xs. text_of (map f xs) ++ line) none ∙ empty
 
 -- ---- whole runs
 
@@ -232,7 +236,15 @@ refused_whole taken left s t n xs ys f g on broken refused status none start wat
     absurd (true≢false (sym (and_first broken refused memory) ∙ (unprinted same.1 (or_parts t.failed g flag).1).1))
 refused_whole taken left s t n xs ys f g on broken refused status none start watched four unprinted memory (inr (e, inr (whole, failed))) = whole
 
+pub or_whole : (taken left : Intake) (result : Result ℕ AllocError) → IsReadWhole taken left → OnErr result (IsReadWhole taken left)
+or_whole taken left (Ok status) whole = tt
+or_whole taken left (Err e) whole = whole
+
 -- ---- live runs
+
+-- an object wasn't written, and memory didn't run out
+pub broken_reports : (t n : Stream) (g broken refused : Bool) → broken ≡ true → (broken && refused) ≡ false → Reports t n g broken refused → n.failed ≡ true
+broken_reports t n g broken refused is enough reports = reports (or_true t.failed (g || broken) (or_true g broken is)) enough
 
 abbrev pub Answers : Type 1
 Answers = List (List ℕ) → ℕ → List ℕ → Type 0
