@@ -79,7 +79,7 @@ impl<W: Sink> JsonLines<W> {
 }
 
 impl<W: Sink> JsonLines<W> {
-    ghost use Rattle.std.specs.Prelude.{◌++◌, ◌&&◌, OnErr, OnOk, not};
+    ghost use Rattle.std.specs.Prelude.{◌++◌, OnErr, OnOk, false};
 
     /// Appends bytes to the line that is kept. If memory runs out, reports a fault.
     #[tactic(auto, using(crate::proofs::Printed::refused_so))]
