@@ -1,5 +1,5 @@
 -- Proofs about the values of the command line.
-use Rattle.std.proofs.Common.{◌≡◌, ℕ, List, [], Bool, true, false, Option, Some, None, refl, ap, ◌∙◌}
+use Rattle.std.proofs.Common.{◌≡◌, ℕ, List, [], Option, Some, None, refl, ap, ◌∙◌}
 use Rattle.std.specs.Prelude.{option_map}
 use Rattle.clap.specs.Matches.{raw_values}
 use Rattle.clap.specs.declared.parser.matches.MatchedArg.{MatchedArg}

@@ -7,14 +7,14 @@ use Rattle.std.specs.Io.KnownBytes.{Appends, Keeps}
 use Rattle.std.specs.declared.alloc.AllocError.{AllocError}
 use Rattle.std.proofs.lemmas.Bool.{or_from, or_parts}
 use Rattle.std.proofs.lemmas.Result.{IfOk-weaker}
-use Rattle.mlir_work_run.specs.session.Reads.{Intake, IsReadFault, IsReadWhole}
+use Rattle.mlir_work_run.specs.session.Reads.{Intake, IsReadWhole}
 use Rattle.mlir_work_run.specs.session.Writes.{AppendsPreceding, Grows, GrowsPreceding, Stays, Stream}
 use Rattle.mlir_work_json.specs.Lines.{json_text}
 use Rattle.mlir_work_json.specs.Printing.{PrintsAll, mark, text_of, text_stream}
 use Rattle.mlir_work_json.specs.declared.printing.PrintFault.{PrintFault}
 use Rattle.mlir_work_json.specs.declared.printing.PrintFault.TheVariants.{Memory, Write}
 use Rattle.mlir_work_json.proofs.Printed.{same_start}
-use Rattle.mlir_work_run.specs.Ends.{HasFailed, HasStatus, IsFinal, LeavesAt}
+use Rattle.mlir_work_run.specs.Ends.{HasStatus, IsFinal, LeavesAt}
 use Rattle.mlir_work_run.specs.Live.{Anywhere, AreFirst, BeforeTooLong, HasFailedLive, IsCutOff, IsUpTo, LiveEndedAt, MayStop}
 use Rattle.mlir_work_run.specs.declared.live.Unanswered.{Unanswered}
 use Rattle.mlir_work_run.specs.declared.live.Unanswered.TheVariants.{Memory as LineMemory, TooLong as LineTooLong}

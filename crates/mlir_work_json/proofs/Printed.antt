@@ -1,7 +1,6 @@
 -- Proofs about a writer that converts lines to JSON.
 use Rattle.std.proofs.Common.{◌≡◌, ℕ, suc, ◌+◌, ◌-◌, ◌<◌, List, [], ◌∷◌, ◌++◌, Bool, true, false, true≢false, not, if◌then◌else◌, Option, Some, None, Result, Ok, Err, length, map, take, drop, get_or, refl, ap, sym, subst, ◌∙◌, ◌⊎◌, inl, inr, append_assoc, append-nil, length-append, arith}
 use Rattle.std.specs.Prelude.{◌==◌, ◌&&◌, ◌||◌, is_err}
-use Rattle.std.specs.Str.{bytes_eq}
 use Rattle.std.specs.Io.KnownBytes.{Appends, Keeps}
 use lib.Seq.{take-append_seam}
 use Rattle.std.proofs.lemmas.Bool.{and_parts, and_from}
@@ -9,7 +8,7 @@ use Rattle.std.proofs.lemmas.List.{map-append, take-append-drop}
 use Rattle.std.proofs.lemmas.Slice.Eq.{bytes_eq-Decides}
 use Rattle.mlir_work_json.specs.Cuts.{parts}
 use Rattle.mlir_work_json.specs.Lines.{json_line, json_lines, json_text}
-use Rattle.mlir_work_json.specs.Printing.{Prints, PrintsAll, are_right, are_same, flag_number, has_line, has_more, is_memory, is_printed, json_of, known_mark, mark, text_of}
+use Rattle.mlir_work_json.specs.Printing.{Prints, PrintsAll, are_same, flag_number, has_line, has_more, is_memory, is_printed, json_of, known_mark, mark, text_of}
 use Rattle.mlir_work_json.specs.declared.printing.PrintFault.{PrintFault}
 use Rattle.mlir_work_json.specs.declared.printing.PrintFault.TheVariants.{Memory, Write}
 use Rattle.mlir_work_script_base.specs.Cuts.{before}

@@ -1,4 +1,4 @@
-use Rattle.std.proofs.Common.{◌≡◌, ◌++◌, ℕ, List, Vec, Global, map, refl, sym, ap, ◌∙◌}
+use Rattle.std.proofs.Common.{◌++◌, ℕ, Vec, Global, map, refl, sym, ap, ◌∙◌}
 use Rattle.std.proofs.lemmas.Result.{IfOk-weaker}
 use Rattle.mlir_work_run.specs.session.Panels.{all_shown}
 use Rattle.mlir_work_run.specs.session.Registry.{registry_model}

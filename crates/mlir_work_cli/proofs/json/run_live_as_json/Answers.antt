@@ -1,4 +1,4 @@
-use Rattle.std.proofs.Common.{◌≡◌, ◌++◌, ◌+◌, ℕ, List, Vec, Global, Bool, false, length, map, refl, sym, ap, ◌∙◌, inr}
+use Rattle.std.proofs.Common.{◌++◌, ◌+◌, ℕ, Vec, Global, false, length, map, sym, ap, ◌∙◌, inr}
 use Rattle.mlir_work_run.specs.session.Panels.{all_shown}
 use Rattle.mlir_work_run.specs.session.Parts.{module_text, script_text}
 use Rattle.mlir_work_run.specs.session.Registry.{registry_model}
