@@ -33,7 +33,7 @@ impl<'a> Model for ResultUses<'a> {
 }
 
 impl<'a> ResultUses<'a> {
-    /// Returns the uses of `count` results, of which `first` is the head of the use list of the first.
+    /// Returns the uses of `count` results. `first` is the head of the use list of the first result.
     #[inline(always)]
     pub fn new(
         slots: &'a Slots,
