@@ -71,8 +71,7 @@ class Editor:
         for opens, them, closes in (("<{", properties, "}>"), ("{", attributes, "}")):
             if them:
                 text += f" {opens}{', '.join(f'{key} = {it}' for key, it in them.items())}{closes}"
-        text += f' : ({", ".join(types)}) -> ({", ".join(f"({it})" if it.startswith("(") else it for it in results)})'
-        text = text.replace("((i32) -> i1)", "(i32) -> i1") if len(results) > 1 else text
+        text += f' : ({", ".join(types)}) -> ({", ".join(results)})'
         return (f"insert {place} {text}",
                 lambda it: it.insert(place, name, operands, results, properties, attributes))
 
