@@ -7,6 +7,7 @@ python3 -m oracle [--brief] [--limit N] [FLAG].. --interactive < INPUT
                       read
     --explain         a refusal is followed by what it is about, as in JSON without the flag
     --strict          the status is 1 if a command rewrites by a pattern that no check proves for the module
+    --analyses LIST   the kinds of analyses that are attached at the start, with commas between them, or all, or none
     --patterns FILE   user patterns that a run begins with, a line each; may be repeated
 
 FORMAT is text or json. With --interactive each line is answered as soon as it arrives."""
@@ -14,19 +15,20 @@ import re
 import sys
 
 from . import aliases, json_lines, live, own, rules
-from .script import LIMIT, MOST_LIMIT
+from .script import BOXES, LIMIT, MOST_LIMIT, listed
 
 
 class Options:
-    """Whether to be brief, the limit, the format, what reads texts, whether lines are answered one by one, and the
-    files of patterns."""
+    """Whether to be brief, the limit, the format, the analyses, what reads texts, whether lines are answered one by
+    one, and the files of patterns."""
 
     def __init__(self, words):
-        self.limit, self.files, self.format, self.flags = None, [], None, set()
+        self.limit, self.files, self.format, self.boxes, self.flags = None, [], None, None, set()
         while words:
             words = self.after(*words)
         self.brief, self.is_live = "--brief" in self.flags, "--interactive" in self.flags
         self.limit = self.limit or LIMIT
+        self.boxes = BOXES if self.boxes is None else self.boxes
         self.reader = aliases.Reader if "--opaque" in self.flags else rules.Reader
         self.explained = "--explain" in self.flags or self.format == "json"
         if self.is_live and self.format:
@@ -40,6 +42,9 @@ class Options:
         if word == "--format" and self.format is None and rest and rest[0] in ("text", "json"):
             self.format = rest[0]
             return rest[1:]
+        if word == "--analyses" and self.boxes is None and rest and listed(rest[0]) is not None:
+            self.boxes = listed(rest[0])
+            return rest[1:]
         if word == "--patterns" and rest:
             self.files.append(rest[0])
             return rest[1:]
@@ -51,7 +56,8 @@ class Options:
 
     def run(self, given, out):
         """Runs an input, and gives the status. Nothing of it is read where a pattern is refused."""
-        how = self.brief, self.limit, own.book_of(self.files), self.reader, self.explained, "--strict" in self.flags
+        how = (self.brief, self.limit, own.book_of(self.files), self.reader, self.explained, "--strict" in self.flags,
+               self.boxes)
         if self.is_live:
             for status, told in own.answers(live.lines_of(given), *how):
                 out.write(told)

@@ -276,7 +276,21 @@ def said(line):
     return worded(line)
 
 
+def is_object(line):
+    """Whether a line is a JSON object, such as one that `show` prints."""
+    try:
+        return line.startswith(b"{") and isinstance(json.loads(line.decode()), dict)
+    except ValueError:
+        return False
+
+
+def json_line(line):
+    """A line as JSON. A line that is an object stays as it is."""
+    if is_object(line):
+        return line.decode()
+    return json.dumps(said(line), sort_keys=True, ensure_ascii=False, separators=(",", ":"))
+
+
 def json_of(output):
     """A whole output as JSON."""
-    return "".join(json.dumps(said(line), sort_keys=True, ensure_ascii=False, separators=(",", ":")) + "\n"
-                   for line in parts(output, b"\n")).encode()
+    return "".join(json_line(line) + "\n" for line in parts(output, b"\n")).encode()

@@ -50,8 +50,8 @@ def answers(lines, brief=True, limit=script.LIMIT, boxes=script.BOXES, commands=
             yield status, told.encode() + END
 
 
-def run(text, brief=True, limit=script.LIMIT, reader=rules.Reader, explained=False, strict=False):
+def run(text, brief=True, limit=script.LIMIT, reader=rules.Reader, explained=False, strict=False, boxes=script.BOXES):
     """The status of a run over an input, and what it writes."""
-    statuses, told = zip(*answers(lines_of(io.BytesIO(text)), brief, limit, reader=reader, explained=explained,
+    statuses, told = zip(*answers(lines_of(io.BytesIO(text)), brief, limit, boxes, reader=reader, explained=explained,
                                   strict=strict))
     return statuses[-1], b"".join(told)

@@ -53,14 +53,15 @@ class Run(script.Run):
         self.book = dict(book or {})
 
 
-def run(text, brief=True, limit=LIMIT, book=None, reader=rules.Reader, explained=False, strict=False):
+def run(text, brief=True, limit=LIMIT, book=None, reader=rules.Reader, explained=False, strict=False, boxes=BOXES):
     """The status of a run over an input, and what it writes."""
-    return script.run(text, brief, BOXES, ALL, limit, functools.partial(Run, book=book), reader, explained, strict)
+    return script.run(text, brief, boxes, ALL, limit, functools.partial(Run, book=book), reader, explained, strict)
 
 
-def answers(lines, brief=True, limit=LIMIT, book=None, reader=rules.Reader, explained=False, strict=False):
+def answers(lines, brief=True, limit=LIMIT, book=None, reader=rules.Reader, explained=False, strict=False,
+            boxes=BOXES):
     """The answers to an input whose lines come one by one, each with the status if the input ends after it."""
-    return live.answers(lines, brief, limit, BOXES, ALL, functools.partial(Run, book=book), reader, explained, strict)
+    return live.answers(lines, brief, limit, boxes, ALL, functools.partial(Run, book=book), reader, explained, strict)
 
 
 def run_live(text, brief=True, limit=LIMIT, book=None, strict=False):

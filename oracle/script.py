@@ -7,6 +7,7 @@ from . import (aliases, conversion, edits, everywhere, mixed, pattern_reasons, p
 from .analyses import ANALYSES, KINDS, is_about, rows_of, unreached_ops
 from .culprits import about, about_text
 from .module import ids_text, printing, read, read_attr, read_op, rules, text_of
+from .objects import lines_from
 from .parts import Bad, cut, cut_key, cut_place, need, number, op_of, value_of
 
 WORDS = {20: "NoSuchOp", 21: "NoSuchValue", 22: "HasUses", 23: "NotVisible", 24: "TypeDiffers", 25: "NoSuchIndex",
@@ -23,16 +24,24 @@ MOST_MARKS = 16
 FIRST = {"report", "print", "set-operand", "move", "set-attr", "drop-attr", "resync", "detach"}
 EDITS = FIRST | {"erase", "insert", "replace"}
 ALL = EDITS | {"begin", "commit", "rollback", "sweep", "canon", "convert", "apply", "attach", "rewrite", "pattern",
-               "pattern!", "patterns", "check", "forget", "why"}
+               "pattern!", "patterns", "check", "forget", "why", "show"}
 # The methods of commands whose words are no names of Python's.
 METHODS = {"pattern!": "redefine"}
 # These leave the module, and have no listing, but where they are refused as no command.
-LOOKS = {"report", "print", "pattern", "pattern!", "patterns", "check", "forget", "why"}
+LOOKS = {"report", "print", "pattern", "pattern!", "patterns", "check", "forget", "why", "show"}
 REFUSALS = {**rules.WORDS, **WORDS}
 NUMBERS = {word: number for number, word in REFUSALS.items()}
 MOST_LIMIT, LIMIT = 1000000, 1000
 # The rules that `rewrite` may try; the others are conversion's.
 MOST_TRIED = 24
+
+
+def listed(text):
+    """The kinds of a list, in the order of the kinds; none where an item of the list is no kind, `all` or `none`."""
+    items = text.split(",")
+    if not set(items) <= {"all", "none", *BOXES}:
+        return None
+    return tuple(kind for kind in BOXES if kind in items or "all" in items)
 
 
 def rule_of(word):
@@ -252,6 +261,16 @@ class Run:
         asked = reasons.listed(self.module.ops()[op]) if rule is None else [rule]
         told = [(it, rewrites.WORDS[it - 1], reasons.reason(self.module, it, op) or "applies") for it in asked]
         return "", "".join(f"why #{op} {it} {word} {verdict}\n" for it, word, verdict in told)
+
+    def show(self, text):
+        """Operations as JSON objects: all, or at most so many from one on; without a count, that one alone."""
+        if text == "all":
+            return "", lines_from(self.module)
+        words = re.split("[ \t]+", text)
+        need(len(words) in (1, 2))
+        op, count = op_of(words[0]), number(words[1]) if len(words) == 2 else 1
+        edits.refuse(20, op not in self.module.ops())
+        return "", lines_from(self.module, op, count)
 
     def named(self, name):
         """The pattern that a word of a list names, or else the rule that is tried; none where it names neither."""

@@ -141,7 +141,8 @@ def line_of(maker, scripter, is_opaque):
 
 def asked(maker, known):
     """A few lines that ask what a module is, or rewrite it."""
-    asks = ["print", "print ids"] + [f"report {kind}" for kind in script.BOXES]
+    asks = ["print", "print ids", "show all", f"show #{maker.randrange(20)} {maker.randrange(8)}"]
+    asks += [f"report {kind}" for kind in script.BOXES]
     lines = maker.sample(asks, maker.randrange(1, 4))
     if maker.random() < 0.3:
         lines += [maker.choice([script_lines.rewriting(maker) if "convert" in known else "canon", "sweep"]), "print"]

@@ -24,6 +24,7 @@ ODD = [
     "convert trace", "convert trace trace full", "convert full trace", "convert Trace full", "convert trace full legal",
     "convert trace partial legal a legal b", "trace convert full", "why", "why 3", "why #3 31",
     "why #3 4 drop-zero", "why #3 never", "why #99", "patterns",
+    "show", "show 3", "show all 3", "show #99", "show #3 x", "show #3 2 1",
     "expect 99 print", "expect expect", "expect 60 expect 60 print",
     'insert start #0 0 %a:2 = "test.a"() ({ ^bb0(%b: i8): "test.b"(%b) : (i8) -> () }, {}) {k} : () -> (i1, i2)']
 

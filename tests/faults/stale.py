@@ -62,14 +62,10 @@ class Look:
         self.bad += 1
         print(*words, flush=True)
 
-    def case(self, name):
-        """Refuses allocations of a case's script."""
-        brief, are_all, lines = CASES[name]
-        text, stale = (MODULE + lines).encode(), set()
-        # (of an input of as many bytes in which the script is comments)
-        hidden = "".join("//" + "-" * (len(line) - 2) + "\n" for line in lines.splitlines())
-        number = self.program.count((MODULE + hidden).encode(), brief)[0] + 1
-        known = refused.explained(text, brief)
+    def refuse(self, name, text, known, number):
+        """Refuses each third allocation of a case's script from one on. Returns which analyses were stale."""
+        brief, _, lines = CASES[name]
+        stale = set()
         while True:
             was_refused, answer = self.program.run(text, number, brief)
             if answer not in known:
@@ -81,6 +77,21 @@ class Look:
             number += STEP
         if known.get(answer) != "whole":
             self.wrong(f"{name}: where nothing is refused: status {answer[0]}\n{answer[1].decode()}")
+        return stale
+
+    def case(self, name):
+        """Refuses allocations of a case's script: each third one, and the others where an analysis that has to be stale
+        was stale at none of these."""
+        brief, are_all, lines = CASES[name]
+        text, stale = (MODULE + lines).encode(), set()
+        # (of an input of as many bytes in which the script is comments)
+        hidden = "".join("//" + "-" * (len(line) - 2) + "\n" for line in lines.splitlines())
+        first = self.program.count((MODULE + hidden).encode(), brief)[0] + 1
+        known = refused.explained(text, brief)
+        for number in range(first, first + STEP):
+            stale |= self.refuse(name, text, known, number)
+            if not are_all or stale == set(script.BOXES):
+                break
         if are_all and stale != set(script.BOXES):
             self.wrong(f"{name}: never stale: {', '.join(sorted(set(script.BOXES) - stale))}")
 

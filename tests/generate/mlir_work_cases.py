@@ -5,10 +5,10 @@ that are of whole runs with all listeners, of the same rules. Run it at the top 
 
 The whole runs are written out here or in tests/generate/worked_rows.txt, and compared with what the rules of oracle
 give for them, or are of analyses_cases.py, verifier_cases.py, conversion_cases.py, heard_cases.py,
-own_pattern_cases.py, trace_cases.py, fired_cases.py, convert_trace_cases.py and why_cases.py, many of them random from
-the seeds there, with the answers of the rules. `decided.py` writes to `oracle/decided.txt` which patterns claims about
-bits decide. The program that MLIR_WORK_CLAIMS names answers, or the one of these sources. Without a program the file
-isn't changed."""
+own_pattern_cases.py, trace_cases.py, fired_cases.py, convert_trace_cases.py, why_cases.py, show_cases.py and
+listed_cases.py, many of them random from the seeds there, with the answers of the rules. `decided.py` writes to
+`oracle/decided.txt` which patterns claims about bits decide. The program that MLIR_WORK_CLAIMS names answers, or the
+one of these sources. Without a program the file isn't changed."""
 import itertools
 import pathlib
 import re
@@ -19,8 +19,8 @@ from oracle import live, script
 from oracle.lines import Table, given, told
 from tests.compare import refusals
 from tests.generate import about_cases, analyses_cases, conversion_cases, convert_trace_cases, decided, explained_cases
-from tests.generate import fired_cases, heard_cases, named_pattern_cases, own_pattern_cases, rule_cases, trace_cases
-from tests.generate import verifier_cases, why_cases, worked_rows
+from tests.generate import fired_cases, heard_cases, listed_cases, named_pattern_cases, own_pattern_cases, rule_cases
+from tests.generate import show_cases, trace_cases, verifier_cases, why_cases, worked_rows
 from tests.golden import golden
 
 MOST_LINE = 16777216
@@ -150,6 +150,16 @@ def apply_says(rule, op):
     return f"apply {number} {op_of(op)[0]}" if number in range(1, 31) else "bad"
 
 
+def show_says(words):
+    """What the words of a line say of the operations that are shown, if they do."""
+    if words == [b"show", b"all"]:
+        return "show all"
+    if len(words) not in (2, 3) or words[0] != b"show" or not op_of(words[1]):
+        return None
+    count = number_of(words[2]) if words[2:] else 1
+    return None if count is None else f"show {op_of(words[1])[0]} count {count}"
+
+
 def why_says(words):
     """What the words of a line say of why rules don't apply, if they do."""
     if len(words) not in (2, 3) or words[0] != b"why" or not op_of(words[1]):
@@ -263,7 +273,7 @@ def text_says(text):
     if book_says(text):
         return book_says(text)
     words = re.split(rb"[ \t]+", text)
-    for says in (rewrite_says, why_says, canon_at_says):
+    for says in (rewrite_says, why_says, show_says, canon_at_says):
         if says(words):
             return says(words)
     if words == [b"print", b"ids"]:
@@ -386,6 +396,10 @@ ORDERS = {"report uses of #3": "report 1 of op 3", "\treport  unreached\tof  #00
           "convert trace partial legal trace rules 1 depth 17":
               "convert trace partial legal [trace] rules [1] depth 17",
           "expect 51 convert trace full": "expects 51 NotLegalised convert trace full depth none",
+          "show all": "show all", "\tshow \t all \r": "show all", "show #3": "show 3 count 1",
+          "\tshow \t#0003  007 \r": "show 3 count 7", "show #0 0": "show 0 count 0",
+          "show #4294967295 4294967295": "show 4294967295 count 4294967295",
+          "expect 20 show #9 2": "expects 20 NoSuchOp show 9 count 2",
           "print ids": "ids", "\tprint  ids \r": "ids", "expect 22 erase #3": "expects 22 HasUses erase 3",
           "expect HasUses erase #3": "expects 22 HasUses erase 3", "\texpect  0060\tnonsense\r":
               "expects 60 BadCommand bad",
@@ -502,6 +516,8 @@ canon only 30 trace|canon only trace limit|canon only trace x|canon at|canon at 
 canon at #3 limit|canon at #3 limit x|canon at #3 limit 1 2|canon at #3 limit 4294967296|canon at #3 trace|canon at#3
 canonat #3|canon At #3|canon at #4294967296|canon trace at #3|canon limit 1 at #3|canon at at #3|canon at #3 #4|why
 why 3|why #|why #3 0|why #3 31|why #3 4x|why #3 4 5|why #3 drop-zero 4|why #3 4294967300|why #4294967296|Why #3|whys #3
+show|show 3|show #|show #3 x|show #3 1 2|show #3 4294967296|show #4294967296|show all 1|show all all|Show all|showall
+show#3|show #3 all|show #3 #4|show -1|show %v1.0|shows all|show ALL
 why#3|why of #3|why drop-zero #3|why #3 of 4|why %v3.0|convert trace|convert trace trace|convert trace trace partial
 convert trace Partial|convert partial trace|convert traces partial|convert tracepartial|converttrace partial
 convert Trace partial|convert trace,partial|convert trace partial x|convert trace partial legal
@@ -545,6 +561,7 @@ NEAR_MISSES = ("report uses", "report kind10", "print", "// x", "set-operand #3 
                "attach dead", "print ids", "expect 22 print", "rewrite 2,drop-one limit 10", "report uses of #10",
                "report kind10 of %v2.0", "canon trace limit 10", "rewrite 2,x trace limit 3",
                "convert trace full depth 2", "why #3", "why #3 10", "why #3 drop-one", "canon at #3 limit 10",
+               "show all", "show #3 10",
                "pattern p x", "patterns", "check p width 10", "check p width 10 sampled", "pattern! p x", "check all",
                "rewrite 2,x proved trace limit 3")
 NOT_UTF8 = ((b"// \xff", "bad"), (b"\xc3", "bad"), (b"print\xff", "bad"), (b"// \xc3\xa9", "nothing"),
@@ -1394,6 +1411,20 @@ def command_lines():
         wrong(["--interactive", "--format", word],
               b"the argument '--interactive' cannot be used with '--format <FORMAT>'"
               + usage.replace(b"[OPTIONS]", b"--interactive") + more)
+    kinds = f"\n  [possible values: all, none, {', '.join(script.BOXES)}]\n".encode()
+    title("unknown-analysis", "`--analyses` takes kinds, `all` and `none`, and the error lists them.")
+    for words, word, tip in (("=ded", "ded", "dead"), (" uses,x", "x", ""), ("=Uses", "Uses", "uses"),
+                             ("=kind9", "kind9", ""), ("=uses;dead", "uses;dead", "uses"),
+                             (" all,nil", "nil", "")):
+        more_of = f"\n  tip: a similar value exists: '{tip}'\n".encode() if tip else b""
+        wrong(f"--analyses{words}".split(" "), f"invalid value '{word}' for '--analyses <LIST>'".encode() + kinds
+              + more_of + more)
+    title("analyses-without-value", "`--analyses` without a value, or with an empty item, is a usage error.")
+    for words in ("--analyses", "--analyses=", "--analyses dead,,uses", "--analyses=uses,"):
+        wrong(words.split(), b"a value is required for '--analyses <LIST>' but none was supplied" + kinds + more)
+    title("analyses-twice", "`--analyses` can be given once.")
+    wrong("--analyses uses --analyses dead".split(),
+          b"the argument '--analyses <LIST>' cannot be used multiple times" + usage + more)
     # Types and attributes that aren't known, which are kept where that is asked for.
     kept = (b'%0 = "t.a"() {x = 1.0 : f32, y = #d.a<b>} : () -> tensor<4xf32>\n' + DIVIDER
             + b'insert end #0 0 "t.b"(%v1.0) : (tensor<4xf32>) -> !d.t\nset-attr #2 z dense<0.5> : tensor<4xf32>\n'
@@ -1566,7 +1597,8 @@ GOLDEN_PARTS = {
 def main():
     decided.name_program()
     print("seeds", analyses_cases.SEED, verifier_cases.SEED, heard_cases.SEED, conversion_cases.SEED,
-          own_pattern_cases.SEED, trace_cases.SEED, fired_cases.SEED, convert_trace_cases.SEED, why_cases.SEED)
+          own_pattern_cases.SEED, trace_cases.SEED, fired_cases.SEED, convert_trace_cases.SEED, why_cases.SEED,
+          show_cases.SEED, listed_cases.SEED)
     for part in (lines, words, cuts, writes):
         part()
     for area, parts in GOLDEN_PARTS.items():
@@ -1579,7 +1611,7 @@ def main():
     own_pattern_cases.all_cases(whole, GOLDEN.begin, GOLDEN.case, title)
     GOLDEN.begin("patterns/named")
     named_pattern_cases.all_cases(GOLDEN.case)
-    for part in (trace_cases, fired_cases, convert_trace_cases, why_cases, explained_cases):
+    for part in (trace_cases, fired_cases, convert_trace_cases, why_cases, show_cases, explained_cases, listed_cases):
         part.all_cases(GOLDEN.case, GOLDEN.begin, title)
     heard_cases.all_cases(case, GOLDEN.case, GOLDEN.begin, title)
     GOLDEN.begin("rules/applied")

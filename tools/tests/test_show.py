@@ -67,8 +67,7 @@ class Show(unittest.TestCase):
     def test_page(self):
         """docs/JSON.md shows an object as it is printed."""
         shown = re.search(r"```json\n(.*?)```", (ROOT / "docs/JSON.md").read_text(), re.S)[1].replace("\n ", "")
-        self.assertEqual(self.ran(str(ROOT / "examples/fold.mlir"), "#3", "--format", "json", "--positions"),
-                         (0, shown, ""))
+        self.assertEqual(self.ran(str(ROOT / "examples/fold.mlir"), "#3", "--format", "json"), (0, shown, ""))
 
     def test_many(self):
         """More operations than one page."""

@@ -16,8 +16,9 @@ from mlir_work.cli.forms import kinds
 # The most operations around one but for the root, and brackets of attributes and types within one another.
 REGIONS, BRACKETS = 127, 31
 LEAF = f'"t.leaf"() {{a = {"[" * BRACKETS}1{"]" * BRACKETS}, b = {"() -> (" * BRACKETS}i8{")" * BRACKETS}}} : () -> ()'
-LINES = ["print", "print ids", *(f"report {kind}" for kind in kinds()), "report uses of #5", f"why #{REGIONS}", "begin",
-         "erase #1", "rollback", "canon", "canon trace", "canon at #2", "sweep", "resync uses", "begin",
+LINES = ["print", "print ids", *(f"report {kind}" for kind in kinds()), "report uses of #5", f"why #{REGIONS}",
+         "show all", "show #5 9", "begin", "erase #1", "rollback", "canon", "canon trace", "canon at #2", "sweep",
+         "resync uses", "begin",
          'insert end #0 0 "t.q"() ({}) : () -> ()', f"move #{REGIONS + 1} before #1", "rollback",
          "convert partial illegal arith.addi rules 2,25,26,27,28,29,30"]
 

@@ -3,7 +3,7 @@ import json
 import re
 from typing import Dict, List, Optional, Tuple, TypedDict
 
-from .values import key_text, quoted
+from .values import key_text, quoted, unescaped
 
 _NAME = re.compile(r"[A-Za-z_][A-Za-z0-9_$.-]*")
 
@@ -29,6 +29,16 @@ class OperationData(_Keys, total=False):
 
     line: Optional[int]
     column: Optional[int]
+
+
+def data_from(line: str) -> OperationData:
+    """Returns the operation of a line that `show` prints. The line has names and keys as they are printed between
+    quotes."""
+    data: OperationData = json.loads(line)
+    data["name"] = unescaped(data["name"])
+    data["properties"] = {unescaped(key): it for key, it in data["properties"].items()}
+    data["attributes"] = {unescaped(key): it for key, it in data["attributes"].items()}
+    return data
 
 
 def json_line(data: OperationData) -> str:

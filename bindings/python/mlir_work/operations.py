@@ -6,11 +6,10 @@ from typing import Dict, List, Optional, Tuple
 from .brackets import STRING, closed, parts, taken
 from .data import OperationData
 from .printed import BEGINS, BLOCK, Printed, block_arguments
-from .values import Argument, Result, Value, op_text
+from .values import Argument, Result, Value, op_text, unescaped
 
 _HEAD = re.compile(rf"(?:%\d+(?::(\d+))? = )?({STRING})\(([^()]*)\)")
 _REGIONS = re.compile(r" \((\{\}(?:, \{\})*)\)")
-_ESCAPE = re.compile(r"\\([0-9A-Fa-f]{2}|.)")
 
 
 @dataclass(frozen=True, eq=False)
@@ -74,17 +73,10 @@ class _Lines:
         self.arguments: Dict[Argument, str] = {}
 
 
-def unescaped(literal: str) -> str:
-    """Returns the text of a string literal."""
-    def byte(found: "re.Match[str]") -> str:
-        return chr(int(found[1], 16)) if len(found[1]) == 2 else found[1]
-    return _ESCAPE.sub(byte, literal[1:-1]).encode("latin-1", "replace").decode("utf-8", "surrogateescape")
-
-
 def _entries(text: str, opens: str) -> Tuple[Dict[str, str], str]:
     """Returns the dictionary that a text begins with, if it does, and the text after it."""
     found, rest = taken(text, opens)
-    return {unescaped(key) if key[0] == '"' else key: value for key, value in found}, rest
+    return {unescaped(key[1:-1]) if key[0] == '"' else key: value for key, value in found}, rest
 
 
 def _types(text: str) -> Tuple[str, ...]:
@@ -122,7 +114,7 @@ def _operation(it: _Lines, printed: Printed) -> Operation:
     end = closed(rest[3:]) + 3
     results = _types(rest[end + 4:]) if it.text[0] == "%" else ()
     return Operation(
-        it.number, unescaped(head[2]), tuple(printed.value(name[1:]) for name in head[3].split(", ") if name),
+        it.number, unescaped(head[2][1:-1]), tuple(printed.value(name[1:]) for name in head[3].split(", ") if name),
         _types(rest[3:end]), {Result(it.number, place): of_type for place, of_type in enumerate(results)},
         properties, attributes, regions[1].count("{}") if regions else 0, it.arguments,
         it.around.number if it.around else None, it.region, it.place, it.depth)

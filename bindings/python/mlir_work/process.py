@@ -11,6 +11,8 @@ from .way import Way
 
 # How many bytes of lines are sent before their answers are read.
 MOST_BYTES = 1 << 20
+# The option that lists the analyses to attach at the start, and its word for none. An older program has no such option.
+ANALYSES, NO_ANALYSES = "--analyses", "none"
 
 
 class Process(Way):
@@ -20,11 +22,17 @@ class Process(Way):
 
     def __init__(self, program: Optional[Program] = None, environment: Optional[Dict[str, str]] = None,
                  timeout: Optional[float] = None, tick: Optional[Tick] = None) -> None:
-        found = command.find(program)
+        self._command = found = command.find(program)
         self._words, self._timeout, self._tick = found.words, timeout, tick
         self._environment = {**found.environment, **(environment or {})}
         self._pipe: Optional[Pipe] = None
         self._count = 0
+
+    def attach_only(self, kinds: Sequence[str]) -> bool:
+        if not self._command.has_option(ANALYSES):
+            return False
+        self._words = [*self._command.words, ANALYSES, ",".join(kinds) or NO_ANALYSES]
+        return True
 
     def open(self, text: bytes, limit: Optional[int] = None, opaque: bool = False) -> List[str]:
         if has_divider(text):

@@ -4,8 +4,8 @@ import re
 import threading
 from operator import index
 from types import TracebackType
-from typing import (Dict, Iterable, Iterator, List, Literal, Optional, Sequence, SupportsIndex, Tuple, Type, Union,
-                    overload)
+from typing import (Callable, Dict, Iterable, Iterator, List, Literal, Optional, Sequence, SupportsIndex, Tuple, Type,
+                    TypeVar, Union, overload)
 
 from .blocks import NESTABLE, flatten, is_nested, nest
 from .command import Program
@@ -24,7 +24,7 @@ from .rewrites import (Canonicalized, Fired, Reason, Rewrite, Traced, canonicali
                        traced_of)
 from .rows import KINDS, Constant, Dead, Diagnostic, Effect, Row, Symbol, Unreached, Use, rows_of
 from .script import BLANKS, File, has_divider, is_text, patterns_in
-from .shown import OfLibrary, OfText, Shown
+from .shown import OfLibrary, OfProgram, OfText, Shown
 from .values import Value, key_text, op_text
 from .way import Way, check_limit
 
@@ -32,10 +32,13 @@ Text = Union[str, bytes]
 ValueText = Union[Value, ValueHandle, str]
 Subject = Union[int, Operation, OperationHandle, Value, ValueHandle, str]
 Files = Union[File, Iterable[File]]
+_Read = TypeVar("_Read")
+# The refusal of a line that is no command.
+_BAD_COMMAND = 60
 _WORD = re.compile(rb"[^ \t]*")
 # The prefix of a command with an expected refusal.
 _EXPECTED = re.compile(rb"^expect[ \t]+[^ \t]+[ \t]+")
-_LOOKS = (b"print", b"report", b"begin", b"commit", b"attach", b"detach", b"resync", b"pattern", b"pattern!",
+_LOOKS = (b"print", b"report", b"show", b"begin", b"commit", b"attach", b"detach", b"resync", b"pattern", b"pattern!",
           b"patterns", b"check")
 _COMMENT = re.compile(rb'("(?:[^"\\\n]|\\.)*")|//[^\n]*')
 
@@ -125,6 +128,8 @@ class Session:
         self._thread = threading.get_ident()
         self._listing: Optional[List[Operation]] = None
         self._shown: Optional[Shown] = None
+        # Whether the program knows `show`, as far as it was asked.
+        self._has_show = True
         self._positions: Optional[Positions] = None
         self._reader: Optional[Reader] = None
         self._numbers: Optional[Numbers] = None
@@ -139,10 +144,11 @@ class Session:
         """The patterns of the last `rewrite`, `trace`, `fired` or `apply` that no check proves for the module before
         it."""
         try:
+            has_all = wanted is None or not self._way.attach_only(wanted)
             self.unattached, opened = self._opened(_bytes(text), limit, opaque, blocks)
             self._positions = positions_of(opened) if positions else None
             there = set(KINDS) - {it.split()[1] for it in self.unattached}
-            for kind in KINDS if wanted is not None else ():
+            for kind in KINDS if wanted is not None and has_all else ():
                 if kind in there and kind not in (wanted or ()):
                     self.detach(kind)
             for pattern in patterns_in(patterns):
@@ -326,10 +332,9 @@ class Session:
 
     def show(self, operation: SupportsIndex) -> OperationData:
         """Returns an operation as a dictionary that JSON can hold, with the keys of docs/JSON.md. Without the library,
-        the first call after an edit reads the whole module. Raises Refused with 20 if the operation isn't in the
-        module."""
+        the program is asked for it by `show`. Raises Refused with 20 if the operation isn't in the module."""
         number = index(operation)
-        found = self._all_shown().data(number)
+        found = self._from_shown(lambda shown: shown.data(number))
         if found is None:
             raise Refused(20, "NoSuchOp", line=f"show {op_text(number)}")
         return found
@@ -337,24 +342,38 @@ class Session:
     def show_all(self, page: int = 1000, skip: int = 0) -> Iterator[List[OperationData]]:
         """Yields the operations in pre-order, without the first `skip` ones, in lists of at most `page` dictionaries as
         `show` returns them. The operations are those at the time of the call. Each list shows the module at the time
-        when it is yielded, without operations that were erased meanwhile."""
+        when it is yielded, without operations that were erased meanwhile. Without the library, a list is the answer to
+        one line, `show #N COUNT`."""
         if page < 1 or skip < 0:
             raise ValueError(f"found page {page} and skip {skip}, expected at least 1 and at least 0")
         return self._pages(self._all_shown().numbers()[skip:], page)
 
     def _pages(self, numbers: List[int], page: int) -> Iterator[List[OperationData]]:
         for begin in range(0, len(numbers), page):
-            shown = self._all_shown()
-            found = [shown.data(number) for number in numbers[begin:begin + page]]
-            yield [it for it in found if it is not None]
+            some = numbers[begin:begin + page]
+            yield self._from_shown(lambda shown, some=some: shown.page(some))  # type: ignore[misc]
+
+    def _from_shown(self, read: Callable[[Shown], _Read]) -> _Read:
+        """Reads from the operations of the current module. A program that doesn't know `show` prints the module."""
+        try:
+            return read(self._all_shown())
+        except Refused as fault:
+            if fault.number != _BAD_COMMAND or not self._has_show:
+                raise
+            self._has_show, self._shown = False, None
+            return read(self._all_shown())
 
     def _all_shown(self) -> Shown:
         """Returns the operations of the current module, through the library if it holds the module."""
         self._must_be_usable()
         if self._shown is None:
             reader = self._reader_if_any()
-            self._shown = (OfText(self.operations(), self._positions) if reader is None
-                           else OfLibrary(reader, self._positions))
+            if reader is not None:
+                self._shown = OfLibrary(reader, self._positions)
+            elif self._has_show:
+                self._shown = OfProgram(lambda line: self.command(line).shown, self._positions)
+            else:
+                self._shown = OfText(self.operations(), self._positions)
         return self._shown
 
     def _reader_if_any(self) -> Optional[Reader]:

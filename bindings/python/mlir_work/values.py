@@ -5,6 +5,7 @@ from typing import NamedTuple, SupportsIndex, Union
 
 _VALUE = re.compile(r"%v(\d+)\.(\d+)|%a(\d+)\.(\d+)\.(\d+)")
 _BARE = re.compile(r"[A-Za-z_][A-Za-z0-9_$.]*")
+_ESCAPE = re.compile(r"\\([0-9A-Fa-f]{2}|.)")
 
 
 class Result(NamedTuple):
@@ -63,6 +64,16 @@ def start(operation: SupportsIndex, region: int = 0) -> str:
 def end(operation: SupportsIndex, region: int = 0) -> str:
     """Returns the place after all operations in the block of a region."""
     return f"end {op_text(operation)} {region}"
+
+
+def unescaped(raw: str) -> str:
+    """Returns the text that a string literal has between its quotes."""
+    if "\\" not in raw and raw.isascii():
+        return raw
+
+    def byte(found: "re.Match[str]") -> str:
+        return chr(int(found[1], 16)) if len(found[1]) == 2 else found[1]
+    return _ESCAPE.sub(byte, raw).encode("latin-1", "replace").decode("utf-8", "surrogateescape")
 
 
 def quoted(text: Union[str, bytes]) -> str:

@@ -1,6 +1,6 @@
 """The connection between a session and the program or the library."""
 import abc
-from typing import Callable, Iterable, List, Optional
+from typing import Callable, Iterable, List, Optional, Sequence
 
 from .numbers import Numbers
 from .reader import Reader
@@ -23,6 +23,11 @@ class Way(abc.ABC):
         """Parses a module. `limit` is the limit of rewrites for a `canon` without a limit; with `opaque`, unknown types
         and attributes are kept as their texts. Returns a line for each analysis that couldn't be attached, such as
         `attach uses refused 36 Memory`. Raises ModuleRefused if the text is refused."""
+
+    def attach_only(self, kinds: Sequence[str]) -> bool:
+        """Makes `open` attach only the analyses of some kinds. Returns False if this connection can't do so, and `open`
+        attaches all."""
+        return False
 
     @abc.abstractmethod
     def line(self, line: bytes) -> Reply:

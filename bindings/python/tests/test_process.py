@@ -57,6 +57,19 @@ class Whole(Case):
             self.assertTrue(s.print().startswith('"builtin.module"() ({\n  "func.func"'))
         self.assertEqual((s.status, is_gone(number)), (0, True))
 
+    def test_kinds(self):
+        """The program attaches only the kinds of a session. An older program has no such option, and detaches the
+        others."""
+        for kinds in ([], ["uses"], ["dead", "symbols"]):
+            with self.subTest(kinds), mlir_work.Session(TEXT, PROGRAM, kinds=kinds) as s:
+                self.assertEqual(s.command("print").outcome, "ok")
+                self.assertEqual(s._way._count, 1)
+                for kind in mlir_work.KINDS:
+                    self.assertEqual(s.expect(42, f"attach {kind}"), kind in kinds, kind)
+        counts = "count = 0\nwhile line():\n    count += 1\n    say(f'{count} ok\\n\\n')\n"
+        with mlir_work.Session(TEXT, fake(ANSWERS + counts), kinds=["dead"]) as s:
+            self.assertEqual(s._way._count, len(mlir_work.KINDS) - 1)
+
     def test_a_refusal_and_no_line_feed(self):
         with mlir_work.Session(TEXT[:-1], PROGRAM) as s:
             self.assertRaises(mlir_work.Refused, s.command, b"\xff")

@@ -1,5 +1,5 @@
 -- The operations of a tree after an event.
-use Rattle.std.proofs.Common.{◌≡◌, ℕ, List, [], ◌∷◌, Bool, true, true≢false, not, Option, Some, None, inl, inr, refl, sym, ap, ◌∙◌, subst, cond, eqb, slice_get}
+use Rattle.std.proofs.Common.{◌≡◌, ◌⊎◌, ℕ, zero, suc, List, [], ◌∷◌, Bool, true, true≢false, not, Option, Some, None, inl, inr, refl, sym, ap, ◌∙◌, subst, cond, eqb, slice_get, slice_set}
 use Rattle.std.specs.Option.{option_map}
 use Rattle.std.specs.List.{list_all}
 use Rattle.std.specs.Prelude.{option_and_then}
@@ -29,11 +29,12 @@ use Rattle.ir_event.specs.declared.event.Event.TheVariants.{Put, Take, SetOperan
 use Rattle.ir_event.specs.Modules.{Module}
 use Rattle.ir_event.specs.Step.{Step}
 use Rattle.ir_event.specs.Heads.{heads}
-use Rattle.constants.specs.Facts.{Header, Facts, look, folded_if, AreLocal}
+use Rattle.dialects_int.specs.Folds.{fold_of}
+use Rattle.constants.specs.Facts.{Header, Facts, known, knowns, look, folded, folded_if, AreLocal}
 use Rattle.constants.specs.Walk.{AreOrdered, with_fact}
 use Rattle.constants.specs.Trails.{IsThere, Uses}
 use Rattle.constants.specs.Phases.{SameBut}
-use Rattle.constants.proofs.Walks.{put_same, put_other}
+use Rattle.constants.proofs.Walks.{put_same, put_other, value_same}
 use Rattle.constants.proofs.Knowing.{value_uses}
 use Rattle.constants.proofs.Ordering.{ordered_tree}
 use Rattle.constants.proofs.Cuts.{taken_other, taken_gone, taken_was, shifted_same}
@@ -74,6 +75,12 @@ not_left x (v ∷ vs) e (inl q) =
     true≢false (sym b.0 ∙ ap (λ w. not (eqb (owner_of w).0 x)) (sym q) ∙ ap not (eq-eqb x x refl))
 not_left x (v ∷ vs) e (inr h) = not_left x vs (both (not (eqb (owner_of v).0 x)) (list_all (λ w. not (eqb (owner_of w).0 x)) vs) e).1 h
 
+-- replacing one of the values by a value with the same known value
+knowns_put : (a : Facts) (old new : Value) → known a old ≡ known a new → (vs : List Value) (k : ℕ) → slice_get vs k ≡ Some old → knowns a (slice_set vs k new) ≡ knowns a vs
+knowns_put a old new e [] k g = absurd cc
+knowns_put a old new e (v ∷ vs) zero g = let same : v ≡ old = cc in ap (λ z. z ∷ knowns a vs) (sym e ∙ ap (known a) (sym same))
+knowns_put a old new e (v ∷ vs) (suc k) g = ap (λ zs. known a v ∷ zs) (knowns_put a old new e vs k g)
+
 -- operation x is in the new module, and the others are unchanged
 abbrev pub ChangedAt : ℕ → Module → Module → Type 0
 ChangedAt x m n = IsThere (look n.tree) x × SameBut x (look m.tree) (look n.tree)
@@ -96,6 +103,31 @@ module _ (c : ContextModel) (m n : Module) where
     found_there n.tree x (λ o. slice_get (head o).operands k) new s.changes.is,
     λ y ne. ap (λ t. look t y) s.changes.after ∙ edited_other (at x (put_operand k new)) (alike_operand x k new) x m.tree (at_other x (put_operand k new)) y ne,
   )
+
+  -- an operand is set to a value with the same known value
+  same_fold : (x k : ℕ) (old new : Value) (a : Facts) → Step c (SetOperand x k old new) m n → known a old ≡ known a new → folded_if (look m.tree x) a ≡ folded_if (look n.tree x) a
+  same_fold x k old new a s e = go (find x m.tree) refl s.changes.was ∙ sym (ap (λ o. folded_if o a) now)
+    where
+      f : Header → Header
+      f = at x (put_operand k new)
+
+      now : look n.tree x ≡ option_map head (option_map (each_head f) (find x m.tree))
+      now = ap (λ t. look t x) s.changes.after ∙ ap (option_map head) (head_find f (alike_operand x k new) x m.tree)
+
+      go : (o : Option Operation) → find x m.tree ≡ o → option_and_then (λ o. slice_get (head o).operands k) o ≡ Some old → folded_if (option_map head o) a ≡ folded_if (option_map head (option_map (each_head f) o)) a
+      go None i g = absurd cc
+      go (Some (op h rs)) i g =
+          let w = found_stands x m.tree (op h rs) i in
+          let id : h.id ≡ x = ap (λ (o : Operation). (head o).id) (sym w.3) ∙ w.2 in
+          sym (ap (λ ks. fold_of h.name h.properties ks h.results) (knowns_put a old new e h.operands k g))
+          ∙ sym (ap (λ b. folded (cond b (put_operand k new h) h) a) (eq-eqb h.id x id))
+
+  pub operand_local : (x k : ℕ) (old new : Value) (a b : Facts) → Step c (SetOperand x k old new) m n → known a old ≡ known a new → ((y : ℕ) → b y ≡ a y) → AreLocal (look m.tree) a → AreLocal (look n.tree) b
+  operand_local x k old new a b s e same local y = same y ∙ local y ∙ now (cases_eq y x) ∙ value_same (look n.tree y) a b (λ z. sym (same z))
+    where
+      now : (y ≡ x) ⊎ (y ≡ x → ⊥) → folded_if (look m.tree y) a ≡ folded_if (look n.tree y) a
+      now (inl i) = subst (λ z. folded_if (look m.tree z) a ≡ folded_if (look n.tree z) a) (sym i) (same_fold x k old new a s e)
+      now (inr ne) = ap (λ o. folded_if o a) (sym ((operand_changed x k old new s).1 y ne))
 
   pub entry_changed : (x : ℕ) (part : Part) (key : ℕ) (old new : Option ℕ) → Step c (SetEntry x part key old new) m n → ChangedAt x m n
   entry_changed x part key old new s =

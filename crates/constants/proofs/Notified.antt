@@ -1,5 +1,5 @@
 -- The listener agrees with the module after an event, if its update was completed.
-use Rattle.std.proofs.Common.{◌≡◌, ◌≤◌, ◌+◌, ℕ, sym, ap, ◌∙◌, subst, arith}
+use Rattle.std.proofs.Common.{◌≡◌, ◌≤◌, ◌+◌, ℕ, inl, inr, sym, ap, ◌∙◌, subst, arith}
 use Rattle.ir_event.specs.types.Things.{ContextModel}
 use Rattle.ir_event.specs.declared.event.Event.{Event}
 use Rattle.ir_event.specs.declared.event.Event.TheVariants.{Put, Take, SetOperand, SetEntry, Shift}
@@ -11,7 +11,7 @@ use Rattle.constants.specs.Walk.{facts_of}
 use Rattle.constants.specs.Reached.{reached, most_over, most_looks}
 use Rattle.constants.proofs.Walks.{value_same}
 use Rattle.constants.proofs.Looked.{local_facts, same_facts_local}
-use Rattle.constants.proofs.Events.{ChangedAt, ordered_after, put_changed, operand_changed, entry_changed, shift_same, taken_local}
+use Rattle.constants.proofs.Events.{ChangedAt, ordered_after, put_changed, operand_changed, operand_local, entry_changed, shift_same, taken_local}
 use Rattle.constants.specs.Tables.{Updated, FactsFollowed, LooksWithin, LooksFollowed}
 
 module _ (c : ContextModel) (m n : Module) (D : Type 0) (a b : Facts) where
@@ -27,7 +27,8 @@ module _ (c : ContextModel) (m n : Module) (D : Type 0) (a b : Facts) where
   pub followed_facts : (e : Event) → Step c e m n → FactsFollowed D (look n.tree) e a b → D → ((x : ℕ) → a x ≡ facts_of m.tree x) → (x : ℕ) → b x ≡ facts_of n.tree x
   followed_facts (Put x place fresh) s f d same = changed (Put x place fresh) x s (put_changed c m n x place fresh s) f d same
   followed_facts (Take x place fresh) s f d same = is_facts (Take x place fresh) s (taken_local c m n x place fresh a b s f (was_local (Take x place fresh) s same))
-  followed_facts (SetOperand x k old new) s f d same = changed (SetOperand x k old new) x s (operand_changed c m n x k old new s) f d same
+  followed_facts (SetOperand x k old new) s (inl p) d same = is_facts (SetOperand x k old new) s (operand_local c m n x k old new a b s p.0 p.1 (was_local (SetOperand x k old new) s same))
+  followed_facts (SetOperand x k old new) s (inr f) d same = changed (SetOperand x k old new) x s (operand_changed c m n x k old new s) f d same
   followed_facts (SetEntry x part key old new) s f d same = changed (SetEntry x part key old new) x s (entry_changed c m n x part key old new s) f d same
   followed_facts (Shift x old new) s f d same =
       let local = was_local (Shift x old new) s same in

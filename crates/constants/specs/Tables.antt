@@ -1,5 +1,5 @@
 -- The table of known values, and its updates.
-use Rattle.std.specs.Prelude.{◌≡◌, ℕ, ◌+◌, ◌≤◌, List, [], ◌∷◌, map, Option, None, Bool, true, false}
+use Rattle.std.specs.Prelude.{◌≡◌, ◌⊎◌, ℕ, ◌+◌, ◌≤◌, List, [], ◌∷◌, map, Option, None, Bool, true, false}
 use Rattle.std.specs.Ordering.{nat_cmp}
 use Rattle.listeners_support.specs.Map.{IdMap}
 use Rattle.listeners_support.specs.Map as idmap
@@ -9,12 +9,13 @@ use Rattle.ir_event.specs.declared.event.Event.{Event}
 use Rattle.ir_event.specs.declared.event.Event.TheVariants.{Put, Take, SetOperand, SetEntry, Shift}
 use Rattle.ir_event.specs.declared.row.Cell.{Cell}
 use Rattle.ir_event.specs.declared.row.Cell.TheVariants.{Val, Bits as BitsCell}
+use Rattle.ir_event.specs.trees.declared.value.Value.{Value}
 use Rattle.ir_event.specs.trees.declared.value.Value.TheVariants.{Result}
 use Rattle.ir_event.specs.declared.world.World.{World}
 use Rattle.ir_event.specs.Modules.{module_in}
 use Rattle.dialects_int.specs.Folds.{known_of}
 use Rattle.ir_event.specs.Heads.{heads}
-use Rattle.constants.specs.Facts.{Header, Facts, look, value, AreLocal}
+use Rattle.constants.specs.Facts.{Header, Facts, known, look, value, AreLocal}
 use Rattle.constants.specs.Walk.{with_fact, facts_of, AreOrdered}
 use Rattle.constants.specs.Reached.{uses_among, reached, most_over}
 use Rattle.constants.specs.Trails.{IsThere}
@@ -44,6 +45,10 @@ abbrev pub Updated : Type 0 → (ℕ → Option Header) → ℕ → Facts → Fa
 Updated done ops x a b = IsThere ops x → (was : ℕ → Option Header) → SameBut x was ops → AreLocal was a → done
     → AreLocal ops b
 
+-- an operand of x was set to a value with the same known value, and no fact changed; or the facts were updated
+abbrev pub OperandFollowed : Type 0 → (ℕ → Option Header) → ℕ → Value → Value → Facts → Facts → Type 0
+OperandFollowed done ops x old new a b = ((known a old ≡ known a new) × ((y : ℕ) → b y ≡ a y)) ⊎ Updated done ops x a b
+
 -- whether the event can teach no value, so that the update needs no memory
 abbrev pub teaches_nothing : Event → Bool
 teaches_nothing (Put x place fresh) = false
@@ -56,7 +61,7 @@ teaches_nothing (Shift x old new) = true
 abbrev pub FactsFollowed : Type 0 → (ℕ → Option Header) → Event → Facts → Facts → Type 0
 FactsFollowed done ops (Put x place fresh) a b = Updated done ops x a b
 FactsFollowed done ops (Take x place fresh) a b = (y : ℕ) → b y ≡ with_fact x None a y
-FactsFollowed done ops (SetOperand x k old new) a b = Updated done ops x a b
+FactsFollowed done ops (SetOperand x k old new) a b = OperandFollowed done ops x old new a b
 FactsFollowed done ops (SetEntry x part key old new) a b = Updated done ops x a b
 FactsFollowed done ops (Shift x old new) a b = (y : ℕ) → b y ≡ a y
 

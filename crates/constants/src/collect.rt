@@ -8,6 +8,7 @@ ghost use Rattle.constants.specs.Walk.{with_fact};
 ghost use Rattle.constants.specs.Trails.{IsThere};
 ghost use Rattle.constants.specs.Tables.{known_in, look_in, WalkedIds};
 
+use crate::packed::PackedBits;
 use crate::table::{drop_fact, note};
 use crate::users::folded;
 use ir_event::types::bits::Bits;
@@ -18,7 +19,7 @@ use listeners_support::IdMap;
 use std::alloc::Global;
 
 /// Writes the known value of an operation's result, or removes it. Returns `false` if memory ran out.
-fn write_found(table: &mut IdMap<Bits>, op: OpId, found: &Option<Bits>) -> bool
+fn write_found(table: &mut IdMap<PackedBits>, op: OpId, found: &Option<Bits>) -> bool
     ensures { OnTrue result ((y : ℕ)
         → known_in table.new y ≡ with_fact op (known_of found.now) (known_in table.old) y) }
 {
@@ -32,7 +33,7 @@ fn write_found(table: &mut IdMap<Bits>, op: OpId, found: &Option<Bits>) -> bool
 }
 
 /// Writes the fold of an operation, given the values known so far. Returns `false` if memory ran out.
-fn enter(alloc: Global, world: &World, table: &mut IdMap<Bits>, op: OpId) -> bool
+fn enter(alloc: Global, world: &World, table: &mut IdMap<PackedBits>, op: OpId) -> bool
     ensures { OnTrue result (IsThere (look_in world.now) op → (y : ℕ) → known_in table.new y
         ≡ with_fact op (value (look_in world.now) (known_in table.old) op) (known_in table.old) y) }
 {
@@ -44,7 +45,7 @@ fn enter(alloc: Global, world: &World, table: &mut IdMap<Bits>, op: OpId) -> boo
 }
 
 /// Writes the folds of operations in order. Returns `false` if memory ran out.
-fn enter_all(alloc: Global, world: &World, ops: &[OpId], table: &mut IdMap<Bits>) -> bool
+fn enter_all(alloc: Global, world: &World, ops: &[OpId], table: &mut IdMap<PackedBits>) -> bool
     ensures { OnTrue result (WalkedIds (look_in world.now) ops.now (known_in table.old) (known_in table.new)) }
 {
     for op in ops {
@@ -56,7 +57,7 @@ fn enter_all(alloc: Global, world: &World, ops: &[OpId], table: &mut IdMap<Bits>
 }
 
 /// Writes the folds of all operations of the module in order. Returns `false` if memory ran out.
-pub(crate) fn enter_module(alloc: Global, world: &World, table: &mut IdMap<Bits>) -> bool
+pub(crate) fn enter_module(alloc: Global, world: &World, table: &mut IdMap<PackedBits>) -> bool
     ensures { OnTrue result (WalkedIds (look_in world.now) (ids world.now.store.module_of.tree) (known_in table.old)
         (known_in table.new)) }
 {

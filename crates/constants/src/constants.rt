@@ -7,11 +7,11 @@ ghost use Rattle.constants.specs.Tables.{teaches_nothing};
 
 use crate::collect::enter_module;
 use crate::follow::follow;
+use crate::packed::PackedBits;
 use crate::report::lines;
 use ir_event::analysis::Analysis;
 use ir_event::event::Event;
 use ir_event::row::{Kind, Memory, ReportFault, Row};
-use ir_event::types::bits::Bits;
 use ir_event::types::ids::OpId;
 use ir_event::view::View;
 use ir_event::world::World;
@@ -26,7 +26,7 @@ use std::alloc::Global;
 #[derive(Drop)]
 pub struct Constants {
     alloc: Global,
-    table: IdMap<Bits>,
+    table: IdMap<PackedBits>,
     stale: bool,
 }
 

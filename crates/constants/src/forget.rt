@@ -6,10 +6,10 @@ ghost use Rattle.constants.specs.Trails.{total, Uses, IsTrail};
 ghost use Rattle.constants.specs.Phases.{Forgotten, Forgetting, SameBut};
 ghost use Rattle.constants.specs.Tables.{known_in, look_in, uses_in, users_of};
 
+use crate::packed::PackedBits;
 use crate::table::{drop_fact, fact};
 use crate::users::uses_of;
 use ir_event::store::uses::UsesOf;
-use ir_event::types::bits::Bits;
 use ir_event::types::ids::OpId;
 use ir_event::view::View;
 use listeners_support::IdMap;
@@ -26,7 +26,7 @@ pub(crate) fn push(trail: &mut Vec<OpId>, op: OpId) -> bool
 
 /// Forgets the known value of an operation's result. If there was one, appends the operation to the trail. Returns
 /// `false` if memory ran out.
-fn forget(table: &mut IdMap<Bits>, op: OpId, trail: &mut Vec<OpId>) -> bool
+fn forget(table: &mut IdMap<PackedBits>, op: OpId, trail: &mut Vec<OpId>) -> bool
     ensures { Forgotten (result ≡ true) (λ y. y ≡ op) (known_in table.old)
         (known_in table.new) trail.old.items trail.new.items }
 {
@@ -41,7 +41,7 @@ fn forget(table: &mut IdMap<Bits>, op: OpId, trail: &mut Vec<OpId>) -> bool
 }
 
 /// Forgets the known values of the operations with these uses.
-fn forget_all(table: &mut IdMap<Bits>, uses: UsesOf<'_>, trail: &mut Vec<OpId>) -> bool
+fn forget_all(table: &mut IdMap<PackedBits>, uses: UsesOf<'_>, trail: &mut Vec<OpId>) -> bool
     ensures { Forgotten (result ≡ true) (λ y. In y (users_of uses.entry)) (known_in table.old)
         (known_in table.new) trail.old.items trail.new.items }
 {
@@ -56,7 +56,7 @@ fn forget_all(table: &mut IdMap<Bits>, uses: UsesOf<'_>, trail: &mut Vec<OpId>) 
 /// Forgets the known values of the operations that use an operation's result.
 fn forget_users(
     view: &mut View<'_>,
-    table: &mut IdMap<Bits>,
+    table: &mut IdMap<PackedBits>,
     op: OpId,
     trail: &mut Vec<OpId>,
 ) -> bool
@@ -72,7 +72,7 @@ fn forget_users(
 /// operations to the trail. Returns `false` if memory ran out.
 pub(crate) fn forget_from(
     view: &mut View<'_>,
-    table: &mut IdMap<Bits>,
+    table: &mut IdMap<PackedBits>,
     op: OpId,
     trail: &mut Vec<OpId>,
 ) -> bool

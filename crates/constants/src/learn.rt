@@ -8,6 +8,7 @@ ghost use Rattle.constants.specs.Phases.{Noted, Learnt, LearntFrom};
 ghost use Rattle.constants.specs.Tables.{known_in, look_in, uses_in, users_of};
 
 use crate::forget::push;
+use crate::packed::PackedBits;
 use crate::table::{fact, note};
 use crate::users::{folded, uses_of};
 use ir_event::store::uses::UsesOf;
@@ -18,7 +19,7 @@ use listeners_support::IdMap;
 use std::alloc::Global;
 
 /// Writes a known value, and appends the operation to the trail. Returns `false` if memory ran out.
-fn note_on(table: &mut IdMap<Bits>, op: OpId, bits: &Bits, trail: &mut Vec<OpId>) -> bool
+fn note_on(table: &mut IdMap<PackedBits>, op: OpId, bits: &Bits, trail: &mut Vec<OpId>) -> bool
     ensures { Noted (result ≡ true) op (bits.now.kind, bits.now.value) (known_in table.old)
         (known_in table.new) trail.old.items trail.new.items }
 {
@@ -30,7 +31,7 @@ fn note_on(table: &mut IdMap<Bits>, op: OpId, bits: &Bits, trail: &mut Vec<OpId>
 
 /// Writes a known value if there is one, and appends the operation to the trail. Returns `false` if memory ran out.
 fn note_found(
-    table: &mut IdMap<Bits>,
+    table: &mut IdMap<PackedBits>,
     op: OpId,
     found: &Option<Bits>,
     trail: &mut Vec<OpId>,
@@ -50,7 +51,7 @@ fn note_found(
 fn learn(
     alloc: Global,
     view: &mut View<'_>,
-    table: &mut IdMap<Bits>,
+    table: &mut IdMap<PackedBits>,
     op: OpId,
     trail: &mut Vec<OpId>,
 ) -> bool
@@ -72,7 +73,7 @@ fn learn(
 fn learn_uses(
     alloc: Global,
     view: &mut View<'_>,
-    table: &mut IdMap<Bits>,
+    table: &mut IdMap<PackedBits>,
     uses: UsesOf<'_>,
     trail: &mut Vec<OpId>,
 ) -> bool
@@ -94,7 +95,7 @@ fn learn_uses(
 fn learn_all(
     alloc: Global,
     view: &mut View<'_>,
-    table: &mut IdMap<Bits>,
+    table: &mut IdMap<PackedBits>,
     ops: &[OpId],
     trail: &mut Vec<OpId>,
 ) -> bool
@@ -116,7 +117,7 @@ fn learn_all(
 fn learn_first(
     alloc: Global,
     view: &mut View<'_>,
-    table: &mut IdMap<Bits>,
+    table: &mut IdMap<PackedBits>,
     op: OpId,
     forgotten: &[OpId],
     trail: &mut Vec<OpId>,
@@ -138,7 +139,7 @@ fn learn_first(
 fn learn_users(
     alloc: Global,
     view: &mut View<'_>,
-    table: &mut IdMap<Bits>,
+    table: &mut IdMap<PackedBits>,
     op: OpId,
     trail: &mut Vec<OpId>,
 ) -> bool
@@ -157,7 +158,7 @@ fn learn_users(
 pub(crate) fn learn_from(
     alloc: Global,
     view: &mut View<'_>,
-    table: &mut IdMap<Bits>,
+    table: &mut IdMap<PackedBits>,
     op: OpId,
     forgotten: &[OpId],
 ) -> bool

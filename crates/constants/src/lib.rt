@@ -7,6 +7,7 @@ mod follow;
 mod forget;
 pub mod laws;
 mod learn;
+mod packed;
 mod report;
 mod table;
 mod users;

@@ -6,6 +6,7 @@ ghost use Rattle.ir_event.specs.types.declared.bits.Bits.{Bits as Known};
 ghost use Rattle.ir_event.specs.declared.row.Row.{Row as Line};
 ghost use Rattle.constants.specs.Tables.{cells_of};
 
+use crate::packed::PackedBits;
 use ir_event::row::{Cell, Row};
 use ir_event::trees::value::Value;
 use ir_event::types::bits::Bits;
@@ -37,24 +38,28 @@ fn push_line(alloc: Global, op: OpId, bits: &Bits, out: &mut Vec<Row>) -> Result
 fn push_slot(
     alloc: Global,
     id: usize,
-    slot: &Option<Bits>,
+    slot: &Option<PackedBits>,
     out: &mut Vec<Row>,
 ) -> Result<(), AllocError>
     ensures { (rest : List (Option Known)) → OnOk result (map (λ (r : Line). r.cells.items) out.new.items
         ++ map cells_of (entries_from (id + 1) rest)
         ≡ map (λ (r : Line). r.cells.items) out.old.items ++ map cells_of (entries_from id (slot.now ∷ rest))) }
 {
-    let Some(bits) = slot else {
+    let Some(packed) = slot else {
         return Ok(());
     };
     let Ok(number) = u32::try_from(id) else {
         return Err(AllocError);
     };
-    push_line(alloc, OpId::new(number), bits, out)
+    push_line(alloc, OpId::new(number), &packed.bits(), out)
 }
 
 /// Appends a row for each value of the ids in a list.
-fn push_near(alloc: Global, near: &[Option<Bits>], out: &mut Vec<Row>) -> Result<(), AllocError>
+fn push_near(
+    alloc: Global,
+    near: &[Option<PackedBits>],
+    out: &mut Vec<Row>,
+) -> Result<(), AllocError>
     ensures { OnOk result (map (λ (r : Line). r.cells.items) out.new.items
         ≡ map (λ (r : Line). r.cells.items) out.old.items ++ map cells_of (entries_from 0 near.now)) }
 {
@@ -65,18 +70,26 @@ fn push_near(alloc: Global, near: &[Option<Bits>], out: &mut Vec<Row>) -> Result
 }
 
 /// Appends a row for each value of the ids in a sorted map.
-fn push_far(alloc: Global, far: &BTreeMap<u32, Bits>, out: &mut Vec<Row>) -> Result<(), AllocError>
+fn push_far(
+    alloc: Global,
+    far: &BTreeMap<u32, PackedBits>,
+    out: &mut Vec<Row>,
+) -> Result<(), AllocError>
     ensures { OnOk result (map (λ (r : Line). r.cells.items) out.new.items
         ≡ map (λ (r : Line). r.cells.items) out.old.items ++ map cells_of far.now.entries) }
 {
-    for (id, bits) in far {
-        push_line(alloc, OpId::new(*id), bits, out)?;
+    for (id, packed) in far {
+        push_line(alloc, OpId::new(*id), &packed.bits(), out)?;
     }
     Ok(())
 }
 
 /// Appends a row for each known value.
-fn push_lines(alloc: Global, table: &IdMap<Bits>, out: &mut Vec<Row>) -> Result<(), AllocError>
+fn push_lines(
+    alloc: Global,
+    table: &IdMap<PackedBits>,
+    out: &mut Vec<Row>,
+) -> Result<(), AllocError>
     ensures { OnOk result (map (λ (r : Line). r.cells.items) out.new.items
         ≡ map (λ (r : Line). r.cells.items) out.old.items ++ map cells_of table.now.entries) }
 {
@@ -86,7 +99,7 @@ fn push_lines(alloc: Global, table: &IdMap<Bits>, out: &mut Vec<Row>) -> Result<
 }
 
 /// Returns a row for each known value, ordered by id.
-pub(crate) fn lines(alloc: Global, table: &IdMap<Bits>) -> Result<Vec<Row>, AllocError>
+pub(crate) fn lines(alloc: Global, table: &IdMap<PackedBits>) -> Result<Vec<Row>, AllocError>
     ensures rows { IfOk result (λ out. map (λ (r : Line). r.cells.items) out.items ≡ map cells_of table.now.entries) }
     ensures ordered { IfOk result (λ _. idmap.IsOrdered table.now) }
 {

@@ -6,6 +6,7 @@ ghost use Rattle.constants.specs.Trails.{IsThere};
 ghost use Rattle.constants.specs.Phases.{AreUsers};
 ghost use Rattle.constants.specs.Tables.{known_in, look_in, uses_in, users_of};
 
+use crate::packed::PackedBits;
 use crate::table::value_facts;
 use dialects_int::fold::fold;
 use ir_event::store::uses::UsesOf;
@@ -30,7 +31,7 @@ pub(crate) fn uses_of<'a>(view: &mut View<'a>, op: OpId) -> UsesOf<'a>
 pub(crate) fn folded(
     alloc: Global,
     view: &mut View<'_>,
-    table: &IdMap<Bits>,
+    table: &IdMap<PackedBits>,
     op: OpId,
 ) -> Result<Option<Bits>, AllocError>
     ensures value { IfOk result

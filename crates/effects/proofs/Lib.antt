@@ -22,3 +22,4 @@ pub mod Reached
 pub mod Unused
 pub mod Picking
 pub mod Marked
+pub mod RowMaps

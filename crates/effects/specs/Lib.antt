@@ -12,3 +12,4 @@ pub mod Idle
 pub mod Within
 pub mod Marks
 pub mod Picked
+pub mod RowMaps

@@ -48,5 +48,11 @@ fn insert_found(world: &World, op: OpId, rows: &mut EffectRows) -> bool
         return true;
     };
     let own = own(&world.ctx, &world.registry, node.name());
-    insert_leaf(rows, op, world.store.parent(op), &own)
+    insert_leaf(
+        rows,
+        op,
+        world.store.parent(op),
+        &own,
+        node.region_count() > 0,
+    )
 }

@@ -16,14 +16,15 @@ use ir_event::types::ids::OpId;
 use ir_event::view::View;
 use op_registry::own::Own;
 
-/// Returns the own effects of an operation that the view shows.
-fn own_at(view: &mut View<'_>, op: OpId) -> Option<Own>
-    ensures own { result ≡ option_map (λ n. own_of n.head.name) (node_of_op view.old.world.now op) }
+/// Returns the own effects of an operation that the view shows, and whether it has regions.
+fn own_at(view: &mut View<'_>, op: OpId) -> Option<(Own, bool)>
+    ensures own { option_map (λ p. p.0) result ≡ option_map (λ n. own_of n.head.name) (node_of_op view.old.world.now op) }
     ensures world { view.new.world.now ≡ view.old.world.now }
     ensures looks { view.new.looks ≡ one_more view.old.looks }
 {
     let node = view.node(op)?;
-    Some(own(view.context(), view.registry(), node.name()))
+    let own = own(view.context(), view.registry(), node.name());
+    Some((own, node.region_count() > 0))
 }
 
 /// Updates the table after an event. Returns `false` if memory ran out, or the view doesn't show an inserted operation.
@@ -36,10 +37,10 @@ pub(crate) fn follow(rows: &mut EffectRows, view: &mut View<'_>, event: &Event) 
 {
     match event {
         Event::Put { op, place, .. } => {
-            let Some(own) = own_at(view, *op) else {
+            let Some((own, inner)) = own_at(view, *op) else {
                 return false;
             };
-            insert_leaf(rows, *op, Some(place.parent), &own)
+            insert_leaf(rows, *op, Some(place.parent), &own, inner)
         }
         Event::Take { op, .. } => {
             take(rows, *op);

@@ -14,6 +14,7 @@ mod follow;
 mod own;
 mod report;
 pub mod row;
+mod row_map;
 mod table;
 mod tally;
 pub mod use_counts;

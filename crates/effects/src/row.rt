@@ -1,8 +1,9 @@
 //! The table entry of an operation.
 ghost use Rattle.std.specs.Prelude.{◌≡◌, ◌-◌, ◌+◌, IfSome};
 ghost use Rattle.effects.specs.Points.{one_if};
+ghost use Rattle.effects.specs.RowMaps.{head_of, row_of_head, zero_counts};
 ghost use Rattle.effects.specs.Walks.{lowered, lost_row, raised, gained_row, present, both, new_row};
-ghost use Rattle.effects.specs.Effects.{union};
+ghost use Rattle.effects.specs.Effects.{is_none, union};
 
 use crate::effect_kinds::{EffectKinds, recursive};
 use ir_event::types::ids::OpId;
@@ -16,6 +17,14 @@ pub struct Counts {
     pub free: u32,
     pub read: u32,
     pub write: u32,
+}
+
+/// The entry of an operation without the counts.
+#[derive(Clone, Copy)]
+pub struct RowHead {
+    pub parent: Option<OpId>,
+    pub recursive: bool,
+    pub has: EffectKinds,
 }
 
 /// The entry of an operation: its parent, whether it has the effects of its children, its effects, and how many of its
@@ -46,7 +55,41 @@ fn raise(count: u32, more: bool) -> Option<u32>
     }
 }
 
+impl RowHead {
+    /// Returns the entry with counts.
+    pub(crate) fn row(&self, counts: &Counts) -> Row
+        ensures { result ≡ row_of_head counts.now self.now }
+    {
+        Row {
+            parent: self.parent,
+            recursive: self.recursive,
+            has: self.has,
+            counts: *counts,
+        }
+    }
+}
+
 impl Counts {
+    /// Returns counts that are all 0.
+    pub(crate) fn zero() -> Counts
+        ensures { result ≡ zero_counts }
+    {
+        Counts {
+            unknown: 0,
+            allocate: 0,
+            free: 0,
+            read: 0,
+            write: 0,
+        }
+    }
+
+    /// Returns whether all counts are 0.
+    pub(crate) fn are_zero(&self) -> bool
+        ensures { result ≡ is_none (present self.now) }
+    {
+        self.present().is_none()
+    }
+
     /// Returns the counts, one less for each effect in `less`.
     fn lowered(&self, less: &EffectKinds) -> Counts
         ensures { result ≡ lowered self.now less.now }
@@ -119,22 +162,26 @@ fn union_of(a: &EffectKinds, b: &EffectKinds) -> EffectKinds
 }
 
 impl Row {
+    /// Returns the entry without the counts.
+    pub(crate) fn head(&self) -> RowHead
+        ensures { result ≡ head_of self.now }
+    {
+        RowHead {
+            parent: self.parent,
+            recursive: self.recursive,
+            has: self.has,
+        }
+    }
+
     /// Returns the entry of an operation without children.
     pub fn leaf(parent: Option<OpId>, own: &Own) -> Row
         ensures { result ≡ new_row parent own.now }
     {
-        let counts = Counts {
-            unknown: 0,
-            allocate: 0,
-            free: 0,
-            read: 0,
-            write: 0,
-        };
         Row {
             parent,
             recursive: recursive(own),
             has: EffectKinds::from_own(own),
-            counts,
+            counts: Counts::zero(),
         }
     }
 

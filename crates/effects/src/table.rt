@@ -2,15 +2,17 @@
 ghost use Rattle.listeners_support.specs.Map as idmap;
 ghost use Rattle.std.specs.Prelude.{◌≡◌, false, Some, None, ℕ, List, ◌∷◌};
 ghost use Rattle.std.specs.Bool.{OnTrue};
+ghost use Rattle.effects.specs.RowMaps.{zero_counts};
 ghost use Rattle.effects.specs.Points.{Point, Apart, with_row};
 ghost use Rattle.effects.specs.Walks.{rows_at, row_at};
 ghost use Rattle.effects.specs.Following.{Whole, PutIn, TakenOut, ShiftedTo};
 
 use crate::effect_rows::EffectRows;
 use crate::row::Row;
+use crate::row_map::RowMap;
 use crate::walk::{drop_row, gain, lose, mark, row_of, write};
 use ir_event::types::ids::OpId;
-use listeners_support::{BitSet, IdMap};
+use listeners_support::BitSet;
 use op_registry::own::Own;
 use std::alloc::Global;
 
@@ -19,45 +21,51 @@ pub(crate) fn no_rows(alloc: Global) -> EffectRows
     ensures { (x : ℕ) → row_at result x ≡ None }
 {
     EffectRows {
-        rows: IdMap::new(alloc),
+        rows: RowMap::new(alloc),
         acting: BitSet::new(alloc),
     }
 }
 
-/// Writes an entry of a map. Returns `false` if memory ran out.
-fn record_row(rows: &mut IdMap<Row>, op: OpId, row: Row) -> bool
-    ensures there { OnTrue result ((x : ℕ) → rows_at rows.new x ≡ with_row op (Some row) (rows_at rows.old) x) }
+/// Writes an entry of a map. All its counts are 0. Returns `false` if memory ran out.
+fn record_row(rows: &mut RowMap, op: OpId, row: &Row, inner: bool) -> bool
+    requires { row.now.counts ≡ zero_counts }
+    ensures there { OnTrue result ((x : ℕ) → rows_at rows.new x ≡ with_row op (Some row.now) (rows_at rows.old) x) }
     ensures same { result ≡ false → idmap.IsUnchanged rows.old rows.new }
 {
-    rows.insert(op.number(), row).is_ok()
+    rows.insert(op.number(), row, inner).is_ok()
 }
 
-/// Writes an entry of the table. Returns `false` if memory ran out.
-fn add(rows: &mut EffectRows, op: OpId, row: Row) -> bool
-    ensures { OnTrue result ((x : ℕ) → row_at rows.new x ≡ with_row op (Some row) (row_at rows.old) x) }
+/// Writes an entry of the table. All its counts are 0. Returns `false` if memory ran out.
+fn add(rows: &mut EffectRows, op: OpId, row: &Row, inner: bool) -> bool
+    requires { row.now.counts ≡ zero_counts }
+    ensures { OnTrue result ((x : ℕ) → row_at rows.new x ≡ with_row op (Some row.now) (row_at rows.old) x) }
 {
     if rows.acting.reserve(op.number()).is_err() {
         return false;
     }
-    let has = row.has;
-    if !record_row(&mut rows.rows, op, row) {
+    if !record_row(&mut rows.rows, op, row, inner) {
         return false;
     }
-    mark(&mut rows.acting, op, &has);
+    mark(&mut rows.acting, op, &row.has);
     true
 }
 
-/// Inserts an operation without children. Returns `false` if memory ran out or a count overflows.
-pub(crate) fn insert_leaf(rows: &mut EffectRows, op: OpId, parent: Option<OpId>, own: &Own) -> bool
+/// Inserts an operation without children. `inner` says whether it has regions. Returns `false` if memory ran out or a
+/// count overflows.
+pub(crate) fn insert_leaf(
+    rows: &mut EffectRows,
+    op: OpId,
+    parent: Option<OpId>,
+    own: &Own,
+    inner: bool,
+) -> bool
     ensures { OnTrue result (PutIn op parent own.now (row_at rows.old) (row_at rows.new)) }
 {
     let row = Row::leaf(parent, own);
-    let from = row.parent;
-    let has = row.has;
-    if !add(rows, op, row) {
+    if !add(rows, op, &row, inner) {
         return false;
     }
-    gain(rows, from, &has)
+    gain(rows, row.parent, &row.has)
 }
 
 /// Removes an operation without children. Needs no memory.
@@ -75,7 +83,9 @@ fn detach(rows: &mut EffectRows, op: OpId)
 {
     if let Some(row) = row_of(rows, op) {
         let alone = row.moved(None);
-        write(rows, op, &alone);
+        if !write(rows, op, &alone) {
+            return;
+        }
         lose(rows, row.parent, &row.has);
     }
 }
@@ -89,7 +99,9 @@ fn attach(rows: &mut EffectRows, op: OpId, parent: OpId) -> bool
         return false;
     };
     let inside = row.moved(Some(parent));
-    write(rows, op, &inside);
+    if !write(rows, op, &inside) {
+        return false;
+    }
     gain(rows, Some(parent), &row.has)
 }
 

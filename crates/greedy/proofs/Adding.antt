@@ -74,6 +74,9 @@ adds_both P R S xs ys zs f a b = record {
 pub adds_present : (x : ℕ) (xs : List ℕ) → is_listed x xs ≡ true → Adds (λ y. y ≡ x) xs xs
 adds_present x xs h = record { grown = grown_none xs; kept = λ y k. k; added = λ y i. ap (λ z. is_listed z xs) i ∙ h }
 
+pub adds_all_present : (P : ℕ → Type 0) (xs : List ℕ) → ((x : ℕ) → P x → is_listed x xs ≡ true) → Adds P xs xs
+adds_all_present P xs f = record { grown = grown_none xs; kept = λ x k. k; added = f }
+
 pub adds_pushed : (x : ℕ) (xs ys : List ℕ) → ys ≡ xs ++ x ∷ [] → Adds (λ y. y ≡ x) xs ys
 adds_pushed x xs ys e = record {
   grown = (x ∷ [], e);

@@ -231,6 +231,14 @@ module _ {N T A : Type 0} where
               few = λ fw. let l = region_below a.region (regions a.parent) (block a.args (joined_ops a.preceding (next s.here a.rest))) (shaped_as t s.here a p mem) in let c = fw place.parent a.parent found in let r : place.region ≡ a.region = ap (λ (z : Place). z.region) one in omega (arith, l, c, r);
             }
 
+    -- the next operation in the block comes first after the contents
+    pub next_after : (x y : ℕ) → has_id x t ≡ true → option_and_then (λ (p : Place). p.before) (place_of x t) ≡ Some y → first_id (after_of (op_with_path x t)) ≡ Some y
+    next_after x y h e = go (place_of x t) refl e
+      where
+        go : (f : Option Place) → place_of x t ≡ f → option_and_then (λ (p : Place). p.before) f ≡ Some y → first_id (after_of (op_with_path x t)) ≡ Some y
+        go None i k = absurd cc
+        go (Some place) i k = (up x place h i).next y k
+
     -- the number of regions of an operation
     found_op : (x : ℕ) → has_id x t ≡ true → (o : OpOf N T A) × (find x t ≡ Some o)
     found_op x h = let s = located x h in (s.0.here, ap (λ y. find y t) (sym s.3) ∙ stand_found t d s.0 s.2)

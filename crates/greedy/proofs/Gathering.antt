@@ -30,7 +30,7 @@ use Rattle.greedy.specs.Reached.{ends, ends_of, is_end, reaches, any_reaches}
 use Rattle.greedy.specs.LocalContext.{Uses, defining_op, is_listed, operands_of}
 use Rattle.greedy.proofs.Applying.{touched_all}
 use Rattle.greedy.specs.Adding.{Adds, Grown, OneOf}
-use Rattle.greedy.specs.Parts.{IsAround, IsReached, IsNextTo, IsSeer, puts_last, any_puts_last}
+use Rattle.greedy.specs.Parts.{IsAround, IsOver, IsReached, IsReachedUpTo, IsNextTo, IsSeer, leaves, puts_last, any_puts_last}
 use Rattle.greedy.specs.Shown.{shown_operands}
 use Rattle.greedy.proofs.Adding.{grown_more, in_listed, listed_in}
 use Rattle.greedy.proofs.Climbing.{same_climbs}
@@ -97,7 +97,7 @@ abbrev seer_of : World → ℕ → ℕ → ℕ → Type 0
 seer_of w passed y x = IsSeer w.store.module_of.tree passed y x
 
 module _ (w : World) (es : List Event) (inner : any_puts_last es ≡ false) (passed : ℕ) (none reached seen second users listed : List ℕ) (n : ℕ) (from : n ≡ length reached)
-    (at_reached : Adds (OneOf (IsReached w.store.module_of.tree) es) none reached)
+    (at_reached : Adds (OneOf (IsReachedUpTo w.store.module_of.tree passed) es) none reached)
     (at_seen : Adds (OneOf (seer_of w passed) (drop 0 reached)) reached seen)
     (at_around : Adds (OneOf (IsAround w.store.module_of.tree) seen) seen second)
     (at_users : Adds (OneOf (seer_of w passed) (drop n second)) second users)
@@ -119,12 +119,32 @@ module _ (w : World) (es : List Event) (inner : any_puts_last es ≡ false) (pas
   after_all x h = right_in x listed (entries_after passed (ids (module_in w).tree))
       (after_listed passed x (ids (module_in w).tree) ∙ ap (comes_after passed x) (map_ids (name_term w.ctx) (type_term w.ctx) (attr_term w.ctx) t) ∙ h)
 
-  reached_one : (y : ℕ) → any_reaches es y (module_in w).tree ≡ true → is_listed y reached ≡ true
-  reached_one y h = at_reached.added y (one_reaches w.ctx t es inner y h)
-
   -- operations that are seen stay listed
   stays : (x : ℕ) → is_listed x seen ≡ true → is_listed x listed ≡ true
   stays x h = at_next_to.kept x (at_users.kept x (at_around.kept x h))
+
+  -- an operation after `passed`, with what is over it in the list
+  record IsSkipped (y : ℕ) : Type 0 where
+    later : precedes passed y t ≡ true
+    over : (x : ℕ) → IsOver t y x → is_listed x all ≡ true
+
+  -- an operation that is reached is listed first, or comes after `passed`
+  reached_one : (y : ℕ) → any_reaches es y (module_in w).tree ≡ true → (is_listed y reached ≡ true) ⊎ IsSkipped y
+  reached_one y h = (let r = one_reaches w.ctx t es inner y h in by_event r.0 r.1 r.2 (bool_cases (leaves r.0)) (bool_cases (precedes passed y t)))
+    where
+      add : (e : Event) → In e es → (x : ℕ) → IsReachedUpTo t passed e x → is_listed x reached ≡ true
+      add e i x k = at_reached.added x (e, i, k)
+
+      by_event : (e : Event) → In e es → IsReached t e y → (leaves e ≡ true) ⊎ (leaves e ≡ false) → (precedes passed y t ≡ true) ⊎ (precedes passed y t ≡ false) → (is_listed y reached ≡ true) ⊎ IsSkipped y
+      by_event e i k (inl l) p = inl (add e i y (inl (l, k)))
+      by_event e i k (inr l) (inr n) = inl (add e i y (inr (l, (n, inl k))))
+      by_event e i k (inr l) (inl p) = inr (record {
+        later = p;
+        over = λ x o. elim (bool_cases (precedes passed x t)) [
+          | inl q ↦ after_all x q
+          | inr n ↦ in_all x (stays x (at_seen.kept x (add e i x (inr (l, (n, inr (y, k, p, o)))))))
+        ];
+      })
 
   used : (x y : ℕ) → Uses x y (module_in w).tree → used_by w y x
   used x y u = same_uses w.ctx t x y u
@@ -139,6 +159,9 @@ module _ (w : World) (es : List Event) (inner : any_puts_last es ≡ false) (pas
 
   user_one : (y x : ℕ) → is_listed y reached ≡ true → used_by w y x → (is_listed x seen ≡ true) ⊎ (precedes passed x t ≡ true)
   user_one y x h u = elim (seer_or_later y x u) [ inl s ↦ inl (at_seen.added x (y, listed_in y reached h, s)) | inr p ↦ inr p ]
+
+  reached_user : (y x : ℕ) → any_reaches es y (module_in w).tree ≡ true → used_by w y x → (is_listed x seen ≡ true) ⊎ (precedes passed x t ≡ true)
+  reached_user y x h u = elim (reached_one y h) [ inl k ↦ user_one y x k u | inr s ↦ inr (later_user y x s.later u) ]
 
   -- the users of the first operations are seen, and the users of the new ones are listed next
   user_next : (y x : ℕ) → is_listed y seen ≡ true → used_by w y x → is_listed x all ≡ true
@@ -166,6 +189,12 @@ module _ (w : World) (es : List Event) (inner : any_puts_last es ≡ false) (pas
     ]
   ]
 
+  around_skipped : (z l x : ℕ) → IsSkipped z → used_by w z l → ends x l (module_in w).tree ≡ true → is_listed x all ≡ true
+  around_skipped z l x s u k = elim (handed_on w z l x u (sym (same_ends w.ctx t x l) ∙ k)) [
+    | inl b ↦ after_all x (then_after t d passed z x s.later b)
+    | inr g ↦ s.over x (inr g)
+  ]
+
   -- a value that lost a use has none left, or is still used
   lost_one : (e : Event) → In e es → (v : Value) → In v (lost_values (shown_operands w.store) e) → (y : ℕ) → defining_op v ≡ Some y → (us : List (ℕ × ℕ)) → uses_of v t ≡ us
       → (is_listed y all ≡ true) ⊎ (is_unused y (module_in w).tree ≡ false)
@@ -180,16 +209,22 @@ module _ (w : World) (es : List Event) (inner : any_puts_last es ≡ false) (pas
   pub all_listed : ListsUpTo passed (shown_operands w.store) es listed (module_in w).tree
   all_listed = record {
     seers = record {
-      itself = λ y h. in_all y (stays y (at_seen.kept y (reached_one y h)));
-      users = λ y x h u. elim (user_one y x (reached_one y h) (used x y u)) [ inl k ↦ in_all x (stays x k) | inr p ↦ after_all x p ];
-      users_of_users = λ z y x h u v. elim (user_one z y (reached_one z h) (used y z u)) [
+      itself = λ y h. elim (reached_one y h) [ inl k ↦ in_all y (stays y (at_seen.kept y k)) | inr s ↦ after_all y s.later ];
+      users = λ y x h u. elim (reached_user y x h (used x y u)) [ inl k ↦ in_all x (stays x k) | inr p ↦ after_all x p ];
+      users_of_users = λ z y x h u v. elim (reached_user z y h (used y z u)) [
         | inl k ↦ user_next y x k (used x y v)
         | inr p ↦ after_all x (later_user y x p (used x y v))
       ];
     };
     around = record {
-      around = λ l x h e. around_one l x (at_seen.kept l (reached_one l h)) e;
-      around_users = λ z l x h u e. around_user z l x (reached_one z h) (used l z u) e;
+      around = λ l x h e. elim (reached_one l h) [
+        | inl k ↦ around_one l x (at_seen.kept l k) e
+        | inr s ↦ s.over x (inl (sym (same_ends w.ctx t x l) ∙ e))
+      ];
+      around_users = λ z l x h u e. elim (reached_one z h) [
+        | inl k ↦ around_user z l x k (used l z u) e
+        | inr s ↦ around_skipped z l x s (used l z u) e
+      ];
     };
     found_gained = λ e h v k y g. in_all y (at_next_to.added y (e, h, inl (inl (v, k, g))));
     found_lost = λ e h v k y g. lost_one e h v k y g (uses_of v t) refl;

@@ -17,6 +17,7 @@ mod Using
 mod Climbing
 mod Reached
 mod Gathering
+mod Skipping
 mod Journaled
 pub mod Noting
 pub mod Order

@@ -45,6 +45,14 @@ module _ {N T A : Type 0} where
   IsHanded t y x = (place : Place) × (place_of y t ≡ Some place) × (place.parent ≡ x)
       × ((l : ℕ) × (last_at place.parent place.region t ≡ Some l) × Uses l y t)
 
+  -- x is the parent of operation y, which ends its block or has a user at the end of the block
+  abbrev pub IsOver : OpOf N T A → ℕ → ℕ → Type 0
+  IsOver t y x = IsAround t y x ⊎ IsHanded t y x
+
+  -- x doesn't come after `passed`, and has property P, or is over an operation after `passed` that has it
+  abbrev pub UpTo : OpOf N T A → ℕ → (ℕ → Type 0) → ℕ → Type 0
+  UpTo t passed P x = (precedes passed x t ≡ false) × (P x ⊎ ((y : ℕ) × P y × (precedes passed y t ≡ true) × IsOver t y x))
+
   -- x uses a result of operation y; or y comes after `passed`, and x is the parent of y, with a user of y at its end
   abbrev pub IsSeer : OpOf N T A → ℕ → ℕ → ℕ → Type 0
   IsSeer t passed y x = (Uses x y t × (precedes passed y t ≡ false)) ⊎ ((precedes passed y t ≡ true) × IsHanded t y x)
@@ -65,6 +73,18 @@ any_puts_last (e ∷ es) = puts_last e || any_puts_last es
 -- an event that inserts nothing at the end of a block reaches operation x
 abbrev pub IsReached : {N T A : Type 0} → OpOf N T A → Event → ℕ → Type 0
 IsReached t e x = (puts_last e ≡ false) × (reaches e x t ≡ true)
+
+-- whether an operation leaves a place in an event
+abbrev pub leaves : Event → Bool
+leaves (Put x place fresh) = false
+leaves (Take x place fresh) = true
+leaves (SetOperand x k old new) = false
+leaves (SetEntry x part key old new) = false
+leaves (Shift x old new) = true
+
+-- the same as `IsReached`; if no operation leaves a place, only up to `passed`
+abbrev pub IsReachedUpTo : {N T A : Type 0} → OpOf N T A → ℕ → Event → ℕ → Type 0
+IsReachedUpTo t passed e x = ((leaves e ≡ true) × IsReached t e x) ⊎ ((leaves e ≡ false) × UpTo t passed (IsReached t e) x)
 
 -- operation x defines a value
 abbrev pub Gives : Value → ℕ → Type 0

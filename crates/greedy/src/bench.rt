@@ -168,9 +168,9 @@ impl<L: Analysis> GreedyRewriter for Bench<L> {
         }
     }
 
-    fn touched(&self, alloc: Global, from: usize, passed: OpId) -> Result<Vec<OpId>, Refusal> {
-        match touched(alloc, self, from, passed) {
-            Ok(ops) => Ok(ops),
+    fn touched(&self, from: usize, passed: OpId, ops: &mut Vec<OpId>) -> Result<(), Refusal> {
+        match touched(self, from, passed, ops) {
+            Ok(()) => Ok(()),
             Err(refusal) => Err(refusal),
         }
     }

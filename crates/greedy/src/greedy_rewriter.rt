@@ -150,11 +150,11 @@ pub trait GreedyRewriter {
         ensures journal { Noted (transaction self.old) (transaction self.new) }
         ensures onward { onward self.old self.new };
 
-    /// Returns every operation, up to `passed` in pre-order, at which a rule may apply differently than before the events
-    /// of the journal from index `from` on. The result may hold other operations too.
-    fn touched(&self, alloc: Global, from: usize, passed: OpId) -> Result<Vec<OpId>, Refusal>
+    /// Replaces `ops` with every operation, up to `passed` in pre-order, at which a rule may apply differently than
+    /// before the events of the journal from index `from` on. The list may hold other operations too.
+    fn touched(&self, from: usize, passed: OpId, ops: &mut Vec<OpId>) -> Result<(), Refusal>
         requires { from ≤ events self.now }
-        ensures ok { IfOk result (λ v. TouchedUpTo passed (before self.now from) (held self.now) v.items) }
+        ensures ok { OnOk result (TouchedUpTo passed (before self.now from) (held self.now) ops.new.items) }
         ensures refused { IfErr result (λ e. e ≡ NoMemory) };
 
     /// Opens a mark that isn't counted. If no mark is open, the journal is empty.

@@ -1,12 +1,13 @@
 //! Lists the operations next to events: the defining operations of values that gain a use or lose their last use, and
 //! the operations around the places of the events.
-ghost use Rattle.std.specs.Prelude.{OnOk, ◌⊎◌};
+ghost use Rattle.std.specs.Prelude.{OnOk, ◌≡◌, ◌⊎◌, ℕ, true};
 ghost use Rattle.greedy.specs.Adding.{Adds, OneOf};
+ghost use Rattle.greedy.specs.LocalContext.{is_listed};
 ghost use Rattle.greedy.specs.Parts.{Gives, GivesMoved, GivesUnused, IsNextTo};
 ghost use Rattle.greedy.specs.Shown.{shown_operands};
 
 use crate::parents::push_parents;
-use crate::push::push;
+use crate::push::{is_last, push};
 use ir_event::event::Event;
 use ir_event::store::store::Store;
 use ir_event::trees::value::Value;
@@ -24,10 +25,24 @@ fn push_defining_op(ops: &mut Vec<OpId>, value: &Value) -> Result<(), AllocError
     }
 }
 
-/// Pushes the defining operation of `value`, if it has one and `value` has no uses.
+/// Returns whether `value` has no defining operation, or the last entry of the list is that operation.
+fn is_listed_last(ops: &[OpId], value: &Value) -> bool
+    ensures { result ≡ true → (x : ℕ) → Gives value.now x → is_listed x ops.now ≡ true }
+{
+    match value {
+        Value::Result(op, _) => is_last(ops, *op),
+        Value::Arg(..) => true,
+    }
+}
+
+/// Pushes the defining operation of `value`, if it has one and `value` has no uses. The uses are looked up only if the
+/// operation isn't already the last entry.
 fn push_unused(store: &Store, ops: &mut Vec<OpId>, value: &Value) -> Result<(), AllocError>
     ensures { OnOk result (Adds (GivesUnused store.now.module_of.tree value.now) ops.old.items ops.new.items) }
 {
+    if is_listed_last(ops, value) {
+        return Ok(());
+    }
     match store.first_use(*value) {
         Some(_) => Ok(()),
         None => push_defining_op(ops, value),

@@ -20,7 +20,7 @@ pub(crate) fn push(ops: &mut Vec<OpId>, op: OpId) -> Result<(), AllocError>
 }
 
 /// Returns whether `op` is the last entry of the list.
-fn is_last(ops: &[OpId], op: OpId) -> bool
+pub(crate) fn is_last(ops: &[OpId], op: OpId) -> bool
     ensures { result ≡ true → is_listed op ops.now ≡ true }
 {
     match ops.last() {

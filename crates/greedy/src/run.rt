@@ -1,6 +1,6 @@
 //! The greedy driver.
 ghost use Rattle.std.specs.Prelude.{◌≡◌, ◌≢◌, ◌⊎◌, ◌≤◌, ℕ, IfOk, IfErr, OnErr, OnOk, MatchResult, is_some, List, [], ◌++◌, ◌∷◌};
-ghost use Rattle.std.specs.Prelude.{true, false, IfSome, IfNone};
+ghost use Rattle.std.specs.Prelude.{true, false, ◌&&◌, not, eqb, IfSome, IfNone};
 ghost use Rattle.ir_event.specs.types.declared.refusal.Refusal.TheVariants.{Memory as NoMemory};
 ghost use Rattle.ir_event.specs.trees.Ids.{has_id};
 ghost use Rattle.ir_event.specs.trees.Tree.{head};
@@ -33,10 +33,48 @@ use ir_event::types::refusal::Refusal;
 use patterns::rules_by_name::RulesByName;
 use patterns_base::rule::Rule;
 use std::alloc::Global;
+use std::mem;
+
+/// Adds an operation near a rewrite to the worklist, if it is in the module. The rewritten operation is looked up only
+/// if it is still there.
+fn push_near<R: GreedyRewriter>(
+    bench: &R,
+    work: &mut Worklist,
+    site: &Site,
+    op: OpId,
+) -> Result<(), Refusal>
+    requires work { IsWork work.old.passed work.old.again.items (R.held bench.now).tree }
+    requires stays { site.now.stays ≡ has_id site.now.op (R.held bench.now).tree }
+    ensures work { IsWork work.new.passed work.new.again.items (R.held bench.now).tree }
+    ensures added { OnOk result
+        (has_id op (R.held bench.now).tree ≡ true
+        → waits work.new.passed work.new.again.items (R.held bench.now).tree op ≡ true) }
+    ensures others { StillWaits work.old.passed work.old.again.items
+        (R.held bench.now).tree work.new.passed work.new.again.items (R.held bench.now).tree }
+    ensures refused { IfErr result (λ e. e ≡ NoMemory) }
+{
+    if is_gone(site, op) {
+        return Ok(());
+    }
+    push(bench, work, op)
+}
+
+/// Returns whether `op` is the rewritten operation and was erased.
+fn is_gone(site: &Site, op: OpId) -> bool
+    ensures { result ≡ (eqb op site.now.op && not site.now.stays) }
+{
+    op == site.op && !site.stays
+}
 
 /// Adds to the worklist each operation of a list that is in the module.
-fn add_all<R: GreedyRewriter>(bench: &R, work: &mut Worklist, ops: &[OpId]) -> Result<(), Refusal>
-    requires { IsWork work.old.passed work.old.again.items (R.held bench.now).tree }
+fn add_all<R: GreedyRewriter>(
+    bench: &R,
+    work: &mut Worklist,
+    site: &Site,
+    ops: &[OpId],
+) -> Result<(), Refusal>
+    requires work { IsWork work.old.passed work.old.again.items (R.held bench.now).tree }
+    requires stays { site.now.stays ≡ has_id site.now.op (R.held bench.now).tree }
     ensures work { IsWork work.new.passed work.new.again.items (R.held bench.now).tree }
     ensures added { OnOk result
         ((z : ℕ) → is_listed z ops.now ≡ true → has_id z (R.held bench.now).tree ≡ true
@@ -47,7 +85,7 @@ fn add_all<R: GreedyRewriter>(bench: &R, work: &mut Worklist, ops: &[OpId]) -> R
 {
     let mut rest = ops;
     'ops: while let [op, tail @ ..] = rest {
-        match push(bench, work, *op) {
+        match push_near(bench, work, site, *op) {
             Ok(()) => {}
             Err(refusal) => return Err(refusal),
         }
@@ -69,24 +107,28 @@ fn renew<R: GreedyRewriter>(
     requires rewritten { Rewritten site.now.op site.now.before (R.before bench.now from) (R.held bench.now) }
     requires work { IsWork work.old.passed work.old.again.items (R.before bench.now from).tree }
     requires apart { site.now.apart ≡ true → AreApart site.now.op work.old.again.items (R.before bench.now from).tree }
+    requires stays { site.now.stays ≡ has_id site.now.op (R.held bench.now).tree }
     ensures ok { OnOk result ((a : PatternSetModel) → StaysAway a
         → CoversBut a site.now.op work.old.passed work.old.again.items (R.before bench.now from)
         → Right a work.new.passed work.new.again.items (R.held bench.now)) }
     ensures refused { IfErr result (λ e. e ≡ NoMemory) }
 {
     drop_erased(bench, work, site);
-    let listed = match bench.touched(alloc, from, work.passed) {
-        Ok(listed) => listed,
-        Err(refusal) => return Err(refusal),
-    };
-    match push(bench, work, site.op) {
+    let mut near = mem::replace(&mut work.near, Vec::new(alloc));
+    match bench.touched(from, work.passed, &mut near) {
         Ok(()) => {}
         Err(refusal) => return Err(refusal),
     }
-    match add_all(bench, work, &listed) {
-        Ok(()) => Ok(()),
-        Err(refusal) => Err(refusal),
+    match push_near(bench, work, site, site.op) {
+        Ok(()) => {}
+        Err(refusal) => return Err(refusal),
     }
+    match add_all(bench, work, site, &near) {
+        Ok(()) => {}
+        Err(refusal) => return Err(refusal),
+    }
+    work.near = near;
+    Ok(())
 }
 
 /// Returns an operation that precedes `op`, which was taken from the worklist, or `None` if `op` is the root. `passed` is
@@ -139,14 +181,21 @@ fn one<R: GreedyRewriter>(
             let apart = is_apart(bench, work, op);
             match apply_first(alloc, bench, pattern_set, op) {
                 Ok(Some(by)) => {
+                    let stays = bench.in_tree(op);
                     let applied = AppliedRewrite {
                         by,
                         op,
                         from: next,
                         until: bench.next_id(),
-                        stays: bench.in_tree(op),
+                        stays,
                     };
-                    return match renew(alloc, bench, work, &Site { op, before, apart }, from) {
+                    let site = Site {
+                        op,
+                        before,
+                        apart,
+                        stays,
+                    };
+                    return match renew(alloc, bench, work, &site, from) {
                         Ok(()) => Ok(Some(applied)),
                         Err(refusal) => Err(refusal),
                     };
@@ -260,6 +309,7 @@ fn rewritten<R: GreedyRewriter, T: Tracer>(
     let mut work = Worklist {
         passed: bench.root(),
         again: Vec::new(alloc),
+        near: Vec::new(alloc),
     };
     rewrites(alloc, bench, pattern_set, &mut work, examined, limit, trace)
 }

@@ -1,15 +1,17 @@
 //! Lists the users of operations.
-ghost use Rattle.std.specs.Prelude.{◌≡◌, OnOk, drop, false};
+ghost use Rattle.std.specs.Prelude.{◌≡◌, OnOk, Some, drop, false};
 ghost use Rattle.std.specs.List.{list_any};
 ghost use Rattle.effects.specs.Dead.{is_result_of};
+ghost use Rattle.ir_event.specs.trees.Places.{place_of};
 ghost use Rattle.greedy.specs.LocalContext.{Uses};
 ghost use Rattle.greedy.specs.Adding.{Adds, OneOf};
-ghost use Rattle.greedy.specs.Parts.{IsHanded, IsIn, IsSeer, IsUser};
+ghost use Rattle.greedy.specs.Parts.{IsHanded, IsIn, IsOver, IsSeer, IsUser};
 
 use crate::push::push;
 use crate::walk::precedes;
 use ir_event::store::store::Store;
 use ir_event::store::uses::UsesOf;
+use ir_event::trees::place::Place;
 use ir_event::trees::value::Value;
 use ir_event::types::ids::OpId;
 use ir_event::world::World;
@@ -82,13 +84,16 @@ fn is_user(world: &World, user: OpId, op: OpId) -> bool
     }
 }
 
-/// Pushes the parent of `op` if the last operation of the block of `op` uses a result of `op`.
-fn push_handed(world: &World, ops: &mut Vec<OpId>, op: OpId) -> Result<(), AllocError>
+/// Pushes the parent of `op`, which is at `place`, if the last operation of the block uses a result of `op`.
+fn push_handed_at(
+    world: &World,
+    ops: &mut Vec<OpId>,
+    op: OpId,
+    place: &Place,
+) -> Result<(), AllocError>
+    requires { place_of op world.now.store.module_of.tree ≡ Some place.now }
     ensures { OnOk result (Adds (IsHanded world.now.store.module_of.tree op) ops.old.items ops.new.items) }
 {
-    let Some(place) = world.store.place(op) else {
-        return Ok(());
-    };
     let Some(last) = world.store.last(place.parent, place.region) else {
         return Ok(());
     };
@@ -96,6 +101,29 @@ fn push_handed(world: &World, ops: &mut Vec<OpId>, op: OpId) -> Result<(), Alloc
         return push(ops, place.parent);
     }
     Ok(())
+}
+
+/// Pushes the parent of `op` if the last operation of the block of `op` uses a result of `op`.
+fn push_handed(world: &World, ops: &mut Vec<OpId>, op: OpId) -> Result<(), AllocError>
+    ensures { OnOk result (Adds (IsHanded world.now.store.module_of.tree op) ops.old.items ops.new.items) }
+{
+    let Some(place) = world.store.place(op) else {
+        return Ok(());
+    };
+    push_handed_at(world, ops, op, &place)
+}
+
+/// Pushes the parent of `op` if `op` ends its block, or the last operation of the block uses a result of `op`.
+pub(crate) fn push_over(world: &World, ops: &mut Vec<OpId>, op: OpId) -> Result<(), AllocError>
+    ensures { OnOk result (Adds (IsOver world.now.store.module_of.tree op) ops.old.items ops.new.items) }
+{
+    let Some(place) = world.store.place(op) else {
+        return Ok(());
+    };
+    match place.before {
+        Some(_) => push_handed_at(world, ops, op, &place),
+        None => push(ops, place.parent),
+    }
 }
 
 /// Pushes the users of `op`, unless `op` comes after `passed` in pre-order. Then all users come after `passed` too, and

@@ -51,6 +51,9 @@ pub(crate) fn following(store: &Store, op: OpId) -> Option<OpId>
     if let Some(first) = first_from(store, op, 0) {
         return Some(first);
     }
+    if let Some(next) = store.next(op) {
+        return Some(next);
+    }
     let mut at = op;
     'around: while let Some(place) = store.place(at) {
         if let Some(next) = place.before {

@@ -21,6 +21,8 @@ use std::alloc::Global;
 pub(crate) struct Worklist {
     pub(crate) passed: OpId,
     pub(crate) again: Vec<OpId>,
+    /// The operations near the last rewrite. Only its capacity is used again.
+    pub(crate) near: Vec<OpId>,
 }
 
 /// An operation that was taken from the worklist, for a rewrite there.
@@ -31,6 +33,8 @@ pub(crate) struct Site {
     pub(crate) before: OpId,
     /// No operation of `again` is inside `op`.
     pub(crate) apart: bool,
+    /// The operation is still in the module after the rewrite.
+    pub(crate) stays: bool,
 }
 
 /// Removes the first waiting operation from the worklist and returns it.

@@ -16,3 +16,19 @@ put_two out mid new n e f ge lt = rw (f, e, two_digits n ge lt) (append_assoc ou
 -- appending the last digit after the other digits
 pub put_last : (out mid new : List ℕ) (n : ℕ) → mid ≡ out ++ decimal (n / 10) → new ≡ mid ++ (48 + n % 10) ∷ [] → 10 ≤ n → n < 10000 → new ≡ out ++ decimal n
 put_last out mid new n e f ge lt = rw (f, e, decimal_step n ge (omega arith)) (append_assoc out _ _)
+
+-- the usual widths
+pub digits_1 : decimal 1 ≡ 49 ∷ []
+digits_1 = one_digit 1 (omega arith)
+
+pub digits_8 : decimal 8 ≡ 56 ∷ []
+digits_8 = one_digit 8 (omega arith)
+
+pub digits_16 : decimal 16 ≡ 49 ∷ 54 ∷ []
+digits_16 = two_digits 16 (omega arith) (omega arith)
+
+pub digits_32 : decimal 32 ≡ 51 ∷ 50 ∷ []
+digits_32 = two_digits 32 (omega arith) (omega arith)
+
+pub digits_64 : decimal 64 ≡ 54 ∷ 52 ∷ []
+digits_64 = two_digits 64 (omega arith) (omega arith)

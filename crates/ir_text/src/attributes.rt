@@ -141,14 +141,15 @@ fn write_symbol(ctx: &Context, out: &mut Vec<u8>, parts: &[NameId]) -> Result<()
     Ok(())
 }
 
-fn flags_text(nsw: bool, nuw: bool) -> &'static [u8]
-    ensures { result.now ≡ flags_text nsw nuw }
+/// Returns the text of the overflow flags of an integer operation.
+fn overflow_text(nsw: bool, nuw: bool) -> &'static [u8]
+    ensures { result.now ≡ codes "#arith.overflow<" ++ (flags_text nsw nuw ++ codes ">") }
 {
     match (nsw, nuw) {
-        (false, false) => b"none",
-        (true, false) => b"nsw",
-        (false, true) => b"nuw",
-        (true, true) => b"nsw, nuw",
+        (false, false) => b"#arith.overflow<none>",
+        (true, false) => b"#arith.overflow<nsw>",
+        (false, true) => b"#arith.overflow<nuw>",
+        (true, true) => b"#arith.overflow<nsw, nuw>",
     }
 }
 
@@ -156,9 +157,7 @@ fn flags_text(nsw: bool, nuw: bool) -> &'static [u8]
 fn write_flags(out: &mut Vec<u8>, nsw: bool, nuw: bool) -> Result<(), AllocError>
     ensures { OnOk result (out.new.items ≡ out.old.items ++ (codes "#arith.overflow<" ++ (flags_text nsw nuw ++ codes ">"))) }
 {
-    out.extend_from_slice(b"#arith.overflow<")?;
-    write_short(out, flags_text(nsw, nuw))?;
-    write_short(out, b">")
+    out.extend_from_slice(overflow_text(nsw, nuw))
 }
 
 /// Appends an opaque attribute: its text, and its type if it has one.

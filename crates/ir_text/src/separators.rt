@@ -1,7 +1,21 @@
 //! Appends separators and short texts.
-ghost use Rattle.std.specs.Prelude.{◌≡◌, ◌++◌, OnOk, [], if◌then◌else◌};
+ghost use Rattle.std.specs.Prelude.{◌≡◌, ◌+◌, ◌++◌, ◌≤◌, OnOk, [], if◌then◌else◌};
+ghost use Rattle.std.specs.Vec.{vec_capacity, vec_len};
 
 use std::alloc::AllocError;
+
+/// Reserves memory for `count` bytes. If there is memory, as usual, no function of the vector is called.
+#[inline(always)]
+pub(crate) fn reserve(out: &mut Vec<u8>, count: usize) -> Result<(), AllocError>
+    ensures text { out.new.items ≡ out.old.items }
+    ensures len { vec_len out.new ≡ vec_len out.old }
+    ensures space { OnOk result (vec_len out.new + count ≤ vec_capacity out.new) }
+{
+    if out.capacity().saturating_sub(out.len()) >= count {
+        return Ok(());
+    }
+    out.reserve(count)
+}
 
 /// Appends bytes. At most five bytes are pushed one by one, which is faster than copying them.
 #[inline(always)]
@@ -10,24 +24,25 @@ pub(crate) fn write_short(out: &mut Vec<u8>, bytes: &[u8]) -> Result<(), AllocEr
 {
     match bytes {
         [a] => {
-            out.push(*a)?;
+            reserve(out, 1)?;
+            out.push_reserved(*a);
             Ok(())
         }
         [a, b] => {
-            out.reserve(2)?;
+            reserve(out, 2)?;
             out.push_reserved(*a);
             out.push_reserved(*b);
             Ok(())
         }
         [a, b, c] => {
-            out.reserve(3)?;
+            reserve(out, 3)?;
             out.push_reserved(*a);
             out.push_reserved(*b);
             out.push_reserved(*c);
             Ok(())
         }
         [a, b, c, d] => {
-            out.reserve(4)?;
+            reserve(out, 4)?;
             out.push_reserved(*a);
             out.push_reserved(*b);
             out.push_reserved(*c);
@@ -35,7 +50,7 @@ pub(crate) fn write_short(out: &mut Vec<u8>, bytes: &[u8]) -> Result<(), AllocEr
             Ok(())
         }
         [a, b, c, d, e] => {
-            out.reserve(5)?;
+            reserve(out, 5)?;
             out.push_reserved(*a);
             out.push_reserved(*b);
             out.push_reserved(*c);

@@ -25,11 +25,34 @@ fn sign_text(sign: Sign) -> &'static [u8]
     }
 }
 
+/// Appends the text of a signless integer type. The usual widths are written without a division.
+#[tactic(auto, using(crate::proofs::Digits::digits_1, crate::proofs::Digits::digits_8, crate::proofs::Digits::digits_16, crate::proofs::Digits::digits_32, crate::proofs::Digits::digits_64))]
+fn write_signless(out: &mut Vec<u8>, width: u32) -> Result<(), AllocError>
+    ensures { OnOk result (out.new.items ≡ out.old.items ++ (codes "i" ++ decimal width)) }
+{
+    match width {
+        1 => write_short(out, b"i1"),
+        8 => write_short(out, b"i8"),
+        16 => write_short(out, b"i16"),
+        32 => write_short(out, b"i32"),
+        64 => write_short(out, b"i64"),
+        _ => {
+            write_short(out, b"i")?;
+            write_number(out, u64::from(width))
+        }
+    }
+}
+
 fn write_integer_type(out: &mut Vec<u8>, sign: Sign, width: u32) -> Result<(), AllocError>
     ensures { OnOk result (out.new.items ≡ out.old.items ++ (sign_text sign ++ decimal width)) }
 {
-    write_short(out, sign_text(sign))?;
-    write_number(out, u64::from(width))
+    match sign {
+        Sign::Signless => write_signless(out, width),
+        _ => {
+            write_short(out, sign_text(sign))?;
+            write_number(out, u64::from(width))
+        }
+    }
 }
 
 fn write_dimension(out: &mut Vec<u8>, dim: Option<u64>) -> Result<(), AllocError>

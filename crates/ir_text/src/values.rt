@@ -1,5 +1,5 @@
 //! Names of values: assigns them, looks them up and prints them.
-ghost use Rattle.std.specs.Prelude.{◌≡◌, ◌++◌, IfOk, OnOk, true, map, length, ◌==◌, codes};
+ghost use Rattle.std.specs.Prelude.{◌≡◌, ◌++◌, IfOk, IfSome, IsTrue, OnOk, Some, true, map, length, ◌==◌, codes};
 ghost use Rattle.std.specs.Option.{option_map};
 ghost use Rattle.ir_types.specs.Things.{ContextModel};
 ghost use Rattle.ir_types.specs.Terms.{type_term};
@@ -28,12 +28,73 @@ fn source_of(value: Value) -> Source
     }
 }
 
+/// Returns the index that is as far from the last name as the ids of two operations are apart: that of the last name
+/// and `op`. In a block without nested operations, the result of `op` is named there.
+#[inline(always)]
+fn result_index(named: &IndexMap<Source, NamedValue>, op: OpId) -> Option<usize> {
+    let last = named.len().checked_sub(1)?;
+    let (source, _) = named.get_index(last)?;
+    let Source::Result(last_op, _) = source else {
+        return None;
+    };
+    let back = last_op.number().checked_sub(op.number())?;
+    last.checked_sub(back as usize)
+}
+
+/// Returns the index at which a value is likely to be named. An argument of the first function is named at its own
+/// index.
+#[inline(always)]
+fn likely_index(named: &IndexMap<Source, NamedValue>, value: &Value) -> Option<usize> {
+    match value {
+        Value::Result(op, _) => result_index(named, *op),
+        Value::Arg(_, _, place) => Some(*place as usize),
+    }
+}
+
+/// Returns whether this is the source of the value.
+#[inline(always)]
+fn is_source(source: &Source, value: &Value) -> bool
+    ensures { IsTrue result → source.now ≡ source_of value.now }
+{
+    match source {
+        Source::Result(op, place) => match value {
+            Value::Result(of, at) => *op == *of && *place == *at,
+            Value::Arg(..) => false,
+        },
+        Source::Argument(op, region, place) => match value {
+            Value::Result(..) => false,
+            Value::Arg(of, inside, at) => *op == *of && *region == *inside && *place == *at,
+        },
+    }
+}
+
+/// Returns the name and the type of a value, if they are at the index at which they are likely to be. No hash is
+/// computed.
+#[inline(always)]
+fn likely_naming(named: &IndexMap<Source, NamedValue>, value: &Value) -> Option<NamedValue>
+    ensures { IfSome result (λ n. (c : ContextModel) → Some (naming_in c n) ≡ naming_of (named_in c named.now.entries) value.now) }
+{
+    let index = likely_index(named, value)?;
+    match named.get_index(index) {
+        Some((source, naming)) => {
+            if is_source(source, value) {
+                return Some(*naming);
+            }
+            None
+        }
+        None => None,
+    }
+}
+
 /// Returns the name and the type of a value, or `None` if the value has no name.
 #[inline(always)]
 #[tactic(auto, using(crate::proofs::Entries::naming_found))]
 fn naming_of(named: &IndexMap<Source, NamedValue>, value: Value) -> Option<NamedValue>
     ensures { (c : ContextModel) → option_map (naming_in c) result ≡ naming_of (named_in c named.now.entries) value }
 {
+    if let Some(naming) = likely_naming(named, &value) {
+        return Some(naming);
+    }
     named.get(&source_of(value)).copied()
 }
 

@@ -18,6 +18,7 @@ use crate::literals::{literal, negative};
 use crate::symbols::symbol;
 use crate::tail::Tail;
 use crate::tails::{tail, typed};
+use ir_text_tokens::lexer;
 use ir_text_tokens::refusal::TextRefusal;
 use ir_text_tokens::strings::string_value;
 use ir_text_tokens::token::{Mark, Token};
@@ -114,6 +115,7 @@ fn type_attr<'a>(
 }
 
 /// Parses the overflow flags of an integer operation after their name (`arith` Dialect, "IntegerOverflowFlagsAttr").
+#[inline(always)]
 #[tactic(auto, using(ir_types::proofs::Growth::grows_refl, ir_types::proofs::Growth::grows_trans), unfolding(crate::specs::AttrReading::overflow_at))]
 fn overflow<'a>(
     alloc: Global,
@@ -263,6 +265,7 @@ fn mark_attr<'a>(
 }
 
 /// Parses an attribute that begins with `#` and a name: overflow flags, or a dialect's attribute.
+#[inline(always)]
 #[tactic(auto, using(ir_types::proofs::Growth::grows_refl, ir_types::proofs::Growth::grows_trans))]
 fn hash_attr<'a>(
     alloc: Global,
@@ -364,6 +367,9 @@ pub fn attr<'a>(
 {
     if depth == 0 {
         return Err(ReadError::Refused(wrong(past_refusal(bytes, opaque), bytes)));
+    }
+    if let Some((word, rest)) = lexer::hash(bytes) {
+        return hash_attr(alloc, ctx, word, bytes, rest, opaque, depth);
     }
     let (found, rest) = token(bytes)?;
     match found {

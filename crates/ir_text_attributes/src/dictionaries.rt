@@ -27,6 +27,7 @@ pub type Entry = (NameId, AttrId);
 /// Parses a key, which is a bare identifier or a string, and returns its id.
 ///
 /// Refusals: those of the lexer; `Unexpected` at another token.
+#[inline(always)]
 #[tactic(auto, using(ir_types::proofs::Growth::grows_refl, ir_types::proofs::Growth::grows_trans), unfolding(crate::specs::AttrReading::key_at))]
 pub fn key<'a>(
     alloc: Global,
@@ -79,6 +80,7 @@ fn unit_value<'a>(
 ///
 /// Refusals: those of attributes; `TooDeep` at the key if no depth is left for unit.
 #[cycle(attr)]
+#[inline(always)]
 #[tactic(auto, using(ir_types::proofs::Growth::grows_refl, ir_types::proofs::Growth::grows_trans), unfolding(crate::specs::AttrReading::value_by))]
 pub fn value<'a>(
     alloc: Global,

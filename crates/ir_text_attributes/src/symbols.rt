@@ -19,6 +19,7 @@ use ir_types_interner::lists::Items;
 use std::alloc::Global;
 
 /// Interns a name. Returns its id and `rest`, the text after the name.
+#[inline(always)]
 #[tactic(auto, using(ir_types::proofs::Growth::grows_refl, ir_types::proofs::Growth::grows_trans), unfolding(crate::specs::AttrReading::name_done))]
 pub(crate) fn named<'a>(
     ctx: &mut Context,

@@ -9,6 +9,7 @@ use ir_text_tokens::refusal::TextRefusal;
 use ir_text_types::error::ReadError;
 
 /// Binds a new name. `left` is the number of bytes left at the name. Refuses a bound name with `Redefined`.
+#[inline(always)]
 #[tactic(auto, unfolding(crate::specs::BlockReading::bind))]
 pub fn bind<'a>(
     names: &mut ScopedNames<'a, ValueGroup>,
@@ -18,14 +19,12 @@ pub fn bind<'a>(
 ) -> Result<(), ReadError>
     ensures { Returns (λ _. names.new) result (bind name.now pack names.old) }
 {
-    if names.find(name).is_some() {
-        return Err(ReadError::Refused(Fault {
+    match names.bind_new(name, pack) {
+        Ok(true) => Ok(()),
+        Ok(false) => Err(ReadError::Refused(Fault {
             refusal: TextRefusal::Redefined,
             left,
-        }));
-    }
-    match names.bind(name, pack) {
-        Ok(()) => Ok(()),
+        })),
         Err(_) => Err(ReadError::Memory),
     }
 }

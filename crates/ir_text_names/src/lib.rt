@@ -8,4 +8,5 @@ pub mod lists;
 pub mod pack;
 pub mod results;
 pub mod scope;
+pub mod spares;
 pub mod value_names;

@@ -15,7 +15,6 @@ use ir_text_tokens::token::{Mark, Token};
 use ir_text_types::error::{ReadError, wrong};
 use ir_text_types::steps::{after, token};
 use ir_tree::limits::MOST_ITEMS;
-use std::alloc::Global;
 
 /// The maximum number of results of an operation.
 const MOST_RESULTS: u32 = MOST_ITEMS as u32;
@@ -102,6 +101,7 @@ fn written_count(bytes: &[u8], before: u32) -> Result<(u32, &[u8]), ReadError>
 
 /// Parses the count of the name that begins at `start`, after names of `before` results. A name without a count has
 /// one result.
+#[inline(always)]
 #[tactic(auto, unfolding(crate::specs::NameReading::count_at))]
 fn count<'a>(start: &[u8], bytes: &'a [u8], before: u32) -> Result<(u32, &'a [u8]), ReadError>
     requires { before ≤ most_items }
@@ -117,6 +117,7 @@ fn count<'a>(start: &[u8], bytes: &'a [u8], before: u32) -> Result<(u32, &'a [u8
 }
 
 /// Parses a name with its count, after names of `before` results.
+#[inline(always)]
 #[tactic(auto, unfolding(crate::specs::NameReading::result_at))]
 fn counted_name(bytes: &[u8], before: u32) -> Result<(ResultName<'_>, &[u8]), ReadError>
     requires { before ≤ most_items }
@@ -141,6 +142,7 @@ fn past_names(bytes: &[u8]) -> Fault {
 
 /// Parses names up to an equal sign, for at most as many results as an operation may have, and appends them to
 /// `items`.
+#[inline(always)]
 #[tactic(auto, unfolding(crate::specs::NameReading::names_at))]
 fn push_names<'a>(items: &mut Vec<ResultName<'a>>, bytes: &'a [u8]) -> Result<&'a [u8], ReadError>
     requires { items.old.items ≡ [] }
@@ -164,11 +166,17 @@ fn push_names<'a>(items: &mut Vec<ResultName<'a>>, bytes: &'a [u8]) -> Result<&'
     Err(ReadError::Refused(past_names(rest)))
 }
 
-/// Parses names up to an equal sign, for at most as many results as an operation may have.
-fn names<'a>(alloc: Global, bytes: &'a [u8]) -> Result<(Vec<ResultName<'a>>, &'a [u8]), ReadError>
+/// Parses names up to an equal sign, for at most as many results as an operation may have, and returns them in the
+/// list `spare`.
+#[inline(always)]
+fn names<'a>(
+    spare: Vec<ResultName<'a>>,
+    bytes: &'a [u8],
+) -> Result<(Vec<ResultName<'a>>, &'a [u8]), ReadError>
+    requires { spare.items ≡ [] }
     ensures { Returns (λ x. (map named_view x.0.items, x.1.now)) result (names_at bytes.now) }
 {
-    let mut items = Vec::new(alloc);
+    let mut items = spare;
     match push_names(&mut items, bytes) {
         Ok(rest) => Ok((items, rest)),
         Err(e) => Err(e),
@@ -178,13 +186,14 @@ fn names<'a>(alloc: Global, bytes: &'a [u8]) -> Result<(Vec<ResultName<'a>>, &'a
 /// Parses the names of the results if a name comes first. The first token is lexed to decide this.
 #[tactic(auto, unfolding(crate::specs::NameReading::results_at))]
 fn token_results<'a>(
-    alloc: Global,
+    spare: Vec<ResultName<'a>>,
     bytes: &'a [u8],
 ) -> Result<(Option<Vec<ResultName<'a>>>, &'a [u8]), ReadError>
+    requires { spare.items ≡ [] }
     ensures { Returns (λ x. (option_map (λ v. map named_view v.items) x.0, x.1.now)) result (results_at bytes.now) }
 {
     match token(bytes) {
-        Ok((Token::Value(_), _)) => match names(alloc, bytes) {
+        Ok((Token::Value(_), _)) => match names(spare, bytes) {
             Ok((names, rest)) => Ok((Some(names), rest)),
             Err(e) => Err(e),
         },
@@ -193,19 +202,22 @@ fn token_results<'a>(
     }
 }
 
-/// Parses the names of the results if a name comes first. Only the sigil is compared to decide this.
+/// Parses the names of the results if a name comes first, and returns them in the list `spare`. Only the sigil is
+/// compared to decide this.
+#[inline(always)]
 #[tactic(auto, using(crate::proofs::Signs::named_first), unfolding(crate::specs::NameReading::results_at))]
 pub fn results<'a>(
-    alloc: Global,
+    spare: Vec<ResultName<'a>>,
     bytes: &'a [u8],
 ) -> Result<(Option<Vec<ResultName<'a>>>, &'a [u8]), ReadError>
+    requires { spare.items ≡ [] }
     ensures { Returns (λ x. (option_map (λ v. map named_view v.items) x.0, x.1.now)) result (results_at bytes.now) }
 {
     match lexer::after_byte(bytes, b'%') {
-        Some(_) => match names(alloc, bytes) {
+        Some(_) => match names(spare, bytes) {
             Ok((names, rest)) => Ok((Some(names), rest)),
             Err(e) => Err(e),
         },
-        None => token_results(alloc, bytes),
+        None => token_results(spare, bytes),
     }
 }

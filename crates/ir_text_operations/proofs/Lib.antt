@@ -10,6 +10,7 @@ pub mod OpParts
 pub mod OpSteps
 pub mod Outputs
 pub mod Placing
+pub mod ScalarTypes
 pub mod Simple
 pub mod Roomy
 pub mod Singles

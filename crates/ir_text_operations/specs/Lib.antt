@@ -13,5 +13,6 @@ pub mod Spelling
 pub mod Claims
 pub mod Denotation
 pub mod Openings
+pub mod ScalarSignatures
 pub use Rattle.ir_text_attributes.specs as attributes
 pub use Rattle.ir_text_names.specs as names

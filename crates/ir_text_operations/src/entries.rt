@@ -38,6 +38,7 @@ fn refusal(
 }
 
 /// Parses an entry whose key is allowed after the entries of `before`.
+#[inline(always)]
 #[tactic(auto, using(ir_types::proofs::Growth::grows_refl, ir_types::proofs::Growth::grows_trans), unfolding(crate::specs::EntryReading::entry_at))]
 fn entry<'a>(
     alloc: Global,
@@ -66,6 +67,7 @@ fn entry<'a>(
 }
 
 /// Parses entries up to the closing brace. A dictionary of one entry, the usual case, allocates memory for one entry.
+#[inline(always)]
 #[tactic(auto, using(ir_types::proofs::Growth::grows_refl, ir_types::proofs::Growth::grows_trans), unfolding(ir_text_types::specs::Lists::list_at, crate::specs::EntryReading::entries_at))]
 fn entries<'a>(
     alloc: Global,

@@ -12,6 +12,7 @@ mod operands;
 pub mod ops;
 pub mod outer_names;
 mod places;
+mod scalar_signature;
 pub mod single;
 mod tail;
 

@@ -21,6 +21,7 @@ use crate::ops::{op, ops};
 use crate::outer_names::{NoOuter, OuterScope};
 use crate::places::is_outside;
 use ir_text_names::scope::Scope;
+use ir_text_names::spares::Spares;
 use ir_text_tokens::fault::Fault;
 use ir_text_tokens::lexer::token;
 use ir_text_tokens::names::ScopedNames;
@@ -111,6 +112,7 @@ pub fn explicit(alloc: Global, ctx: &mut Context, bytes: &[u8]) -> Result<Root, 
     let mut scope = Scope {
         names: ScopedNames::new(alloc, ctx.hasher()),
         next: 0,
+        spares: Spares::new(alloc),
     };
     let around = OuterScope {
         outer: &NoOuter,
@@ -163,6 +165,7 @@ pub fn implicit(alloc: Global, ctx: &mut Context, bytes: &[u8]) -> Result<TreeOp
     let mut scope = Scope {
         names: ScopedNames::new(alloc, ctx.hasher()),
         next: 1,
+        spares: Spares::new(alloc),
     };
     let around = OuterScope {
         outer: &NoOuter,
@@ -212,6 +215,7 @@ fn without_root(
     let mut scope = Scope {
         names: ScopedNames::new(alloc, ctx.hasher()),
         next: 0,
+        spares: Spares::new(alloc),
     };
     let around = OuterScope {
         outer: &NoOuter,

@@ -14,6 +14,7 @@ use crate::outer_names::free_bound;
 use ir_text_names::bound::TypedValue;
 use ir_text_names::lists::{AfterItem, after_item};
 use ir_text_names::pack::ValueGroup;
+use ir_text_names::spares::Spares;
 use ir_text_names::value_names::{ResultName, name, one_too_many, results};
 use ir_text_tokens::lexer;
 use ir_text_tokens::names::ScopedNames;
@@ -66,7 +67,7 @@ fn unescaped_name<'a>(alloc: Global, raw: &'a [u8]) -> Result<CowSlice<'a, u8>, 
     }
 }
 
-/// Parses the name of an operation, which isn't empty.
+/// Parses the name of an operation, which isn't empty. A name of word bytes is lexed first, since it usually comes.
 #[tactic(auto, unfolding(crate::specs::PrecedingReading::op_name_at))]
 fn op_name<'a>(
     alloc: Global,
@@ -75,6 +76,11 @@ fn op_name<'a>(
 ) -> Result<(CowSlice<'a, u8>, &'a [u8]), ReadError>
     ensures { Returns (λ x. (cow_slice_items x.0, x.1.now)) result (op_name_at bytes.now) }
 {
+    if let Some((name, rest)) = lexer::plain_string(bytes) {
+        if !name.is_empty() {
+            return Ok((CowSlice::Borrowed(name), rest));
+        }
+    }
     match token(bytes) {
         Ok((Token::String(raw), rest)) => {
             let name = unescaped_name(alloc, raw)?;
@@ -198,17 +204,19 @@ fn operand<'a, O: Outer>(
     }
 }
 
-/// Parses operands up to the closing parenthesis, at most as many as an operation may have.
+/// Parses operands up to the closing parenthesis, at most as many as an operation may have, and returns them in the
+/// list `spare`.
 #[tactic(auto, unfolding(ir_text_types::specs::Lists::list_at, crate::specs::PrecedingReading::uses_at))]
 fn operands<'a, O: Outer>(
-    alloc: Global,
     outer: &O,
     names: &ScopedNames<'a, ValueGroup>,
+    spare: Vec<TypedValue>,
     bytes: &'a [u8],
 ) -> Result<(Vec<TypedValue>, &'a [u8]), ReadError>
+    requires { spare.items ≡ [] }
     ensures { Returns (λ x. (x.0.items, x.1.now)) result (uses_at (free_bound (O.types outer.now)) names.now.here bytes.now) }
 {
-    let mut items = Vec::new(alloc);
+    let mut items = spare;
     if let Some(rest) = after(bytes, Mark::CloseRound) {
         return Ok((items, rest));
     }
@@ -228,16 +236,23 @@ fn operands<'a, O: Outer>(
     Err(ReadError::Refused(one_too_many(rest)))
 }
 
-/// Parses the header of an operation.
+/// Parses the header of an operation. Its lists are those of `spares`.
 pub fn start<'a, O: Outer>(
     alloc: Global,
     outer: &O,
     names: &ScopedNames<'a, ValueGroup>,
+    spares: Spares<'a>,
     bytes: &'a [u8],
 ) -> Result<(OpHeader<'a>, &'a [u8]), ReadError>
+    requires names { spares.names.items ≡ [] }
+    requires operands { spares.operands.items ≡ [] }
     ensures { Returns (λ x. (start_view x.0, x.1.now)) result (start_at (free_bound (O.types outer.now)) names.now.here bytes.now) }
 {
-    let (results, rest) = match results(alloc, bytes) {
+    let Spares {
+        names: name_list,
+        operands: operand_list,
+    } = spares;
+    let (results, rest) = match results(name_list, bytes) {
         Ok(found) => found,
         Err(e) => return Err(e),
     };
@@ -245,7 +260,7 @@ pub fn start<'a, O: Outer>(
         Ok(found) => found,
         Err(e) => return Err(e),
     };
-    let (operands, rest) = match operands(alloc, outer, names, rest) {
+    let (operands, rest) = match operands(outer, names, operand_list, rest) {
         Ok(found) => found,
         Err(e) => return Err(e),
     };

@@ -1,4 +1,5 @@
 //! Parses an operation up to its regions. Language Reference, "Operations".
+ghost use Rattle.std.specs.Prelude.{◌≡◌, []};
 ghost use Rattle.ir_types.specs.Things.{IsExtendedBy};
 ghost use Rattle.ir_text_types.specs.Outcomes.{Returns};
 ghost use Rattle.ir_text_operations.specs.Free.{free_bound};
@@ -8,6 +9,7 @@ use crate::entries::properties;
 use crate::op_header::{OpHeader, start};
 use ir_text_attributes::dictionaries::Entry;
 use ir_text_names::pack::ValueGroup;
+use ir_text_names::spares::Spares;
 use ir_text_tokens::names::ScopedNames;
 use ir_text_types::error::ReadError;
 use ir_text_types::steps;
@@ -29,19 +31,22 @@ pub(crate) struct Opening<'a> {
     pub trailing: &'a [u8],
 }
 
-/// Parses an operation up to its regions.
+/// Parses an operation up to its regions. Its lists are those of `spares`.
 #[tactic(auto, using(ir_types::proofs::Growth::grows_refl, ir_types::proofs::Growth::grows_trans))]
 pub(crate) fn read_opening<'a, O: Outer>(
     alloc: Global,
     ctx: &mut Context,
     outer: &O,
     names: &ScopedNames<'a, ValueGroup>,
+    spares: Spares<'a>,
     bytes: &'a [u8],
 ) -> Result<(Opening<'a>, &'a [u8]), ReadError>
+    requires names { spares.names.items ≡ [] }
+    requires operands { spares.operands.items ≡ [] }
     ensures reads { Returns (λ x. (opening_view x.0, (x.1.now, ctx.new))) result (opening_at (free_bound (O.types outer.now)) names.now.here (bytes.now, ctx.old)) }
     ensures grows { IsExtendedBy ctx.old ctx.new }
 {
-    let (preceding, trailing) = match start(alloc, outer, names, bytes) {
+    let (preceding, trailing) = match start(alloc, outer, names, spares, bytes) {
         Ok(found) => found,
         Err(e) => return Err(e),
     };

@@ -34,7 +34,7 @@ pub fn values_of(alloc: Global, operands: &[TypedValue]) -> Result<Vec<Value>, A
 {
     let mut values = Vec::with_capacity(alloc, operands.len())?;
     'items: for operand in operands {
-        values.push(operand.value)?;
+        values.push_reserved(operand.value);
     }
     Ok(values)
 }

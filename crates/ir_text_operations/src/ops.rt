@@ -165,7 +165,15 @@ fn op_with<'a, O: Outer>(
     ensures grows { IsExtendedBy ctx.old ctx.new }
 {
     let id = scope.next;
-    let (opening, rest) = match read_opening(alloc, ctx, around.outer, &scope.names, bytes) {
+    let spares = scope.spares.taken(alloc);
+    let (opening, rest) = match read_opening(
+        alloc,
+        ctx,
+        around.outer,
+        &scope.names,
+        spares,
+        bytes,
+    ) {
         Ok(found) => found,
         Err(e) => return Err(e),
     };

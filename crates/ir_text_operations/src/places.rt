@@ -30,7 +30,7 @@ fn fault_at(refusal: TextRefusal, bytes: &[u8], named: bool) -> Fault {
 pub(crate) fn error_at_name(alloc: Global, refusal: TextRefusal, bytes: &[u8]) -> ReadError
     ensures { IsOfText result }
 {
-    match results(alloc, bytes) {
+    match results(Vec::new(alloc), bytes) {
         Ok((names, rest)) => ReadError::Refused(fault_at(refusal, rest, names.is_some())),
         Err(ReadError::Refused(fault)) => ReadError::Refused(fault),
         Err(_) => ReadError::Memory,

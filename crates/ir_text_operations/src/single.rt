@@ -18,6 +18,7 @@ use crate::ops::op;
 use crate::outer_names::OuterScope;
 use ir_text_names::blocks::location_refusal;
 use ir_text_names::scope::Scope;
+use ir_text_names::spares::Spares;
 use ir_text_tokens::fault::Fault;
 use ir_text_tokens::names::ScopedNames;
 use ir_text_tokens::refusal::TextRefusal;
@@ -77,6 +78,7 @@ fn single<O: Outer>(
     let mut scope = Scope {
         names: ScopedNames::new(alloc, ctx.hasher()),
         next,
+        spares: Spares::new(alloc),
     };
     let around = OuterScope { outer, last };
     match op(alloc, &mut scope, ctx, &around, bytes, MOST_LEVELS) {

@@ -14,10 +14,12 @@ use crate::op_header::OpHeader;
 use crate::opening::Opening;
 use crate::operands::{agrees, values_of};
 use crate::places::placed;
+use crate::scalar_signature::scalar_signature;
 use ir_text_attributes::dictionaries::Entry;
 use ir_text_names::bound::TypedValue;
 use ir_text_names::results::finish;
 use ir_text_names::scope::Scope;
+use ir_text_names::spares::Spares;
 use ir_text_tokens::lexer::skip;
 use ir_text_tokens::refusal::TextRefusal;
 use ir_text_tokens::token::Mark;
@@ -31,7 +33,7 @@ use std::alloc::{AllocError, Global};
 
 /// Parses a colon and a function type, and returns the types of the results. Refuses operands whose types differ from
 /// the inputs with `TypeMismatch` at the colon.
-#[tactic(auto, using(ir_types::proofs::Growth::grows_refl, ir_types::proofs::Growth::grows_trans), unfolding(crate::specs::Openings::result_types_at))]
+#[tactic(auto, using(ir_types::proofs::Growth::grows_refl, ir_types::proofs::Growth::grows_trans, crate::proofs::ScalarTypes::are_result_types), unfolding(crate::specs::Openings::result_types_at))]
 fn outputs<'a>(
     alloc: Global,
     ctx: &mut Context,
@@ -45,6 +47,11 @@ fn outputs<'a>(
         Ok(rest) => rest,
         Err(e) => return Err(e),
     };
+    match scalar_signature(alloc, ctx, operands, rest) {
+        Ok(Some(found)) => return Ok(found),
+        Ok(None) => {}
+        Err(_) => return Err(ReadError::Memory),
+    }
     let opaque = ctx.is_opaque();
     let ((inputs, results), rest) = match function_type(alloc, ctx, rest, opaque) {
         Ok(found) => found,
@@ -111,17 +118,17 @@ fn dictionaries(
     }
 }
 
-/// Builds an operation from its parts.
-fn made(
+/// Builds an operation from its parts. Returns its header, too, whose lists aren't used again.
+fn made<'a>(
     alloc: Global,
     ctx: &Context,
     id: u32,
-    opening: Opening<'_>,
+    opening: Opening<'a>,
     others: &[Entry],
     results: Vec<TypeId>,
     regions: Vec<TreeRegion>,
-) -> Result<TreeOp, AllocError>
-    ensures { IfOk result (λ o. o ≡ op_of ctx.now id opening.entry.name opening.entry.preceding.operands.items opening.entry.written.items others.now results.items (map region_view regions.items)) }
+) -> Result<(TreeOp, OpHeader<'a>), AllocError>
+    ensures { IfOk result (λ x. x.0 ≡ op_of ctx.now id opening.entry.name opening.entry.preceding.operands.items opening.entry.written.items others.now results.items (map region_view regions.items)) }
 {
     let Opening {
         preceding,
@@ -137,7 +144,7 @@ fn made(
         Ok(operands) => operands,
         Err(e) => return Err(e),
     };
-    Ok(TreeOp {
+    let op = TreeOp {
         id: OpId::new(id),
         name,
         operands,
@@ -145,7 +152,21 @@ fn made(
         props,
         attrs,
         regions,
-    })
+    };
+    Ok((op, preceding))
+}
+
+/// Keeps the lists of an operation's header for the next operation.
+fn keep<'a>(spares: &mut Spares<'a>, header: OpHeader<'a>) {
+    let OpHeader {
+        results,
+        name: _name,
+        operands,
+    } = header;
+    spares.operands = operands;
+    if let Some(names) = results {
+        spares.names = names;
+    }
 }
 
 /// Parses the attributes and the function type of an operation, and binds the names of its results.
@@ -171,7 +192,10 @@ fn tail<'a>(
         Err(e) => return Err(e),
     };
     match made(alloc, ctx, id, opening, &others, results, regions) {
-        Ok(op) => Ok((op, rest)),
+        Ok((op, header)) => {
+            keep(&mut scope.spares, header);
+            Ok((op, rest))
+        }
         Err(_) => Err(ReadError::Memory),
     }
 }

@@ -1,19 +1,19 @@
 -- Adding and removing bindings keeps the invariant.
-use Rattle.std.proofs.Common.{◌≡◌, refl, sym, ap, ◌∙◌, subst, ℕ, zero, suc, ◌<◌, ◌≤◌, Bool, true, false, cond, List, [], ◌∷◌, ◌++◌, length, take, drop, Option, Some, None, ◌⊎◌, inl, inr, ⊎_elim, arith}
+use Rattle.std.proofs.Common.{◌≡◌, refl, sym, ap, ◌∙◌, subst, ℕ, zero, suc, ◌-◌, ◌<◌, ◌≤◌, Bool, true, false, cond, List, [], ◌∷◌, ◌++◌, length, get_or, take, drop, Option, Some, None, ◌⊎◌, inl, inr, ⊎_elim, arith}
 use Prim.Native.Nat.compare
-use Rattle.std.specs.Prelude.{nat_le, option_map, slice_get}
+use Rattle.std.specs.Prelude.{nat_le, nat_lt, not, is_some, option_map, slice_get}
 use Rattle.std.specs.Str.{bytes_eq}
 use Rattle.std.specs.Borrow.{Bor}
 use Rattle.std.proofs.lemmas.List.{map-append, length-append, length-map, take-append-le, drop-append-le, take-map, take-take, nil_from_length}
 use Rattle.std.proofs.lemmas.Slice.Eq.{bytes_eq-Decides}
 use Rattle.std.specs.HashMap.{HashMap, get}
 use Rattle.ir_text_tokens.specs.Scopes.{Binding, Scopes, or_else, find, bound, entered, left}
-use Rattle.ir_text_tokens.specs.Places.{key_eq, joined, binding_view, views, top, pick, Linked, Agrees}
+use Rattle.ir_text_tokens.specs.Places.{key_eq, joined, binding_view, views, top, pick, is_from, Linked, Agrees}
 use Rattle.ir_text_tokens.specs.Inside.{visible_at, visible_onto, Standing}
 use Rattle.ir_text_tokens.specs.declared.names.Entry.{Entry}
 use Rattle.ir_text_tokens.specs.declared.names.ScopeStart.{ScopeStart}
 use Rattle.ir_types.proofs.Truths.{drop_all, zero_le}
-use Rattle.std.proofs.lemmas.Option.{slice_get_within}
+use Rattle.std.proofs.lemmas.Option.{slice_get_within, slice_get_read, slice_get-map, same_Some}
 use Rattle.ir_types.proofs.Building.{place_stays, last_place, push_cases}
 
 take_all : {A : Type 0} (xs : List A) → take (length xs) xs ≡ xs
@@ -73,6 +73,15 @@ module _ {T : Type 0} where
       ap (λ o. or_else (option_map suc o) (cond (bytes_eq c.name name) (Some 0) None)) (top_push name bs b)
       ∙ elim (bytes_eq b.name name) as (λ t. or_else (option_map suc (cond t (Some (length bs)) (top name bs))) (cond (bytes_eq c.name name) (Some 0) None) ≡ cond t (Some (suc (length bs))) (or_else (option_map suc (top name bs)) (cond (bytes_eq c.name name) (Some 0) None))) [ true ↦ refl | false ↦ refl ]
 
+  -- the last of all bindings is the last of its name
+  pub top_at_end : (name : List ℕ) (bs : List (Binding T)) (i : ℕ) (b : Binding T) → suc i ≡ length bs → slice_get bs i ≡ Some b → bytes_eq b.name name ≡ true → top name bs ≡ Some i
+  unfolding top
+  top_at_end name [] i b e at same = absurd (omega (arith, e))
+  top_at_end name (c ∷ []) zero b e at same = rw (ap (λ (x : Binding T). bytes_eq x.name name) (same_Some c b at) ∙ same) refl
+  top_at_end name (c ∷ []) (suc i) b e at same = absurd (omega (arith, e))
+  top_at_end name (c ∷ d ∷ ds) zero b e at same = absurd (omega (arith, e))
+  top_at_end name (c ∷ d ∷ ds) (suc i) b e at same = rw (top_at_end name (d ∷ ds) i b (omega (arith, e)) at same) refl
+
   -- either the name has no binding, or its last binding is at the index
   abbrev Tops : List ℕ → List (Binding T) → Type 0
   Tops name bs = ((top name bs ≡ None) × (find name bs ≡ None)) ⊎ ((i : ℕ) × (b : Binding T) × (top name bs ≡ Some i) × (slice_get bs i ≡ Some b) × (find name bs ≡ Some b.value))
@@ -96,6 +105,14 @@ module _ {T : Type 0} where
       elim (top name bs) as (λ o. pick (c ∷ bs) (suc floor) (or_else (option_map suc o) (cond (bytes_eq c.name name) (Some 0) None)) ≡ pick bs floor o) [ None ↦ elim (bytes_eq c.name name) as (λ t. pick (c ∷ bs) (suc floor) (cond t (Some 0) None) ≡ None) [ true ↦ rw (compare.suc-suc, zero_le floor) refl | false ↦ refl ] | Some i ↦ rw compare.suc-suc refl ]
       ∙ find_top name floor bs
 
+  -- whether the name is visible, by the index of its last binding
+  pub is_seen : (name : List ℕ) (floor : ℕ) (bs : List (Binding T)) → is_some (find name (drop floor bs)) ≡ is_from floor (top name bs)
+  is_seen name floor bs = ap is_some (sym (find_top name floor bs)) ∙ ⊎_elim
+      (λ (p : (top name bs ≡ None) × (find name bs ≡ None)). rw p.0 refl)
+      (λ (p : (i : ℕ) × (b : Binding T) × (top name bs ≡ Some i) × (slice_get bs i ≡ Some b) × (find name bs ≡ Some b.value)).
+      rw (p.2, p.3) (elim (nat_lt p.0 floor) as (λ t. is_some (cond t None (Some p.1.value)) ≡ not t) [ true ↦ refl | false ↦ refl ]))
+      (tops name bs)
+
   -- ---- the entries and the map
 
   views_push : (es : List (Entry T)) (e : Entry T) → views (es ++ e ∷ []) ≡ views es ++ binding_view e ∷ []
@@ -103,6 +120,13 @@ module _ {T : Type 0} where
 
   take_views : (i : ℕ) (es : List (Entry T)) (e : Entry T) → i ≤ length es → take i (views (es ++ e ∷ [])) ≡ take i (views es)
   take_views i es e le = rw (views_push es e) (take-append-le i (views es) (binding_view e ∷ []) (omega (arith, length-map es binding_view)))
+
+  -- the last of all entries is the last of its name
+  pub last_named : (name : List ℕ) (es : List (Entry T)) (e : Entry T) → 1 ≤ length es → e ≡ get_or es (length es - 1) e → bytes_eq e.name.now name ≡ true → Some (length es - 1) ≡ top name (views es)
+  last_named name es e le at same =
+      let within : slice_get es (length es - 1) ≡ Some e = slice_get_read es (length es) (length es - 1) e refl (omega (arith, le)) at in
+      let viewed : slice_get (views es) (length es - 1) ≡ Some (binding_view e) = slice_get-map binding_view es (length es - 1) ∙ ap (option_map binding_view) within in
+      sym (top_at_end name (views es) (length es - 1) (binding_view e) (omega (arith, le, length-map es binding_view)) viewed same)
 
   linked_push : (es : List (Entry T)) (e : Entry T) → Linked es → e.hidden ≡ top e.name.now (views es) → Linked (es ++ e ∷ [])
   linked_push es e h same i f at = ⊎_elim
@@ -202,3 +226,16 @@ module _ {T : Type 0} where
   adds es new ms b floor e le h =
       let k : length (views es) ≡ length es = length-map es _ in
       rw (e, seen_more (views es) b ms (standing_more ms (length es) (length (views es)) (omega (arith, k)) h), drop-append-le floor (views es) (b ∷ []) (omega (arith, k))) refl
+
+  -- an entry that was appended and removed again
+  module _ (es new cut : List (Entry T)) (b : Binding T) (n : ℕ) where
+    pub cut_back : n ≡ length es → views new ≡ views es ++ b ∷ [] → cut ≡ take n new → views cut ≡ views es
+    cut_back e f g =
+        let within : n ≤ length (views es) = omega (arith, e, length-map es binding_view) in
+        rw g (sym (take-map _ n new) ∙ ap (take n) f ∙ take-append-le n (views es) (b ∷ []) within ∙ take_count es n e)
+
+    pub as_many : n ≡ length es → views new ≡ views es ++ b ∷ [] → cut ≡ take n new → length es ≡ length cut
+    as_many e f g = sym (length-map es binding_view) ∙ ap length (sym (cut_back e f g)) ∙ length-map cut binding_view
+
+    pub stays : (ms : List ScopeStart) (floor : ℕ) → n ≡ length es → views new ≡ views es ++ b ∷ [] → cut ≡ take n new → at_marks (views cut) ms floor ≡ at_marks (views es) ms floor
+    stays ms floor e f g = rw (cut_back e f g) refl

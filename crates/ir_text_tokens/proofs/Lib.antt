@@ -8,6 +8,8 @@ pub mod Precedings
 pub mod Wholes
 pub mod Marks
 pub mod Blanks
+pub mod ByteRuns
+pub mod Quoted
 pub mod Reasons
 pub mod Simple
 pub mod Steps

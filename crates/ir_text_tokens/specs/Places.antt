@@ -1,5 +1,5 @@
 -- The representation of the names: a list of bindings, and a map from each name to the index of its last binding.
-use Rattle.std.specs.Prelude.{◌≡◌, ℕ, Bool, suc, nat_lt, if◌then◌else◌, List, [], ◌∷◌, take, map, Option, Some, None, option_map, slice_get}
+use Rattle.std.specs.Prelude.{◌≡◌, ℕ, Bool, false, not, suc, nat_lt, if◌then◌else◌, List, [], ◌∷◌, take, map, Option, Some, None, option_map, slice_get}
 use Rattle.std.specs.Str.{bytes_eq}
 use Rattle.std.specs.Borrow.{Bor}
 use Rattle.std.specs.HashMap.{HashMap, get}
@@ -29,6 +29,11 @@ top name (b ∷ bs) = or_else (option_map suc (top name bs)) (if bytes_eq b.name
 abbrev pub pick : {T : Type 0} → List (Binding T) → ℕ → Option ℕ → Option T
 pick bs floor None = None
 pick bs floor (Some i) = if nat_lt i floor then None else option_map (λ b. b.value) (slice_get bs i)
+
+-- whether there is an index, and it isn't before `first`
+abbrev pub is_from : ℕ → Option ℕ → Bool
+is_from first None = false
+is_from first (Some i) = not (nat_lt i first)
 
 -- each entry has the index of the entry that it shadows
 abbrev pub Linked : {T : Type 0} → List (Entry T) → Type 0

@@ -2,13 +2,14 @@
 ghost use Rattle.std.specs.Prelude.{◌≡◌, ◌+◌, ◌≤◌, ◌∷◌, ℕ, length, option_map, IfErr, IfSome, IsTrue, Some};
 ghost use Rattle.std.specs.List.{prefix_len};
 ghost use Rattle.ir_text_tokens.specs.Reading.{GivesOrNone};
-ghost use Rattle.ir_text_tokens.specs.Tokens.{bare, trailing_first, begins_other, exponent_len, fraction_len, hex_len, lexeme_of, longer, mark, mark_at, mark_of, name_parts, next, next_mark, number_at, sign_at, sign_len, skip, skip_line, string_parts, suffix_len, symbol_at, token_at, value};
+ghost use Rattle.ir_text_tokens.specs.Tokens.{bare, trailing_first, begins_other, exponent_len, fraction_len, hash, hex_len, lexeme_of, longer, mark, mark_at, mark_of, name_parts, next, next_mark, number_at, sign_at, sign_len, skip, skip_line, string, string_parts, suffix_len, symbol_at, token_at, value};
+ghost use Rattle.ir_text_tokens.specs.Strings.{string_bytes};
 ghost use Rattle.ir_text_tokens.specs.declared.refusal.TextRefusal.{TextRefusal};
 
 use crate::fault::Fault;
 use crate::refusal::TextRefusal;
 use crate::runs::{Class, is_blank, is_letter, run_len};
-use crate::strings::closing;
+use crate::strings::{closing, word_closing};
 use crate::token::{Mark, Token};
 
 /// Returns the rest of the text after the line feed that ends a comment.
@@ -72,7 +73,12 @@ fn skip_all(bytes: &[u8]) -> &[u8]
     'blanks: loop {
         match rest {
             [b'/', b'/', tail @ ..] => rest = skip_line(tail),
-            [b'\n', tail @ ..] => rest = skip_fours(tail),
+            [b'\n', tail @ ..] => {
+                rest = skip_fours(tail);
+                if is_begun(rest) {
+                    return rest;
+                }
+            }
             [byte, tail @ ..] if is_blank(*byte) => rest = tail,
             _ => return rest,
         }
@@ -351,23 +357,12 @@ fn after_first(bytes: &[u8], byte: u8) -> Option<&[u8]>
     }
 }
 
-/// Returns the rest of the text after `byte`, if it is the first byte after blanks and comments.
-#[inline(never)]
-fn after_blanks(bytes: &[u8], byte: u8) -> Option<&[u8]>
-    ensures { option_map (λ r. r.now) result ≡ trailing_first byte (skip bytes.now) }
-{
-    after_first(skip(bytes), byte)
-}
-
 /// Returns the rest of the text after `byte`, if it is the first byte after leading blanks and comments.
 #[inline(always)]
 pub fn after_byte(bytes: &[u8], byte: u8) -> Option<&[u8]>
     ensures { option_map (λ r. r.now) result ≡ trailing_first byte (skip bytes.now) }
 {
-    if is_begun(bytes) {
-        return after_first(bytes, byte);
-    }
-    after_blanks(bytes, byte)
+    after_first(skip(bytes), byte)
 }
 
 /// Returns the next token if it is a bare word, and the rest of the text.
@@ -397,6 +392,37 @@ pub fn value(bytes: &[u8]) -> Option<(&[u8], &[u8])>
         return None;
     }
     Some(tail.split_at(len))
+}
+
+/// Returns the name of the next token without its `#`, if the token is such a name, and the rest of the text.
+#[inline(always)]
+#[tactic(auto, unfolding(crate::specs::Tokens::next))]
+pub fn hash(bytes: &[u8]) -> Option<(&[u8], &[u8])>
+    ensures { IfSome result (λ x. next bytes.now ≡ Some (hash x.0.now, x.1.now)) }
+{
+    let [b'#', tail @ ..] = skip(bytes) else {
+        return None;
+    };
+    let len = suffix_len(tail);
+    if len == 0 {
+        return None;
+    }
+    Some(tail.split_at(len))
+}
+
+/// Returns the text between the quotes of the next token, if the token is a string of word bytes, and the rest of the
+/// text.
+#[inline(always)]
+#[tactic(auto, using(crate::proofs::Quoted::word_string), unfolding(crate::specs::Tokens::next))]
+pub fn plain_string(bytes: &[u8]) -> Option<(&[u8], &[u8])>
+    ensures token { IfSome result (λ x. next bytes.now ≡ Some (string x.0.now, x.1.now)) }
+    ensures content { IfSome result (λ x. string_bytes x.0.now ≡ x.0.now) }
+{
+    let [b'"', tail @ ..] = skip(bytes) else {
+        return None;
+    };
+    let len = word_closing(tail)?;
+    Some((&tail[..len], &tail[len + 1..]))
 }
 
 /// Returns whether a token that begins with `byte` is no punctuation mark.

@@ -1,8 +1,9 @@
 //! The names that a text has bound, by scope.
-ghost use Rattle.std.specs.Prelude.{◌≡◌, [], ◌∷◌, ◌++◌, OnOk, OnErr, option_map, take};
+ghost use Rattle.std.specs.Prelude.{◌≡◌, [], ◌∷◌, ◌++◌, OnOk, OnErr, IfOk, IsTrue, true, false, not, is_some, option_map, take};
+ghost use Rattle.std.specs.Str.{bytes_eq};
 ghost use Rattle.std.specs.HashMap.{get};
 ghost use Rattle.ir_text_tokens.specs.Scopes.{Scopes, bound, entered, find, left};
-ghost use Rattle.ir_text_tokens.specs.Places.{Agrees, joined, key_eq, pick, views};
+ghost use Rattle.ir_text_tokens.specs.Places.{Agrees, is_from, joined, key_eq, pick, top, views};
 
 use ir_types_interner::keyed::Keyed;
 use std::alloc::{AllocError, Global};
@@ -57,6 +58,40 @@ fn place_of<'a>(latest: &HashMap<&'a [u8], Option<usize>, Keyed>, name: &'a [u8]
     }
 }
 
+/// Returns whether two names are equal. The last bytes are compared first, since most names differ there.
+#[inline(always)]
+fn is_same(one: &[u8], other: &[u8]) -> bool
+    ensures { IsTrue result → bytes_eq one.now other.now ≡ true }
+{
+    let [.., last] = one else {
+        return false;
+    };
+    let [.., end] = other else {
+        return false;
+    };
+    *last == *end && one == other
+}
+
+/// Returns the index of the last entry of a name. The last of all entries is compared first, since most values are
+/// used by the next operation.
+#[inline(always)]
+#[tactic(auto, using(crate::proofs::Kept::top_at_end))]
+fn latest_place<'a, T>(
+    latest: &HashMap<&'a [u8], Option<usize>, Keyed>,
+    entries: &[Entry<'a, T>],
+    name: &'a [u8],
+) -> Option<usize>
+    requires { Agrees latest.now entries.now }
+    ensures { result ≡ top name.now (views entries.now) }
+{
+    if let [.., last] = entries {
+        if is_same(last.name, name) {
+            return Some(entries.len() - 1);
+        }
+    }
+    place_of(latest, name)
+}
+
 /// Returns the value bound at an index, if it is visible.
 fn pick<'s, 'a, T>(entries: &'s [Entry<'a, T>], first: usize, place: Option<usize>) -> Option<&'s T>
     ensures { option_map (λ value. value.now) result ≡ pick (views entries.now) first place }
@@ -69,30 +104,55 @@ fn pick<'s, 'a, T>(entries: &'s [Entry<'a, T>], first: usize, place: Option<usiz
     Some(&entry.value)
 }
 
+/// Returns the index that a map had for a name, or `None` if the map had none.
+fn joined(place: Option<Option<usize>>) -> Option<usize>
+    ensures { result ≡ joined place }
+{
+    match place {
+        Some(place) => place,
+        None => None,
+    }
+}
+
+/// Returns whether a name with this last entry is visible.
+fn is_visible(place: Option<usize>, first: usize) -> bool
+    ensures { result ≡ is_from first place }
+{
+    match place {
+        Some(place) => place >= first,
+        None => false,
+    }
+}
+
+/// Appends an entry for a name, and returns the index of the entry that it shadows. The name is looked up once.
 fn push_entry<'a, T: Drop>(
     latest: &mut HashMap<&'a [u8], Option<usize>, Keyed>,
     entries: &mut Vec<Entry<'a, T>>,
     name: &'a [u8],
     value: T,
-) -> Result<(), AllocError>
+) -> Result<Option<usize>, AllocError>
     requires { Agrees latest.old entries.old.items }
     ensures agrees { Agrees latest.new entries.new.items }
+    ensures shadowed { IfOk result (λ place. place ≡ top name.now (views entries.old.items)) }
     ensures ok { OnOk result (views entries.new.items ≡ views entries.old.items ++ (record { name = name.now; value = value }) ∷ []) }
     ensures err { OnErr result (entries.new.items ≡ entries.old.items) }
 {
-    let hidden = place_of(latest, name);
+    match entries.reserve(1) {
+        Ok(()) => {}
+        Err(_) => return Err(AllocError),
+    }
     let place = entries.len();
-    entries.push(Entry {
-        name,
-        value,
-        hidden,
-    })?;
     match latest.insert(name, Some(place)) {
-        Ok(_) => Ok(()),
-        Err(_) => {
-            entries.pop();
-            Err(AllocError)
+        Ok(old) => {
+            let hidden = joined(old);
+            entries.push_reserved(Entry {
+                name,
+                value,
+                hidden,
+            });
+            Ok(hidden)
         }
+        Err(_) => Err(AllocError),
     }
 }
 
@@ -144,11 +204,12 @@ impl<'a, T: Drop> ScopedNames<'a, T> {
         }
     }
 
-    /// Returns the value of a visible name, or `None`. The name is looked up by hash.
+    /// Returns the value of a visible name, or `None`. A name that isn't the last is looked up by hash.
     pub fn find(&self, name: &'a [u8]) -> Option<&T>
         ensures { option_map (λ value. value.now) result ≡ find name.now self.now.here }
     {
-        pick(&self.entries, self.first, place_of(&self.latest, name))
+        let place = latest_place(&self.latest, &self.entries, name);
+        pick(&self.entries, self.first, place)
     }
 
     /// Binds a name. The binding shadows an earlier one of the same name.
@@ -158,6 +219,22 @@ impl<'a, T: Drop> ScopedNames<'a, T> {
     {
         push_entry(&mut self.latest, &mut self.entries, name, value)?;
         Ok(())
+    }
+
+    /// Binds a name if it isn't visible, and returns whether it bound the name. The name is looked up once.
+    pub fn bind_new(&mut self, name: &'a [u8], value: T) -> Result<bool, AllocError>
+        ensures visible { IfOk result (λ is_new. is_new ≡ not (is_some (find name.now self.old.here))) }
+        ensures bound { IfOk result (λ is_new. is_new ≡ true → self.new ≡ bound name.now value self.old) }
+        ensures same { IfOk result (λ is_new. is_new ≡ false → self.new ≡ self.old) }
+        ensures err { OnErr result (self.new ≡ self.old) }
+    {
+        let count = self.entries.len();
+        let shadowed = push_entry(&mut self.latest, &mut self.entries, name, value)?;
+        if is_visible(shadowed, self.first) {
+            cut(&mut self.latest, &mut self.entries, count);
+            return Ok(false);
+        }
+        Ok(true)
     }
 
     /// Enters a region. In the region of an isolated operation no outer name is visible.

@@ -55,6 +55,7 @@ pub(crate) fn is_word(byte: u8) -> bool
     WORD_BYTES[byte as usize] != b','
 }
 
+#[inline(always)]
 fn is_in(class: Class, byte: u8) -> bool
     ensures { result ≡ class_test class byte }
 {
@@ -66,10 +67,39 @@ fn is_in(class: Class, byte: u8) -> bool
     }
 }
 
-/// Returns the length of the longest prefix whose bytes are all of `class`.
-pub(crate) fn run_len(bytes: &[u8], class: Class) -> usize
+/// Returns the length of the longest prefix whose bytes are all of `class`, byte by byte.
+fn short_run_len(bytes: &[u8], class: Class) -> usize
     ensures len { result ≡ prefix_len (class_test class) bytes.now }
     ensures within { result ≤ length bytes.now }
 {
     bytes.iter().take_while(|b| is_in(class, **b)).count()
+}
+
+/// Returns the length of the longest prefix whose bytes are all of `class`. Compares the length of the rest once for
+/// four bytes.
+#[inline(always)]
+#[tactic(auto, using(crate::proofs::ByteRuns::stops_at_1, crate::proofs::ByteRuns::stops_at_2, crate::proofs::ByteRuns::stops_at_3, crate::proofs::ByteRuns::stops_at_4, crate::proofs::ByteRuns::goes_on))]
+pub(crate) fn run_len(bytes: &[u8], class: Class) -> usize
+    ensures len { result ≡ prefix_len (class_test class) bytes.now }
+    ensures within { result ≤ length bytes.now }
+{
+    let mut rest = bytes;
+    let mut len = 0;
+    'fours: while let [a, b, c, d, tail @ ..] = rest {
+        if !is_in(class, *a) {
+            return len;
+        }
+        if !is_in(class, *b) {
+            return len + 1;
+        }
+        if !is_in(class, *c) {
+            return len + 2;
+        }
+        if !is_in(class, *d) {
+            return len + 3;
+        }
+        len += 4;
+        rest = tail;
+    }
+    len + short_run_len(rest, class)
 }

@@ -1,10 +1,11 @@
 //! String literals.
-ghost use Rattle.std.specs.Prelude.{◌≡◌, ◌≢◌, ◌∷◌, ◌<◌, ◌≤◌, ◌+◌, suc, false, None, length, drop, option_map, IfOk, IfSome};
+ghost use Rattle.std.specs.Prelude.{◌≡◌, ◌≢◌, ◌∷◌, ◌<◌, ◌≤◌, ◌+◌, suc, false, Some, None, length, drop, option_map, IfOk, IfSome};
 ghost use Rattle.ir_text_tokens.specs.Reading.{GivesOrNone};
 ghost use Rattle.ir_text_tokens.specs.Strings.{closing, closing_escape, escape_bytes, hex_value, is_short, option_list, short_value, string_bytes};
-ghost use Rattle.ir_text_tokens.specs.Bytes.{is_line_end};
+ghost use Rattle.ir_text_tokens.specs.Bytes.{is_line_end, is_word};
+ghost use Rattle.std.specs.List.{prefix_len};
 
-use crate::runs::{is_hex, is_line_end};
+use crate::runs::{Class, is_hex, is_line_end, run_len};
 use std::alloc::{AllocError, Global};
 
 /// Returns whether a backslash and `byte` are a complete escape.
@@ -69,6 +70,22 @@ fn part_len(byte: u8, bytes: &[u8]) -> Option<usize>
     }
 }
 
+/// Returns the number of bytes before the quote that ends the string, if all of them can be in a word. Most names of
+/// operations are such strings.
+#[tactic(auto, using(crate::proofs::Quoted::closing_word))]
+#[inline(always)]
+pub(crate) fn word_closing(bytes: &[u8]) -> Option<usize>
+    ensures len { IfSome result (λ n. n ≡ prefix_len is_word bytes.now) }
+    ensures found { IfSome result (λ n. closing bytes.now ≡ Some n) }
+    ensures within { IfSome result (λ n. n < length bytes.now) }
+{
+    let len = run_len(bytes, Class::Word);
+    match bytes.get(len) {
+        Some(b'"') => Some(len),
+        _ => None,
+    }
+}
+
 /// Returns the number of bytes before the quote that ends the string. The error is the number of bytes left at the
 /// backslash of a bad escape, or `None` if the string isn't closed.
 #[tactic(auto, unfolding(crate::specs::Strings::closing))]
@@ -76,6 +93,9 @@ pub(crate) fn closing(bytes: &[u8]) -> Result<usize, Option<usize>>
     ensures found { GivesOrNone (λ n. n) result (closing bytes.now) }
     ensures within { IfOk result (λ n. n < length bytes.now) }
 {
+    if let Some(len) = word_closing(bytes) {
+        return Ok(len);
+    }
     let mut rest = bytes;
     let mut len = 0;
     'parts: while let [byte, tail @ ..] = rest {

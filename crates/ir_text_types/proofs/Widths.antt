@@ -43,6 +43,10 @@ two_number : (a b : ℕ) → is_ascii_digit a ≡ true → is_ascii_digit b ≡ 
 unfolding place_value
 two_number a b d e z = rw (z, d, e) (omega arith)
 
+when : (t : Bool) (x : Option ℕ) → t ≡ true → cond t x None ≡ x
+when true x h = refl
+when false x h = absurd cc
+
 pub two_width : (a b : ℕ) → is_ascii_digit a ≡ true → is_ascii_digit b ≡ true → (a == 48) ≡ false → width_of (a ∷ b ∷ []) ≡ Some ((a - 48) * 10 + (b - 48))
 two_width a b d e z =
     let low : 49 ≤ a = grind (arith, nat_tests) in
@@ -51,7 +55,18 @@ two_width a b d e z =
     when (not (begins_zero (a ∷ b ∷ [])) && list_all is_ascii_digit (a ∷ b ∷ [])) (within (integer_of (a ∷ b ∷ []))) test
     ∙ ap within (two_number a b d e z)
     ∙ when (is_width ((a - 48) * 10 + (b - 48))) (Some ((a - 48) * 10 + (b - 48))) w
-  where
-    when : (t : Bool) (x : Option ℕ) → t ≡ true → cond t x None ≡ x
-    when true x h = refl
-    when false x h = absurd cc
+
+-- ---- one digit
+
+one_number : (a : ℕ) → is_ascii_digit a ≡ true → integer_of (a ∷ []) ≡ a - 48
+unfolding place_value
+one_number a d = rw d (omega arith)
+
+pub one_width : (a : ℕ) → is_ascii_digit a ≡ true → (a == 48) ≡ false → width_of (a ∷ []) ≡ Some (a - 48)
+one_width a d z =
+    let low : 49 ≤ a = grind (arith, nat_tests) in
+    let w : is_width (a - 48) ≡ true = grind (arith, nat_tests, digit_most a d) in
+    let test : (not (begins_zero (a ∷ [])) && list_all is_ascii_digit (a ∷ [])) ≡ true = rw (z, d) refl in
+    when (not (begins_zero (a ∷ [])) && list_all is_ascii_digit (a ∷ [])) (within (integer_of (a ∷ []))) test
+    ∙ ap within (one_number a d)
+    ∙ when (is_width (a - 48)) (Some (a - 48)) w

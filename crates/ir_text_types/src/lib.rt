@@ -9,7 +9,7 @@ pub mod error;
 pub mod full;
 pub mod laws;
 pub mod opaque;
-mod scalar_types;
+pub mod scalar_types;
 pub mod scalars;
 mod shapes;
 pub mod steps;

@@ -35,6 +35,18 @@ fn two_width(tens: u8, ones: u8) -> Option<u32>
     Some(width as u32)
 }
 
+/// Returns the width that a digit denotes, or `None` if it is no width.
+#[inline(always)]
+#[tactic(auto, using(crate::proofs::Widths::one_width))]
+fn one_width(digit: u8) -> Option<u32>
+    ensures { IfSome result (λ w. width_of (digit ∷ []) ≡ Some w) }
+{
+    if digit == b'0' || !digit.is_ascii_digit() {
+        return None;
+    }
+    Some((digit - b'0') as u32)
+}
+
 /// Returns the width that the digits denote, or `None` if it is no width.
 #[inline(always)]
 fn digits_width(digits: &[u8]) -> Option<u32>
@@ -42,6 +54,7 @@ fn digits_width(digits: &[u8]) -> Option<u32>
 {
     match digits {
         [tens, ones] => two_width(*tens, *ones),
+        [digit] => one_width(*digit),
         _ => width_of(digits),
     }
 }
@@ -117,7 +130,7 @@ fn place_of(ctx: &Context, dimension_or_any: ScalarType) -> Option<TypeId>
 /// Returns the scalar type at the start of the text, if it is among the first types of the context, and the rest of
 /// the text. No hash is computed.
 #[inline(always)]
-pub(crate) fn known<'a>(ctx: &Context, bytes: &'a [u8]) -> Option<(TypeId, &'a [u8])>
+pub fn known<'a>(ctx: &Context, bytes: &'a [u8]) -> Option<(TypeId, &'a [u8])>
     ensures { IfSome result (λ x. (o : Bool) (depth : ℕ) → type_at o (suc depth) (bytes.now, ctx.now) ≡ Read (x.0, (x.1.now, ctx.now))) }
 {
     ctx.sound();
@@ -130,5 +143,25 @@ pub(crate) fn known<'a>(ctx: &Context, bytes: &'a [u8]) -> Option<(TypeId, &'a [
     match place_of(ctx, dimension_or_any) {
         Some(id) => Some((id, rest)),
         None => None,
+    }
+}
+
+/// Returns the rest of the text after the type with this id, if the text begins with its name and it is a signless
+/// integer type or `index` of the context. No hash is computed.
+#[inline(always)]
+pub fn after_type<'a>(ctx: &Context, ty: TypeId, bytes: &'a [u8]) -> Option<&'a [u8]>
+    ensures { IfSome result (λ r. (o : Bool) (depth : ℕ) → type_at o (suc depth) (bytes.now, ctx.now) ≡ Read (ty, (r.now, ctx.now))) }
+{
+    ctx.sound();
+    let Some((word, rest)) = lexer::word(bytes) else {
+        return None;
+    };
+    let Some(scalar) = plain_of(word) else {
+        return None;
+    };
+    if ctx.has_type(ty) && is_plain(ctx.type_node(ty), scalar) {
+        Some(rest)
+    } else {
+        None
     }
 }

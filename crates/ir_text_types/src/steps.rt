@@ -144,6 +144,7 @@ pub fn token(bytes: &[u8]) -> Result<(Token<'_>, &[u8]), ReadError>
 }
 
 /// Interns a name and returns its id. `rest` is the text that is left, which an error reports.
+#[inline(always)]
 #[tactic(auto, using(ir_types::proofs::Growth::grows_refl, ir_types::proofs::Growth::grows_trans, crate::proofs::Stepping::step_fails, crate::proofs::Stepping::step_reads), unfolding(crate::specs::Typed::name_step))]
 pub fn name(ctx: &mut Context, bytes: &[u8], rest: &[u8]) -> Result<NameId, ReadError>
     ensures reads { Returns (λ n. (n, ctx.new)) result (name_step bytes.now ctx.old) }

@@ -32,6 +32,19 @@ pub struct Context {
     types: IndexMap<TypeNode, u32, Keyed>,
     attrs: IndexMap<AttrNode, u32, Keyed>,
     opaque: bool,
+    /// The numbers of recent names, each at the index that `recent_index` returns for it.
+    recent: [u32; 16],
+}
+
+/// Returns the index of a name among the recent names. Names of one text often differ in their last two bytes.
+#[inline(always)]
+fn recent_index(bytes: &[u8]) -> usize
+    ensures { result < 16 }
+{
+    match bytes {
+        [.., one, last] => (*one ^ *last) as usize % 16,
+        _ => 0,
+    }
 }
 
 impl Model for Context {
@@ -89,6 +102,7 @@ impl Context {
             types: IndexMap::with_hasher(alloc, keyed),
             attrs: IndexMap::with_hasher(alloc, keyed),
             opaque,
+            recent: [0; 16],
         })
     }
 
@@ -155,10 +169,58 @@ impl Context {
         node
     }
 
-    /// Interns a name and returns its id. A known name needs no memory.
+    /// Returns whether this is the name with this number.
+    #[inline(always)]
+    fn is_name(&self, number: u32, bytes: &[u8]) -> bool
+        ensures { IsTrue result → slice_get self.now.names number ≡ Some bytes.now }
+    {
+        let id = NameId::new(number);
+        if !self.has_name(id) {
+            return false;
+        }
+        self.name_bytes(id) == bytes
+    }
+
+    /// Makes a name recent.
+    #[inline(always)]
+    fn remember(&mut self, index: usize, id: NameId)
+        requires { index < 16 }
+        ensures { self.new ≡ self.old }
+    {
+        self.recent[index] = id.number();
+    }
+
+    /// Interns a name and returns its id. A known name needs no memory, and a recent one isn't hashed.
     ///
     /// Refusals: `TooMany` if the context is full and has no such name; `Memory`.
+    #[tactic(auto, using(crate::proofs::CallNumbers::known_name, crate::proofs::AcceptedCalls::known_name_reason, crate::proofs::Growth::grows_refl))]
     pub fn name(&mut self, bytes: &[u8]) -> Result<NameId, Refusal>
+        ensures ok { IfOk result (λ id. (id, self.new) ≡ with_name bytes.now self.old) }
+        ensures grows { IsExtendedBy self.old self.new }
+        ensures refused { IsRefusedFor (name_reason bytes.now self.old) result }
+        ensures known { knows_name bytes.now self.old ≡ true → IsOk result }
+        ensures err { OnErr result (self.new ≡ self.old) }
+    {
+        self.sound();
+        let index = recent_index(bytes);
+        let number = self.recent[index];
+        if self.is_name(number, bytes) {
+            return Ok(NameId::new(number));
+        }
+        match self.hashed_name(bytes) {
+            Ok(id) => {
+                self.remember(index, id);
+                Ok(id)
+            }
+            Err(refusal) => Err(refusal),
+        }
+    }
+
+    /// Interns a name, which it looks up by its hash, and returns its id. A known name needs no memory.
+    ///
+    /// Refusals: `TooMany` if the context is full and has no such name; `Memory`.
+    #[inline(never)]
+    fn hashed_name(&mut self, bytes: &[u8]) -> Result<NameId, Refusal>
         ensures ok { IfOk result (λ id. (id, self.new) ≡ with_name bytes.now self.old) }
         ensures grows { IsExtendedBy self.old self.new }
         ensures refused { IsRefusedFor (name_reason bytes.now self.old) result }

@@ -8,7 +8,7 @@ use Rattle.std.proofs.lemmas.List.{map-append}
 use Rattle.std.proofs.lemmas.List.Elements.{All-cons, All-nil}
 use Rattle.ir_event.specs.types.Things.{ContextModel, IsExtendedBy, IsName}
 use Rattle.ir_event.specs.types.Sound.{Holds, IsSound}
-use Rattle.ir_event.specs.types.Terms.{name_term}
+use Rattle.ir_event.specs.types.Terms.{TypeTerm, AttrTerm, name_term}
 use Rattle.ir_event.proofs.of_types.Terms.{name_stays}
 use Rattle.ir_event.specs.trees.Ids.{HasDistinctIds, ids}
 use Rattle.ir_event.specs.trees.Meaning.{Operation}
@@ -18,12 +18,14 @@ use Rattle.ir_event.specs.declared.row.Row.{Row}
 use Rattle.ir_event.specs.Rows.{Op, Name, cell_meaning, rows_meaning, CellIsOf, RowIsOf, Shows}
 use Rattle.listeners_symbols.specs.declared.role.Role.{Role as Numbers}
 use Rattle.listeners_symbols.specs.declared.roles.Roles.{Roles}
-use Rattle.listeners_symbols.specs.Symbols.{definitions}
-use Rattle.listeners_symbols.specs.Table.{role_numbers, RoleIsOf, Keeps, IsKept}
+use Rattle.listeners_symbols.specs.Roles.{Role, role_of}
+use Rattle.listeners_symbols.specs.Symbols.{RolesOf, definitions, roles_by_id}
+use Rattle.listeners_symbols.specs.Table.{role_numbers, RoleIsOf, IsPlain, Keeps, IsKept}
 use Rattle.listeners_symbols.specs.Lines.{cells_of, numbered, numbers_at}
 use Rattle.listeners_symbols.specs.Listeners.{kept_at}
 use Rattle.listeners_symbols.proofs.Agreed.{name_more}
-use Rattle.listeners_symbols.proofs.Reported.{Each, each_append, meant, entries_meant}
+use Rattle.listeners_symbols.proofs.Omitted.{entry_known}
+use Rattle.listeners_symbols.proofs.Reported.{Each, each_append, meant, contributed, contributed_all}
 use Rattle.listeners.specs.Reached.{among}
 use Rattle.listeners.specs.Unreached.{private_name, says_definition, is_definition, reached_in, unreached_of, line_of, lines_with, line_cells, unreached_rows}
 use Rattle.listeners.specs.Marking.{Left}
@@ -31,7 +33,7 @@ use Rattle.listeners.specs.Marks.{IsMarked}
 use Rattle.listeners.specs.Lines.{lines_cells, is_out}
 use Rattle.listeners.proofs.Least.{in_among, among_in}
 use Rattle.listeners.proofs.Sets.{in_reached, reached_is_in}
-use Rattle.listeners.proofs.Numbers.{private_meant, definition_meant, to_tree, from_tree}
+use Rattle.listeners.proofs.Numbers.{not_private, private_meant, definition_meant, to_tree, from_tree}
 use Rattle.listeners.proofs.Entries.{each_entry}
 use Rattle.ir_event.proofs.of_types.Truths.{same_bool}
 use Rattle.ir_event.proofs.of_tree_laws.Reasoned.{some_there}
@@ -108,6 +110,25 @@ module _ (b : ContextModel) (sound : IsSound b) (t : Operation) (d : HasDistinct
   lines_known [] k = tt
   lines_known (e ∷ es) k = each_append LineIs (line_of (is_out left e.0) e.0 (private_name (role_numbers e.1))) (lines_with (is_out left) (numbered es)) (line_known e.0 (is_out left e.0) (private_name (role_numbers e.1)) (private_known e.1 k.0)) (lines_known es k.1)
 
+  -- the rows of a table that omits plain roles
+  lines_all : lines_with (λ x. among x (reached_in t)) (meant b m.all.entries) ≡ lines_with (λ x. among x (reached_in t)) (roles_by_id t)
+  lines_all = sym (each (meant b m.all.entries)) ∙ contributed_all t f reports_nothing b m ordered keeps ∙ each (roles_by_id t)
+    where
+      f : ℕ → Role → List (ℕ × List ℕ)
+      f x r = line_of (among x (reached_in t)) x (private_name r)
+
+      none : (x : ℕ) (p : Bool) (name : Option (List ℕ)) → is_some name ≡ false → line_of p x name ≡ []
+      none x true name e = refl
+      none x false None e = refl
+      none x false (Some n) e = absurd (true≢false e)
+
+      reports_nothing : (x : ℕ) (r : Role) → IsPlain r → f x r ≡ []
+      reports_nothing x r p = none x (among x (reached_in t)) (private_name r) (not_private r p)
+
+      each : (es : RolesOf (List ℕ) TypeTerm AttrTerm) → contributed t f reports_nothing es ≡ lines_with (λ x. among x (reached_in t)) es
+      each [] = refl
+      each (e ∷ es) = ap (λ l. f e.0 e.1 ++ l) (each es)
+
 -- ---- rows in a context that has grown
 module _ (b c : ContextModel) (holds : Holds b) (g : IsExtendedBy b c) where
   cells_known : (l : ℕ × ℕ) → IsName b l.1 → All (CellIsOf c) (line_cells cell.Op cell.Name l)
@@ -137,9 +158,9 @@ shows_unreached c t m rows ordered d kept left marked is =
     let keeps = kept.keeps in
     let es = m.all.entries in
     let at = each_entry (λ q r. kept_at m q ≡ Some r) es ordered (λ q r i. i) in
-    let known = each_entry (λ q r. RoleIsOf b r) es ordered (λ q r i. subst (λ (o : Option Numbers). IfSome o (RoleIsOf b)) i (keeps q).known) in
+    let known = each_entry (λ q r. RoleIsOf b r) es ordered (λ q r i. subst (λ (o : Option Numbers). IfSome o (RoleIsOf b)) i (entry_known b (role_of t q) (kept_at m q) (keeps.says q))) in
     let lk = lines_known b kept.sound t d m ordered keeps left marked es known in
-    let same = sym (lines_meant b kept.sound t d m ordered keeps left marked es at) ∙ ap (lines_with (λ x. among x (reached_in t))) (entries_meant t b m ordered keeps) in
+    let same = sym (lines_meant b kept.sound t d m ordered keeps left marked es at) ∙ lines_all b kept.sound t d m ordered keeps left marked in
     record {
       says = rows_say b c kept.sound.holds kept.grown rows _ is lk ∙ ap (map (line_cells Op Name)) same;
       known = rows_known b c kept.sound.holds kept.grown rows _ is lk;

@@ -14,8 +14,7 @@ use std::alloc::Global;
 /// The analysis `unreached`: the private symbols of a module that nothing reaches (Symbols and Symbol Tables, "Symbol
 /// Visibility").
 ///
-/// It keeps the role of each operation, like the listener of symbols. A report resolves the references and marks what
-/// is reached.
+/// It keeps the same roles as the listener of symbols. A report resolves the references and marks what is reached.
 #[derive(Drop)]
 pub struct Unreached {
     alloc: Global,

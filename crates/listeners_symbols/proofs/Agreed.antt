@@ -1,6 +1,6 @@
 -- A table that was updated after an event keeps the roles of the module after it.
 use Rattle.std.proofs.Common.{◌≡◌, refl, ap, sym, ◌∙◌, subst, ℕ, suc, true, false, true≢false, cond, eqb, eq-eqb, eqb-true, List, [], ◌∷◌, length, map, get_or, Option, Some, None, inl, inr, arith}
-use Rattle.std.specs.Prelude.{option_map, option_and_then, IfSome}
+use Rattle.std.specs.Prelude.{option_map, option_and_then, is_some, IfSome}
 use Rattle.std.specs.List.{All, list_any}
 use Rattle.std.proofs.lemmas.List.Elements.{All-head, All-tail}
 use Rattle.ir_event.specs.types.Things.{ContextModel, IsExtendedBy, IsName, IsType, IsAttr}
@@ -17,7 +17,7 @@ use Rattle.ir_event.specs.tree_laws.Reads.{parent_of}
 use Rattle.ir_event.specs.tree_laws.Stands.{StepOf, op_with_path_id, stands, find_op_with_path, op_with_path, place_in}
 use Rattle.ir_event.specs.tree_laws.Members.{In}
 use Rattle.ir_event.proofs.of_tree_laws.Listed.{bool_cases}
-use Rattle.ir_event.proofs.of_tree_laws.Members.{stand, member, same_stand, found_stands}
+use Rattle.ir_event.proofs.of_tree_laws.Members.{stand, member, same_stand, found_stands, stand_of_member}
 use Rattle.ir_event.proofs.of_tree_laws.Around.{member_of_place, present_stand, stand_present, left_apart}
 use Rattle.ir_event.proofs.of_tree_laws.Readings.{stands_find}
 use Rattle.ir_event.specs.Bounds.{op_of}
@@ -33,11 +33,13 @@ use Rattle.listeners_symbols.specs.declared.role.Role.{Role as Numbers}
 use Rattle.listeners_symbols.specs.declared.role.Reference.{Reference}
 use Rattle.listeners_symbols.specs.declared.role.Call.{Call}
 use Rattle.listeners_symbols.specs.declared.role.Signature.{Signature}
-use Rattle.listeners_symbols.specs.Roles.{OpWithPath, Role, role, role_of}
-use Rattle.listeners_symbols.specs.Table.{Table, Says, Keeps, IsKept, Renewed, Followed, RoleIsOf, ReferenceIsOf, CallIsOf, SignatureIsOf, role_meaning, reference_meaning, call_meaning, signature_meaning}
+use Rattle.listeners_symbols.specs.Roles.{OpWithPath, Role, parent_in, role, role_of}
+use Rattle.listeners_symbols.specs.Table.{Table, Says, MaySay, HasParents, Keeps, IsKept, Renewed, Followed, RoleIsOf, ReferenceIsOf, CallIsOf, SignatureIsOf, role_meaning, reference_meaning, call_meaning, signature_meaning}
 use Rattle.listeners_symbols.proofs.Meant.{references_meant, call_meant, function_meant}
 use Rattle.listeners_symbols.proofs.Local.{far_roles, own_role}
 use Rattle.listeners_symbols.proofs.Gathered.{parent_placed}
+use Rattle.listeners_symbols.proofs.Omitted.{some_more, said, present}
+use Rattle.listeners_symbols.proofs.Added.{renewed_parents}
 
 -- ---- a context that grows
 pub map_all : {X Y : Type 0} (P : X → Type 0) (f g : X → Y) (xs : List X) → All P xs → ((x : X) → P x → f x ≡ g x) → map f xs ≡ map g xs
@@ -50,10 +52,6 @@ all_more P Q xs a h = λ k d l. h (get_or xs k d) (a k d l)
 option_stays : {X Y : Type 0} (P : X → Type 0) (f g : X → Y) (o : Option X) → IfSome o P → ((x : X) → P x → f x ≡ g x) → option_map f o ≡ option_map g o
 option_stays P f g None a h = refl
 option_stays P f g (Some x) a h = ap Some (h x a)
-
-some_more : {X : Type 0} (P Q : X → Type 0) (o : Option X) → IfSome o P → ((x : X) → P x → Q x) → IfSome o Q
-some_more P Q None a h = tt
-some_more P Q (Some x) a h = h x a
 
 somes : {X Y : Type 0} (f : X → Y) (xs : List X) → map (option_map f) (map Some xs) ≡ map Some (map f xs)
 somes f [] = refl
@@ -115,8 +113,12 @@ module _ (b c : ContextModel) (holds : Holds b) (g : IsExtendedBy b c) where
   says_more r None s = record { is = s.is; known = tt }
   says_more r (Some k) s = record { is = ap Some (role_stays k s.known) ∙ s.is; known = role_more k s.known }
 
+  may_more : (r : Option Role) (k : Option Numbers) → MaySay b r k → MaySay c r k
+  may_more r k (inl s) = inl (says_more r k s)
+  may_more r k (inr e) = inr e
+
   pub keeps_more : (t : Operation) (f : Table) → Keeps b t f → Keeps c t f
-  keeps_more t f h x = says_more (role_of t x) (f x) (h x)
+  keeps_more t f h = record { says = λ x. may_more (role_of t x) (f x) (h.says x); parents = h.parents }
 
 -- ---- the place of an event's operation
 stand_there : (x : ℕ) (t : Operation) (s : OpWithPath) → In s (stands [] t) → op_with_path_id s ≡ x → has_id x t ≡ true
@@ -173,26 +175,87 @@ taken_none x t w is inner = go (op_with_path x w) refl
         let b = member_left x t r (subst (λ z. In r (stands [] z)) is m.0) in
         absurd (left_apart x t b.0 b.1 b.2 inner (sym (left_id x b.0) ∙ ap (λ (s : OpWithPath). op_with_path_id s) (sym b.3) ∙ m.1))
 
+-- the parent of an operation with a role has a role
+parent_there : (t : Operation) → HasDistinctIds t → (y p : ℕ) (q : Role) → role_of t y ≡ Some q → q.parent ≡ Some p → role_of t p ≡ None → ⊥
+parent_there t d y p q is above none = go (op_with_path y t) refl
+  where
+    go : (o : Option OpWithPath) → op_with_path y t ≡ o → ⊥
+    go None e = (let no : None ≡ Some q = sym (ap (option_map (role t)) e) ∙ is in absurd cc)
+    go (Some s) e = on_path s.path refl
+      where
+        above_s : parent_in s.path ≡ Some p
+        above_s =
+            let two : Some (role t s) ≡ Some q = sym (ap (option_map (role t)) e) ∙ is in
+            let one : role t s ≡ q = cc in
+            ap (λ (z : Role). z.parent) one ∙ above
+
+        on_path : (path : List (StepOf (List ℕ) TypeTerm AttrTerm)) → s.path ≡ path → ⊥
+        on_path [] f = (let no : None ≡ Some p = sym (ap parent_in f) ∙ above_s in absurd cc)
+        on_path (a ∷ l) f =
+            let two : Some (head a.parent).id ≡ Some p = sym (ap parent_in f) ∙ above_s in
+            let id : (head a.parent).id ≡ p = cc in
+            let placed = parent_placed t d s (member y (stands [] t) s e).0 a l f in
+            let there : role_of t p ≡ Some (role t (stand a.parent l)) = ap (role_of t) (sym id) ∙ ap (option_map (role t)) (stand_of_member t d (stand a.parent l) placed.1) in
+            let no : None ≡ Some (role t (stand a.parent l)) = sym none ∙ there in
+            absurd cc
+
 -- ---- events
 module _ (c : ContextModel) (e : Event) (m n : Module) (s : Step c e m n) (f g : Table) (h : Keeps c m.tree f) where
   renewed_keeps : (x : ℕ) → ((y : ℕ) → eqb x y ≡ false → role_of n.tree y ≡ role_of m.tree y) → has_id x n.tree ≡ true → Renewed c n.tree x f g → Keeps c n.tree g
-  renewed_keeps x far there r y = elim (bool_cases (eqb x y)) [
-    | inr apart ↦ subst (λ z. Says c (role_of n.tree y) z) (sym (r.others y apart)) (subst (λ z. Says c z (f y)) (sym (far y apart)) (h y))
-    | inl same ↦ subst (λ z. Says c (role_of n.tree z) (g z)) (eqb-true x y same) (r.own there (λ p k. subst (λ z. Says c z (f p)) (sym (far p (parent_apart n.tree s.after.distinct x p k))) (h p)))
-  ]
+  renewed_keeps x far there r = record { says = says; parents = renewed_parents c n.tree x f g r h.parents }
+    where
+      says : (y : ℕ) → MaySay c (role_of n.tree y) (g y)
+      says y = elim (bool_cases (eqb x y)) [
+        | inr apart ↦ subst (λ z. MaySay c (role_of n.tree y) z) (sym (r.others y apart)) (subst (λ z. MaySay c z (f y)) (sym (far y apart)) (h.says y))
+        | inl same ↦ subst (λ z. MaySay c (role_of n.tree z) (g z)) (eqb-true x y same) (r.own there (λ p k. subst (λ z. Says c z (f p)) (sym (far p (parent_apart n.tree s.after.distinct x p k))) (present c (role_of m.tree p) (f p) (h.says p) (r.parent p k))))
+      ]
+
+  -- the table without the entry of an operation that has no role now
+  dropped_keeps : (x : ℕ) → ((y : ℕ) → eqb x y ≡ false → role_of n.tree y ≡ role_of m.tree y) → role_of n.tree x ≡ None → ((y : ℕ) → g y ≡ cond (eqb x y) None (f y)) → Keeps c n.tree g
+  dropped_keeps x far none r = record { says = says; parents = parents }
+    where
+      stays : (y : ℕ) → eqb x y ≡ false → g y ≡ f y
+      stays y apart = r y ∙ ap (λ b. cond b None (f y)) apart
+
+      gone : (y : ℕ) → eqb x y ≡ true → g y ≡ None
+      gone y same = r y ∙ ap (λ b. cond b None (f y)) same
+
+      says : (y : ℕ) → MaySay c (role_of n.tree y) (g y)
+      says y = elim (bool_cases (eqb x y)) [
+        | inr apart ↦ subst (λ z. MaySay c (role_of n.tree y) z) (sym (stays y apart)) (subst (λ z. MaySay c z (f y)) (sym (far y apart)) (h.says y))
+        | inl same ↦ inl (record {
+          is = ap (option_map (role_meaning c)) (gone y same) ∙ sym (ap (role_of n.tree) (sym (eqb-true x y same)) ∙ none);
+          known = subst (λ o. IfSome o (RoleIsOf c)) (sym (gone y same)) tt;
+        })
+      ]
+
+      before : (y : ℕ) (k : Numbers) → g y ≡ Some k → f y ≡ Some k
+      before y k i = elim (bool_cases (eqb x y)) [
+        | inr apart ↦ sym (stays y apart) ∙ i
+        | inl same ↦ (let no : None ≡ Some k = sym (gone y same) ∙ i in absurd cc)
+      ]
+
+      now : (y : ℕ) (k : Numbers) → g y ≡ Some k → Says c (role_of n.tree y) (Some k)
+      now y k i = said c (role_of n.tree y) k (subst (MaySay c (role_of n.tree y)) i (says y))
+
+      above : (y : ℕ) (k : Numbers) → g y ≡ Some k → (o : Option ℕ) → k.parent ≡ o → IfSome o (λ p. is_some (g p) ≡ true)
+      above y k i None j = tt
+      above y k i (Some p) j = elim (bool_cases (eqb x p)) [
+        | inr apart ↦ ap is_some (stays p apart) ∙ subst (λ o. IfSome o (λ z. is_some (f z) ≡ true)) j (h.parents y k (before y k i))
+        | inl same ↦ absurd (parent_there n.tree s.after.distinct y p (role_meaning c k) (sym (now y k i).is) j (ap (role_of n.tree) (sym (eqb-true x p same)) ∙ none))
+      ]
+
+      parents : HasParents g
+      parents y k i = above y k i k.parent refl
 
 pub followed_keeps : (c : ContextModel) (e : Event) (m n : Module) → Step c e m n → (f g : Table) → Keeps c m.tree f → Followed c n.tree e f g → Keeps c n.tree g
 followed_keeps c (Put x place fresh) m n s f g h r = renewed_keeps c (Put x place fresh) m n s f g h x (far_roles c (Put x place fresh) m n s) (place_there x n.tree place s.changes.there) r
-followed_keeps c (Take x place fresh) m n s f g h r = λ y. elim (bool_cases (eqb x y)) [
-  | inr apart ↦ subst (λ z. Says c (role_of n.tree y) z) (sym (r y ∙ ap (λ b. cond b None (f y)) apart)) (subst (λ z. Says c z (f y)) (sym (far_roles c (Take x place fresh) m n s y apart)) (h y))
-  | inl same ↦ (let none : g y ≡ None = r y ∙ ap (λ b. cond b None (f y)) same in
-      record {
-        is = ap (option_map (role_meaning c)) none ∙ sym (ap (role_of n.tree) (sym (eqb-true x y same)) ∙ taken_none x m.tree n.tree s.changes.left s.changes.inner);
-        known = subst (λ o. IfSome o (RoleIsOf c)) (sym none) tt;
-      })
-]
+followed_keeps c (Take x place fresh) m n s f g h r = dropped_keeps c (Take x place fresh) m n s f g h x (far_roles c (Take x place fresh) m n s) (taken_none x m.tree n.tree s.changes.left s.changes.inner) r
 followed_keeps c (SetOperand x k old new) m n s f g h (inl r) = renewed_keeps c (SetOperand x k old new) m n s f g h x (far_roles c (SetOperand x k old new) m n s) (mapped_there x n.tree _ new s.changes.is) r
-followed_keeps c (SetOperand x k old new) m n s f g h (inr r) = λ y. subst (λ z. Says c (role_of n.tree y) z) (sym (r.1 y)) (subst (λ z. Says c z (f y)) (sym (same y)) (h y))
+followed_keeps c (SetOperand x k old new) m n s f g h (inr r) = record {
+  says = λ y. subst (λ z. MaySay c (role_of n.tree y) z) (sym (r.1 y)) (subst (λ z. MaySay c z (f y)) (sym (same y)) (h.says y));
+  parents = subst HasParents (λ i y. sym (r.1 y) i) h.parents;
+}
   where
     same : (y : ℕ) → role_of n.tree y ≡ role_of m.tree y
     same y = elim (bool_cases (eqb x y)) [

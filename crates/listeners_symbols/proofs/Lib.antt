@@ -3,6 +3,7 @@ pub mod Sizes
 pub mod Meant
 pub mod Local
 pub mod Gathered
+pub mod Omitted
 pub mod Added
 pub mod Agreed
 pub mod Looks

@@ -1,5 +1,5 @@
 -- The rows of a report.
-use Rattle.std.proofs.Common.{◌≡◌, refl, ap, sym, ◌∙◌, subst, ℕ, ◌++◌, Bool, true, false, true≢false, cond, not, ◌&&◌, ◌||◌, eqb, eq-eqb, eqb-true, List, [], ◌∷◌, map, Option, Some, None, inl, inr, arith}
+use Rattle.std.proofs.Common.{◌≡◌, refl, ap, sym, ◌∙◌, subst, ℕ, ◌++◌, Bool, true, false, true≢false, cond, not, ◌&&◌, ◌||◌, eqb, eq-eqb, eqb-true, List, [], ◌∷◌, map, Option, Some, None, inl, inr, ◌⊎◌, arith}
 use Rattle.std.specs.Prelude.{option_map, IfSome, is_some}
 use Rattle.std.specs.List.{AllByRecursion, All, list_any}
 use Rattle.std.specs.List.Sorted.{IsStrictlySortedBy}
@@ -7,12 +7,13 @@ use Rattle.std.specs.Option.{option_eq}
 use Rattle.std.specs.Str.{bytes_eq}
 use Rattle.std.specs.Ordering.{nat_cmp, is_eq, is_lt}
 use Rattle.std.specs.Cmp.Lexicographic.{pointwise}
-use Rattle.std.specs.declared.cmp.Ordering.TheVariants.{Less}
+use Rattle.std.specs.declared.cmp.Ordering.{Ordering}
+use Rattle.std.specs.declared.cmp.Ordering.TheVariants.{Less, Equal, Greater}
 use Rattle.std.specs.Map.{lookup, keys_of}
 use Rattle.std.specs.BTreeMap.{is_at}
 use Rattle.listeners_support.specs.Map as idmap
 use Rattle.std.specs.FinMap.{nat_cmp-IsAntisymmetric}
-use Rattle.std.specs.FinMap.Entries.{find, is_sorted, below_all, find-put, is_sorted-put, same_entries}
+use Rattle.std.specs.FinMap.Entries.{find, is_sorted, below_all, where_key, find-put, find-where_key, is_sorted-put, is_sorted-where_key, same_entries}
 use Rattle.std.proofs.lemmas.Cmp.{nat_cmp_total}
 use Rattle.std.proofs.lemmas.List.{map-append}
 use Rattle.std.proofs.lemmas.List.Elements.{All-head, All-tail, All-cons, All-nil}
@@ -37,13 +38,14 @@ use Rattle.listeners_symbols.specs.declared.role.Reference.{Reference}
 use Rattle.listeners_symbols.specs.declared.role.Call.{Call}
 use Rattle.listeners_symbols.specs.declared.role.Signature.{Signature}
 use Rattle.ir_event.specs.types.SameTypes.{same_type}
-use Rattle.listeners_symbols.specs.Roles.{OpWithPath, role, role_of}
+use Rattle.listeners_symbols.specs.Roles.{OpWithPath, Role, role, role_of}
 use Rattle.listeners_symbols.specs.Symbols.{RolesOf, roles_in, roles_by_id, DefinitionOf, defined, definitions, says_table, function_at, LineOf, Definition, Duplicate, Use, Unresolved, Unknown, Mismatch, first_defined, is_duplicate, look_in, resolve, fits, definition_lines, duplicate_lines, is_among, name_unless, undefined, undefined_names, possible_names, reference_line, reference_lines, all_reference_lines, mismatch_line, call_line, mismatch_lines, lines_with, symbol_lines, line_cells, symbol_rows}
-use Rattle.listeners_symbols.specs.Table.{reference_of, call_numbers, signature_numbers, role_numbers, map_reference, map_call, map_signature, role_meaning, call_meaning, RoleIsOf, ReferenceIsOf, CallIsOf, SignatureIsOf, Keeps, IsKept}
+use Rattle.listeners_symbols.specs.Table.{reference_of, call_numbers, signature_numbers, role_numbers, map_reference, map_call, map_signature, role_meaning, call_meaning, RoleIsOf, ReferenceIsOf, CallIsOf, SignatureIsOf, IsPlain, MaySay, Keeps, IsKept}
 use Rattle.listeners_symbols.specs.Listeners.{kept_at}
 use Rattle.listeners_symbols.specs.Lines.{numbered, numbers_at, cells_of, lines_cells}
 use Rattle.ir_event.proofs.of_types.SameTerms.{type_is, type_refl}
 use Rattle.listeners_symbols.proofs.Agreed.{name_more, attr_more}
+use Rattle.listeners_symbols.proofs.Omitted.{said, entry_known}
 use Rattle.ir_event.proofs.of_types.Truths.{same_test}
 use Rattle.ir_event.proofs.of_types.Sorting.{flips_eq}
 
@@ -218,11 +220,15 @@ module _ (b : ContextModel) where
 
     module _ (t : Operation) (m : Roles) (keeps : Keeps b t (kept_at m)) (ds : List (DefinitionOf ℕ)) (known : Each DefinitionIs ds) where
       table_meant : (x : ℕ) → says_table (role_of t x) ≡ says_table (numbers_at m x)
-      table_meant x = ap says_table (sym (keeps x).is) ∙ go (kept_at m x)
+      table_meant x = said_table (keeps.says x)
         where
           go : (k : Option Numbers) → says_table (option_map (role_meaning b) k) ≡ says_table (option_map role_numbers k)
           go None = refl
           go (Some k) = refl
+
+          said_table : MaySay b (role_of t x) (kept_at m x) → says_table (role_of t x) ≡ says_table (numbers_at m x)
+          said_table (inl s) = ap says_table (sym s.is) ∙ go (kept_at m x)
+          said_table (inr e) = ap says_table e.is ∙ e.simple.is_table ∙ sym (ap (λ o. says_table (option_map role_numbers o)) e.none)
 
       pub look_meant : (found : Option ℕ) (n : ℕ) → IsName b n → look_in bytes_eq (role_of t) (defs_in ds) found (name_term b n) ≡ look_in eqb (numbers_at m) ds found n
       look_meant None n h = refl
@@ -235,7 +241,7 @@ module _ (b : ContextModel) where
           ∙ resolve_meant (look_in eqb (numbers_at m) ds found n) ns (All-tail (IsName b) n ns h)
 
       fits_meant : (k : Call) → CallIsOf b k → (x : ℕ) → fits same_type (call_meaning b k) (function_at (role_of t x)) ≡ fits eqb (call_numbers k) (function_at (numbers_at m x))
-      fits_meant k h x = ap (λ z. fits same_type (call_meaning b k) (function_at z)) (sym (keeps x).is) ∙ go (kept_at m x) (keeps x).known
+      fits_meant k h x = said_fits (keeps.says x)
         where
           one : (s : Option Signature) → IfSome s (SignatureIsOf b) → fits same_type (call_meaning b k) (option_map (map_signature (type_term b)) (option_map signature_numbers s)) ≡ fits eqb (call_numbers k) (option_map signature_numbers s)
           one None l = refl
@@ -244,6 +250,13 @@ module _ (b : ContextModel) where
           go : (r : Option Numbers) → IfSome r (RoleIsOf b) → fits same_type (call_meaning b k) (function_at (option_map (role_meaning b) r)) ≡ fits eqb (call_numbers k) (function_at (option_map role_numbers r))
           go None l = refl
           go (Some r) l = one r.function l.function
+
+          said_fits : MaySay b (role_of t x) (kept_at m x) → fits same_type (call_meaning b k) (function_at (role_of t x)) ≡ fits eqb (call_numbers k) (function_at (numbers_at m x))
+          said_fits (inl s) = ap (λ z. fits same_type (call_meaning b k) (function_at z)) (sym s.is) ∙ go (kept_at m x) s.known
+          said_fits (inr e) =
+              ap (λ z. fits same_type (call_meaning b k) (function_at z)) e.is
+              ∙ ap (fits same_type (call_meaning b k)) e.simple.function
+              ∙ sym (ap (λ o. fits eqb (call_numbers k) (function_at (option_map role_numbers o))) e.none)
 
       module _ (names : List ℕ) (are : Each (IsName b) names) where
         abbrev in_terms : List ℕ → Bool
@@ -369,6 +382,40 @@ module _ (b : ContextModel) where
             absurd cc)
       ]
 
+-- a property of what each key finds is a property of each entry
+left_holds : (a c : Bool) → T (a && c) → T a
+left_holds true c p = tt
+left_holds false c p = p
+
+right_holds : (a c : Bool) → T (a && c) → T c
+right_holds true c p = p
+right_holds false c p = absurd p
+
+module _ {X : Type 0} where
+  none_below : (q : ℕ) (es : List (ℕ × X)) → T (below_all nat_cmp q es) → find nat_cmp q es ≡ None
+  none_below q [] h = refl
+  none_below q (e ∷ es) h = go (nat_cmp q e.0) (left_holds (is_lt (nat_cmp q e.0)) (below_all nat_cmp q es) h) (none_below q es (right_holds (is_lt (nat_cmp q e.0)) (below_all nat_cmp q es) h))
+    where
+      go : (o : Ordering) → T (is_lt o) → find nat_cmp q es ≡ None → cond (is_eq o) (Some e.1) (find nat_cmp q es) ≡ None
+      go Less p rest = rest
+      go Equal p rest = absurd p
+      go Greater p rest = absurd p
+
+  each_found : (P : ℕ → X → Type 0) (es : List (ℕ × X)) → T (is_sorted nat_cmp es) → ((q : ℕ) (r : X) → find nat_cmp q es ≡ Some r → P q r) → Each (λ (e : ℕ × X). P e.0 e.1) es
+  each_found P [] s h = tt
+  each_found P (e ∷ es) s h = (h e.0 e.1 (ap (λ z. cond z (Some e.1) (find nat_cmp e.0 es)) (same_test e.0 e.0 ∙ eq-eqb e.0 e.0 refl)), each_found P es (right_holds (below_all nat_cmp e.0 es) (is_sorted nat_cmp es) s) later)
+    where
+      below : T (below_all nat_cmp e.0 es)
+      below = left_holds (below_all nat_cmp e.0 es) (is_sorted nat_cmp es) s
+
+      later : (q : ℕ) (r : X) → find nat_cmp q es ≡ Some r → P q r
+      later q r i = elim (bool_cases (is_eq (nat_cmp q e.0))) [
+        | inr k ↦ h q r (ap (λ z. cond z (Some e.1) (find nat_cmp q es)) k ∙ i)
+        | inl k ↦ (let same = eqb-true q e.0 (sym (same_test q e.0) ∙ k) in
+            let no : None ≡ Some r = sym (none_below e.0 es below) ∙ ap (λ z. find nat_cmp z es) (sym same) ∙ i in
+            absurd cc)
+      ]
+
 module _ (t : Operation) where
   found_role : (q : ℕ) (ss : List OpWithPath) → find nat_cmp q (roles_in t ss) ≡ option_map (role t) (find_op_with_path q ss)
   found_role q [] = refl
@@ -381,9 +428,58 @@ module _ (t : Operation) where
   roles_sorted [] = tt
   roles_sorted (s ∷ ss) = is_sorted-put nat_cmp nat_cmp_total (op_with_path_id s) (role t s) (roles_in t ss) (roles_sorted ss)
 
-  pub entries_meant : (b : ContextModel) (m : Roles) → idmap.IsOrdered m.all → Keeps b t (kept_at m) → meant b m.all.entries ≡ roles_by_id t
+  -- ---- plain roles that are omitted
+  abbrev has : Roles → ℕ → Bool
+  has m q = is_some (kept_at m q)
+
+  -- the entries of the roles of a tree that a table keeps
+  pub entries_meant : (b : ContextModel) (m : Roles) → idmap.IsOrdered m.all → Keeps b t (kept_at m) → meant b m.all.entries ≡ where_key nat_cmp (has m) (roles_by_id t)
   entries_meant b m ordered keeps =
-      same_entries nat_cmp nat_cmp_total nat_cmp-IsAntisymmetric (meant b m.all.entries) (roles_by_id t) (meant_sorted b m.all.entries ordered) (roles_sorted (stands [] t)) (λ q. find_meant b q m.all.entries ∙ (keeps q).is ∙ sym (found_role q (stands [] t)))
+      same_entries nat_cmp nat_cmp_total nat_cmp-IsAntisymmetric (meant b m.all.entries) (where_key nat_cmp (has m) (roles_by_id t)) (meant_sorted b m.all.entries ordered)
+      (is_sorted-where_key nat_cmp (has m) (roles_by_id t) (roles_sorted (stands [] t)))
+      (λ q. find_meant b q m.all.entries ∙ one q (kept_at m q) (keeps.says q) ∙ ap (λ o. cond (has m q) o None) (sym (found_role q (stands [] t))) ∙ sym (find-where_key nat_cmp (has m) q (λ x e. ap (has m) (sym (tied q x e))) (roles_by_id t)))
+    where
+      tied : (q x : ℕ) → nat_cmp q x ≡ Equal → q ≡ x
+      tied q x e = eqb-true q x (sym (same_test q x) ∙ ap is_eq e)
+
+      one : (q : ℕ) (k : Option Numbers) → MaySay b (role_of t q) k → option_map (role_meaning b) k ≡ cond (is_some k) (role_of t q) None
+      one q None s = refl
+      one q (Some k) s = (said b (role_of t q) k s).is
+
+  -- an entry of a tree is kept, or its role is plain
+  abbrev IsKeptOrPlain : Roles → ℕ → Role → Type 0
+  IsKeptOrPlain m q r = (has m q ≡ true) ⊎ IsPlain r
+
+  kept_or_plain : (b : ContextModel) (m : Roles) → Keeps b t (kept_at m) → (q : ℕ) (r : Role) → role_of t q ≡ Some r → IsKeptOrPlain m q r
+  kept_or_plain b m keeps q r is = go (kept_at m q) (keeps.says q)
+    where
+      go : (k : Option Numbers) → MaySay b (role_of t q) k → (is_some k ≡ true) ⊎ IsPlain r
+      go (Some k) s = inl refl
+      go None (inl s) = (let no : None ≡ Some r = s.is ∙ is in absurd cc)
+      go None (inr e) =
+          let two : Some e.role ≡ Some r = sym e.is ∙ is in
+          let one : e.role ≡ r = cc in
+          inr (subst (λ (z : Role). IsPlain z) one e.simple)
+
+  -- what roles contribute in order
+  module _ {X : Type 0} (f : ℕ → Role → List X) (reports_nothing : (x : ℕ) (r : Role) → IsPlain r → f x r ≡ []) where
+    abbrev pub contributed : RolesOf (List ℕ) TypeTerm AttrTerm → List X
+    contributed [] = []
+    contributed (e ∷ es) = f e.0 e.1 ++ contributed es
+
+    without_plain : (m : Roles) (es : RolesOf (List ℕ) TypeTerm AttrTerm) → Each (λ (e : ℕ × Role). IsKeptOrPlain m e.0 e.1) es → contributed (where_key nat_cmp (has m) es) ≡ contributed es
+    without_plain m [] k = refl
+    without_plain m (e ∷ es) k = go (has m e.0) refl k.0 (without_plain m es k.1)
+      where
+        go : (h : Bool) → has m e.0 ≡ h → IsKeptOrPlain m e.0 e.1 → contributed (where_key nat_cmp (has m) es) ≡ contributed es → contributed (cond h (e ∷ where_key nat_cmp (has m) es) (where_key nat_cmp (has m) es)) ≡ f e.0 e.1 ++ contributed es
+        go true i s rest = ap (λ l. f e.0 e.1 ++ l) rest
+        go false i (inl s) rest = absurd (true≢false (sym s ∙ i))
+        go false i (inr p) rest = rest ∙ sym (ap (λ l. l ++ contributed es) (reports_nothing e.0 e.1 p))
+
+    pub contributed_all : (b : ContextModel) (m : Roles) → idmap.IsOrdered m.all → Keeps b t (kept_at m) → contributed (meant b m.all.entries) ≡ contributed (roles_by_id t)
+    contributed_all b m ordered keeps =
+        ap contributed (entries_meant b m ordered keeps)
+        ∙ without_plain m (roles_by_id t) (each_found (IsKeptOrPlain m) (roles_by_id t) (roles_sorted (stands [] t)) (λ q r i. kept_or_plain b m keeps q r (sym (found_role q (stands [] t)) ∙ i)))
 
 -- ---- rows
 module _ (b c : ContextModel) (holds : Holds b) (g : IsExtendedBy b c) where
@@ -429,6 +525,75 @@ module _ (b c : ContextModel) (holds : Holds b) (g : IsExtendedBy b c) where
       let rest : cells_of rs ≡ lines_cells ls = cc in
       All-cons (RowIsOf c) r rs (subst (All (CellIsOf c)) (sym one) (cells_known l k.0)) (rows_known rs ls rest k.1)
 
+-- ---- the rows of a table that omits plain roles
+module _ (t : Operation) (b : ContextModel) (m : Roles) (ordered : idmap.IsOrdered m.all) (keeps : Keeps b t (kept_at m)) where
+  abbrev its : RolesOf (List ℕ) TypeTerm AttrTerm
+  its = meant b m.all.entries
+
+  not_defined : (home : Option ℕ) (x : ℕ) → defined {N = List ℕ} home None x ≡ []
+  not_defined None x = refl
+  not_defined (Some h) x = refl
+
+  pub definitions_all : definitions its ≡ definitions (roles_by_id t)
+  definitions_all = sym (each its) ∙ contributed_all t f reports_nothing b m ordered keeps ∙ each (roles_by_id t)
+    where
+      f : ℕ → Role → List (DefinitionOf (List ℕ))
+      f x r = defined r.home r.symbol x
+
+      reports_nothing : (x : ℕ) (r : Role) → IsPlain r → f x r ≡ []
+      reports_nothing x r p = ap (λ s. defined r.home s x) p.symbol ∙ not_defined r.home x
+
+      each : (es : RolesOf (List ℕ) TypeTerm AttrTerm) → contributed t f reports_nothing es ≡ definitions es
+      each [] = refl
+      each (e ∷ es) = ap (λ l. f e.0 e.1 ++ l) (each es)
+
+  undefined_all : undefined_names its ≡ undefined_names (roles_by_id t)
+  undefined_all = sym (each its) ∙ contributed_all t f reports_nothing b m ordered keeps ∙ each (roles_by_id t)
+    where
+      f : ℕ → Role → List (List ℕ)
+      f x r = undefined r.home r.symbol r.name
+
+      reports_nothing : (x : ℕ) (r : Role) → IsPlain r → f x r ≡ []
+      reports_nothing x r p = ap (undefined r.home r.symbol) p.name
+
+      each : (es : RolesOf (List ℕ) TypeTerm AttrTerm) → contributed t f reports_nothing es ≡ undefined_names es
+      each [] = refl
+      each (e ∷ es) = ap (λ l. f e.0 e.1 ++ l) (each es)
+
+  possible_all : (which : Definers) → possible_names which its ≡ possible_names which (roles_by_id t)
+  possible_all Listed = refl
+  possible_all AnyNamed = undefined_all
+
+  module _ (ds : List (DefinitionOf (List ℕ))) where
+    references_all : (possible : List ℕ → Bool) (resolved : Bool) → all_reference_lines bytes_eq (role_of t) ds possible resolved its ≡ all_reference_lines bytes_eq (role_of t) ds possible resolved (roles_by_id t)
+    references_all possible resolved = sym (each its) ∙ contributed_all t f reports_nothing b m ordered keeps ∙ each (roles_by_id t)
+      where
+        f : ℕ → Role → List (LineOf (List ℕ) AttrTerm)
+        f x r = reference_lines bytes_eq (role_of t) ds possible resolved x r.table r.references
+
+        reports_nothing : (x : ℕ) (r : Role) → IsPlain r → f x r ≡ []
+        reports_nothing x r p = ap (reference_lines bytes_eq (role_of t) ds possible resolved x r.table) p.references
+
+        each : (es : RolesOf (List ℕ) TypeTerm AttrTerm) → contributed t f reports_nothing es ≡ all_reference_lines bytes_eq (role_of t) ds possible resolved es
+        each [] = refl
+        each (e ∷ es) = ap (λ l. f e.0 e.1 ++ l) (each es)
+
+    mismatches_all : mismatch_lines bytes_eq same_type (role_of t) ds its ≡ mismatch_lines bytes_eq same_type (role_of t) ds (roles_by_id t)
+    mismatches_all = sym (each its) ∙ contributed_all t f reports_nothing b m ordered keeps ∙ each (roles_by_id t)
+      where
+        f : ℕ → Role → List (LineOf (List ℕ) AttrTerm)
+        f x r = call_line bytes_eq same_type (role_of t) ds x r.table r.call
+
+        reports_nothing : (x : ℕ) (r : Role) → IsPlain r → f x r ≡ []
+        reports_nothing x r p = ap (call_line bytes_eq same_type (role_of t) ds x r.table) p.call
+
+        each : (es : RolesOf (List ℕ) TypeTerm AttrTerm) → contributed t f reports_nothing es ≡ mismatch_lines bytes_eq same_type (role_of t) ds es
+        each [] = refl
+        each (e ∷ es) = ap (λ l. f e.0 e.1 ++ l) (each es)
+
+    lines_all : (possible : List ℕ → Bool) → lines_with bytes_eq same_type (role_of t) ds possible its ≡ lines_with bytes_eq same_type (role_of t) ds possible (roles_by_id t)
+    lines_all possible = λ i. definition_lines ds ++ (duplicate_lines bytes_eq ds ds ++ (references_all possible true i ++ (references_all possible false i ++ mismatches_all i)))
+
 pub shows_symbols : (c : ContextModel) (t : Operation) (which : Definers) (m : Roles) (rows : List Row) → idmap.IsOrdered m.all → IsKept c t (kept_at m)
     → cells_of rows ≡ lines_cells (symbol_lines eqb eqb which (numbers_at m) (numbered m.all.entries)) → Shows c rows (symbol_rows which t)
 shows_symbols c t which m rows ordered kept is =
@@ -437,13 +602,13 @@ shows_symbols c t which m rows ordered kept is =
     let es = m.all.entries in
     let ds = definitions (numbered es) in
     let names = possible_names which (numbered es) in
-    let ek = entries_known b es ordered (λ q r i. subst (λ (o : Option Numbers). IfSome o (RoleIsOf b)) i (keeps q).known) in
+    let ek = entries_known b es ordered (λ q r i. subst (λ (o : Option Numbers). IfSome o (RoleIsOf b)) i (entry_known b (role_of t q) (kept_at m q) (keeps.says q))) in
     let dk = definitions_known b es ek in
     let nk = possible_known b which es ek in
-    let em = entries_meant t b m ordered keeps in
     let same =
     sym (lines_meant b kept.sound t m keeps ds dk names nk es ek)
-    ∙ (λ i. lines_with bytes_eq same_type (role_of t) ((sym (definitions_meant b es) ∙ ap definitions em) i) (is_among bytes_eq ((sym (possible_meant b which es) ∙ ap (possible_names which) em) i)) (em i)) in
+    ∙ (λ i. lines_with bytes_eq same_type (role_of t) ((sym (definitions_meant b es) ∙ definitions_all t b m ordered keeps) i) (is_among bytes_eq ((sym (possible_meant b which es) ∙ possible_all t b m ordered keeps which) i)) (meant b es))
+    ∙ lines_all t b m ordered keeps (definitions (roles_by_id t)) (is_among bytes_eq (possible_names which (roles_by_id t))) in
     let lk = lines_known b kept.sound t m keeps ds dk names nk es ek in
     record {
       says = rows_say b c kept.sound.holds kept.grown rows _ is lk ∙ ap (map (line_cells Tag Op Name Path)) same;

@@ -1,5 +1,5 @@
 -- Roles in numbers of a context, and tables of them.
-use Rattle.std.specs.Prelude.{◌≡◌, ◌⊎◌, ℕ, List, map, eqb, Bool, true, false, if◌then◌else◌, Option, Some, None}
+use Rattle.std.specs.Prelude.{◌≡◌, ◌⊎◌, ℕ, List, [], map, eqb, Bool, true, false, if◌then◌else◌, Option, Some, None}
 use Rattle.std.specs.Prelude.{option_map, is_some, IfSome}
 use Rattle.std.specs.List.{All, list_any}
 use Rattle.ir_event.specs.types.Things.{ContextModel, IsName, IsType, IsAttr, IsExtendedBy}
@@ -14,6 +14,8 @@ use Rattle.ir_event.specs.declared.event.Event.{Event}
 use Rattle.ir_event.specs.declared.event.Event.TheVariants.{Put, Take, SetOperand, SetEntry, Shift}
 use Rattle.ir_event.specs.Rows.{IsSymbol}
 use Rattle.ir_event.specs.declared.world.World.{World}
+use Rattle.listeners_support.specs.Map.{IdMap}
+use Rattle.listeners_support.specs.Map as idmap
 use Rattle.listeners_symbols.specs.declared.role.Role.{Role as Numbers}
 use Rattle.listeners_symbols.specs.declared.role.Reference.{Reference}
 use Rattle.listeners_symbols.specs.declared.role.Call.{Call}
@@ -116,9 +118,34 @@ pub record Says (c : ContextModel) (r : Option Role) (kept : Option Numbers) : T
   pub is : option_map (role_meaning c) kept ≡ r
   pub known : IfSome kept (RoleIsOf c)
 
--- the table keeps exactly the roles of the tree's operations, in numbers of a context
-abbrev pub Keeps : ContextModel → Operation → Table → Type 0
-Keeps c t table = (x : ℕ) → Says c (role_of t x) (table x)
+-- a role that contributes nothing to a report, and that no reference resolves through
+pub record IsPlain {N T A : Type 0} (r : RoleOf N T A) : Type 0 where
+  pub is_table : r.is_table ≡ false
+  pub symbol : r.symbol ≡ None
+  pub name : r.name ≡ None
+  pub references : r.references ≡ []
+  pub call : r.call ≡ None
+  pub function : r.function ≡ None
+
+-- an operation with a plain role that has no entry
+pub record IsOmitted (r : Option Role) (kept : Option Numbers) : Type 0 where
+  pub none : kept ≡ None
+  pub role : Role
+  pub is : r ≡ Some role
+  pub simple : IsPlain role
+
+-- the entry is this role, or a plain role has no entry
+abbrev pub MaySay : ContextModel → Option Role → Option Numbers → Type 0
+MaySay c r kept = Says c r kept ⊎ IsOmitted r kept
+
+-- an operation with an entry has a parent with an entry, or no parent
+abbrev pub HasParents : Table → Type 0
+HasParents table = (x : ℕ) (r : Numbers) → table x ≡ Some r → IfSome r.parent (λ p. is_some (table p) ≡ true)
+
+-- the table keeps the roles of the tree's operations, in numbers of a context, but it may omit plain roles
+pub record Keeps (c : ContextModel) (t : Operation) (table : Table) : Type 0 where
+  pub says : (x : ℕ) → MaySay c (role_of t x) (table x)
+  pub parents : HasParents table
 
 -- the numbers are those of a sound context that has grown to this one, so equal things have equal numbers
 pub record IsKept (c : ContextModel) (t : Operation) (table : Table) : Type 0 where
@@ -132,11 +159,22 @@ abbrev pub IsRight : ContextModel → Operation → ℕ → Table → Option Num
 IsRight c t x table kept = has_id x t ≡ true → ((p : ℕ) → parent_of x t ≡ Some p → Says c (role_of t p) (table p))
     → Says c (role_of t x) kept
 
+-- the same for an entry that may be omitted
+abbrev pub MayBeRight : ContextModel → Operation → ℕ → Table → Option Numbers → Type 0
+MayBeRight c t x table kept = has_id x t ≡ true
+    → ((p : ℕ) → parent_of x t ≡ Some p → Says c (role_of t p) (table p)) → MaySay c (role_of t x) kept
+
+-- the role was entered for x; a plain role may be omitted if x had no entry
+abbrev pub Entered : IdMap Numbers → IdMap Numbers → ℕ → Numbers → Type 0
+Entered before after x r = idmap.Updates before after x (Some r)
+    ⊎ (IsPlain (role_numbers r) × (idmap.get before x ≡ None) × ((y : ℕ) → idmap.get after y ≡ idmap.get before y))
+
 -- the table after the entry of x was updated: it is right if the entry of the parent was there and right
 pub record Renewed (c : ContextModel) (t : Operation) (x : ℕ) (before after : Table) : Type 0 where
-  pub own : IsRight c t x before (after x)
-  pub there : is_some (after x) ≡ true
+  pub own : MayBeRight c t x before (after x)
+  pub stays : is_some (before x) ≡ true → is_some (after x) ≡ true
   pub parent : (p : ℕ) → parent_of x t ≡ Some p → is_some (before p) ≡ true
+  pub parents : (r : Numbers) → after x ≡ Some r → IfSome r.parent (λ p. is_some (before p) ≡ true)
   pub others : (y : ℕ) → eqb x y ≡ false → after y ≡ before y
 
 -- the table keeps the roles of some operations of a tree
@@ -147,7 +185,9 @@ AreRight c t table = (x : ℕ) (r : Numbers) → table x ≡ Some r → Says c (
 pub record Added (c : ContextModel) (t : Operation) (xs : List ℕ) (before after : Table) : Type 0 where
   pub right : ((x : ℕ) → list_any (λ y. eqb y x) xs ≡ true → has_id x t ≡ true) → AreRight c t before
       → AreRight c t after
-  pub there : (x : ℕ) → list_any (λ y. eqb y x) xs ≡ true → is_some (after x) ≡ true
+  pub says : ((x : ℕ) → list_any (λ y. eqb y x) xs ≡ true → has_id x t ≡ true) → AreRight c t before → (x : ℕ)
+      → list_any (λ y. eqb y x) xs ≡ true → MaySay c (role_of t x) (after x)
+  pub parents : HasParents before → HasParents after
   pub others : (x : ℕ) → list_any (λ y. eqb y x) xs ≡ false → after x ≡ before x
 
 -- the table without x

@@ -177,6 +177,7 @@ pub(crate) fn gather(
     ensures parent { IfOk result
         (λ _. (p : ℕ) → parent_of op (module_in view.old.world.now).tree ≡ Some p
         → is_some (kept_at roles.now p) ≡ true) }
+    ensures parents { IfOk result (λ r. IfSome r.parent (λ p. is_some (kept_at roles.now p) ≡ true)) }
     ensures role { IfOk result
         (λ r. IsRight view.old.world.now.ctx (module_in view.old.world.now).tree op (kept_at roles.now) (Some r)) }
     ensures looks { view.new.looks ≤ view.old.looks + (1 + operand_count (known op view.old.world.now.store)) }

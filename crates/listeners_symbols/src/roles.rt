@@ -5,6 +5,7 @@ ghost use Rattle.std.specs.Ordering.{nat_cmp};
 ghost use Rattle.listeners_support.specs.Map as idmap;
 ghost use Rattle.std.specs.BTreeSet as set;
 ghost use Rattle.std.specs.BTreeSet.{contains};
+ghost use Rattle.listeners_symbols.specs.Table.{Entered, IsPlain, role_numbers};
 ghost use Rattle.listeners_symbols.specs.Telling.{HasThose, HasThose-prop, has_some, hides, names, concerns_symbols};
 
 use crate::role::Role;
@@ -13,7 +14,9 @@ use listeners_support::IdMap;
 use std::alloc::{AllocError, Global};
 use std::collections::BTreeSet;
 
-/// The role of each operation, and the sets of operations that reports visit.
+/// The roles of operations, and the sets of operations that reports visit.
+///
+/// A plain role, which contributes nothing to a report, has no entry unless the operation has regions.
 #[derive(Drop)]
 pub struct Roles {
     pub all: IdMap<Role>,
@@ -61,8 +64,19 @@ impl Roles {
         self.all.get(op.number())
     }
 
+    /// Enters the role of an operation, except a plain role of an operation without regions that has no entry. If
+    /// memory runs out, the roles are unchanged.
+    pub fn enter(&mut self, op: OpId, role: Role, has_regions: bool) -> Result<(), AllocError>
+        ensures entered { OnOk result (Entered self.old.all self.new.all op role) }
+    {
+        if !has_regions && is_plain(&role) && !self.all.contains_key(op.number()) {
+            return Ok(());
+        }
+        self.insert(op, role)
+    }
+
     /// Sets the role of an operation. If memory runs out, the roles are unchanged.
-    pub fn insert(&mut self, op: OpId, role: Role) -> Result<(), AllocError>
+    fn insert(&mut self, op: OpId, role: Role) -> Result<(), AllocError>
         ensures updates { OnOk result (idmap.Updates self.old.all self.new.all op (Some role)) }
     {
         let symbol_ops = concerns_symbols(&role);
@@ -132,6 +146,16 @@ fn names(role: &Role) -> bool
     ensures { result ≡ names role.now }
 {
     !defines(role) && role.name.is_some()
+}
+
+/// Returns whether a role contributes nothing to a report, and no reference resolves through the operation.
+fn is_plain(role: &Role) -> bool
+    ensures { result ≡ true → IsPlain (role_numbers role.now) }
+{
+    if role.is_table || role.symbol.is_some() || role.name.is_some() {
+        return false;
+    }
+    !refers(role) && role.call.is_none() && role.function.is_none()
 }
 
 /// Returns whether there is a role and it satisfies `concerns_symbols`. No contract depends on it, because the set may have more.

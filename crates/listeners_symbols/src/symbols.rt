@@ -15,8 +15,8 @@ use std::alloc::Global;
 /// The analysis `symbols`: the symbols that a module defines, and the definitions to which its references resolve
 /// (Symbols and Symbol Tables).
 ///
-/// It keeps the role of each operation, which depends on the operation and its position. A report resolves the
-/// references.
+/// It keeps the roles of operations, which depend on the operation and its position, except most that contribute
+/// nothing. A report resolves the references.
 #[derive(Drop)]
 pub struct Symbols {
     alloc: Global,

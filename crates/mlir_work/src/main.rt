@@ -11,7 +11,7 @@ use crate::files::{
 use crate::messages::{module_message, pattern_message, summary};
 use clap::Error;
 use clap::error::ErrorKind;
-use mlir_work_analyses::any_analysis::all_listeners;
+use mlir_work_analyses::any_analysis::listed_listeners;
 use mlir_work_cli::count::op_count;
 use mlir_work_cli::dry_run::Bytes;
 use mlir_work_cli::error::PatternError;
@@ -21,7 +21,7 @@ use mlir_work_cli::live::run_live;
 use mlir_work_cli::options::{CommandLine, Format, options_of};
 use mlir_work_cli::positions::line_feeds;
 use mlir_work_cli::reading::PatternFileError;
-use mlir_work_cli::run::{Options, ParseError, run_watched, tree_of};
+use mlir_work_cli::run::{ParseError, run_watched, tree_of};
 use mlir_work_cli::sink::Sink;
 use mlir_work_cli::source::Source;
 use mlir_work_cli::watched::Watched;
@@ -166,8 +166,8 @@ fn line_after(first: usize, input: &[u8]) -> usize {
     first.saturating_add(line_feeds(text)).saturating_add(1)
 }
 
-/// Runs the input of a reader with the program's analyses, in the order of their kinds, and user patterns. Returns
-/// the status.
+/// Runs the input of a reader with the listed analyses, in the order of their kinds, and user patterns. Returns the
+/// status.
 fn run_one<R: Source, W: Sink>(
     rt: &HostRuntime,
     given: &CommandLine<'_>,
@@ -175,7 +175,7 @@ fn run_one<R: Source, W: Sink>(
     reader: &mut R,
     writer: &mut W,
 ) -> Result<u8, AllocError> {
-    let boxes = all_listeners(rt.alloc(), given.options.opaque)?;
+    let boxes = listed_listeners(rt.alloc(), given.options.opaque, &given.analyses)?;
     let registry = rebuild_registry(rt.alloc(), patterns)?;
     let (alloc, key, options) = (rt.alloc(), key_of(rt), given.options);
     match given.format {
@@ -273,14 +273,14 @@ fn run_named(
     }
 }
 
-/// Answers each line of standard input at once, with the program's analyses, in the order of their kinds, and user
+/// Answers each line of standard input at once, with the listed analyses, in the order of their kinds, and user
 /// patterns. Returns the status, which is also 4 if a line is too long or memory ran out for one.
 fn answer_lines(
     rt: &HostRuntime,
-    options: Options,
+    given: &CommandLine<'_>,
     patterns: &[PatternFile<'_>],
 ) -> Result<u8, AllocError> {
-    let listeners = all_listeners(rt.alloc(), options.opaque)?;
+    let listeners = listed_listeners(rt.alloc(), given.options.opaque, &given.analyses)?;
     let registry = rebuild_registry(rt.alloc(), patterns)?;
     let Ok(writer) = BufWriter::new(rt.alloc(), io::writer(rt)) else {
         return Err(AllocError);
@@ -291,7 +291,7 @@ fn answer_lines(
     let ran = run_live(
         rt.alloc(),
         key,
-        options,
+        given.options,
         &mut reader,
         &mut writer,
         listeners,
@@ -310,7 +310,7 @@ fn run_with(
         return run_named(rt, given, patterns);
     }
     if given.options.ends {
-        return answer_lines(rt, given.options, patterns);
+        return answer_lines(rt, given, patterns);
     }
     run_standard(rt, given, patterns)
 }

@@ -1,5 +1,6 @@
 -- The meaning of each of the seven analyses, and the analysis of each kind.
-use Rattle.std.specs.Prelude.{◌≡◌, ℕ, List, [], ◌∷◌, map, ◌==◌, Bool, false, true, Option, Some, None, if◌then◌else◌}
+use Rattle.std.specs.Prelude.{◌≡◌, ℕ, List, [], ◌∷◌, map, filter, ◌==◌, Bool, false, true, Option, Some, None, if◌then◌else◌}
+use Rattle.std.specs.List.{list_any}
 use Rattle.ir_event.specs.trees.Meaning.{Operation}
 use Rattle.ir_event.specs.Rows.{RowTerm}
 use Rattle.ir_event.specs.Listener.{Listener}
@@ -53,7 +54,25 @@ seven_supply opaque kind =
     else if kind == 7 then unbegun 7 unreached_rows
     else None
 
+-- the kinds of the seven analyses in order
+abbrev pub seven_kinds : List ℕ
+seven_kinds = 1 ∷ 2 ∷ 3 ∷ 4 ∷ 5 ∷ 6 ∷ 7 ∷ []
+
 -- all seven analyses in the order of their kinds; none has begun
 abbrev pub AreSeven : Bool → List AnyAnalysis → Type 0
-AreSeven opaque all =
-    map Some (all_shown any_analysis all) ≡ map (seven_supply opaque) (1 ∷ 2 ∷ 3 ∷ 4 ∷ 5 ∷ 6 ∷ 7 ∷ [])
+AreSeven opaque all = map Some (all_shown any_analysis all) ≡ map (seven_supply opaque) seven_kinds
+
+-- whether a kind is listed
+abbrev pub is_listed : List ℕ → ℕ → Bool
+is_listed listed kind = list_any (λ k. k == kind) listed
+
+-- the ones of the seven analyses whose kinds are listed, in the order of their kinds; none has begun
+abbrev pub AreListed : Bool → List ℕ → List AnyAnalysis → Type 0
+AreListed opaque listed all =
+    map Some (all_shown any_analysis all) ≡ map (seven_supply opaque) (filter (is_listed listed) seven_kinds)
+
+-- one analysis, if it is wanted and there is one
+abbrev pub shown_if : Bool → Option Shown → List Shown
+shown_if true (Some new) = new ∷ []
+shown_if true None = []
+shown_if false found = []

@@ -1,6 +1,7 @@
 //! The seven analyses as one type. A list of it needs no boxes, and a C struct can store it, unlike `dyn Analysis`.
-ghost use Rattle.std.specs.Prelude.{◌≡◌, IfOk};
-ghost use Rattle.mlir_work_analyses.specs.Listeners.{AreSeven};
+ghost use Rattle.std.specs.Prelude.{◌≡◌, ◌++◌, IfOk};
+ghost use Rattle.rewriter_machine.specs.Panels.{all_shown};
+ghost use Rattle.mlir_work_analyses.specs.Listeners.{AreListed, AreSeven, any_analysis, is_listed, seven_supply, shown_if};
 ghost use Rattle.mlir_work_analyses.specs.Listeners as the;
 
 use constants::constants::Constants;
@@ -142,5 +143,67 @@ pub fn all_listeners(alloc: Global, opaque: bool) -> Result<Vec<AnyAnalysis>, Al
     all.push(AnyAnalysis::Dead(Dead::new(alloc)))?;
     all.push(AnyAnalysis::Constants(Constants::new(alloc)))?;
     all.push(AnyAnalysis::Unreached(Unreached::new(alloc)))?;
+    Ok(all)
+}
+
+/// The kinds of the seven analyses in order.
+const KINDS: [Kind; 7] = [
+    Kind::USES,
+    Kind::SYMBOLS,
+    Kind::DIAGNOSTICS,
+    Kind::EFFECTS,
+    Kind::DEAD,
+    Kind::CONSTANTS,
+    Kind::UNREACHED,
+];
+
+/// Returns whether a kind is listed.
+fn is_listed(listed: &[Kind], kind: Kind) -> bool
+    ensures { result ≡ is_listed listed.now kind }
+{
+    listed.contains(&kind)
+}
+
+/// Appends a new analysis of a kind, if the kind is listed and has an analysis.
+fn add_listed(
+    alloc: Global,
+    opaque: bool,
+    listed: &[Kind],
+    kind: Kind,
+    all: &mut Vec<AnyAnalysis>,
+) -> Result<(), AllocError>
+    ensures { IfOk result (λ _. all_shown any_analysis all.new.items
+        ≡ all_shown any_analysis all.old.items ++ shown_if (is_listed listed.now kind) (seven_supply opaque kind)) }
+{
+    if !is_listed(listed, kind) {
+        return Ok(());
+    }
+    match AnyAnalysis::new_of_kind(alloc, opaque, kind) {
+        Some(analysis) => {
+            all.push(analysis)?;
+            Ok(())
+        }
+        None => Ok(()),
+    }
+}
+
+/// Returns the ones of the seven analyses whose kinds are listed, in the order of their kinds. None has begun. The
+/// order of the list doesn't matter, nor does a kind that is listed twice. `opaque` says whether unregistered types and
+/// attributes are accepted as opaque ones.
+///
+/// Errors: memory runs out.
+pub fn listed_listeners(
+    alloc: Global,
+    opaque: bool,
+    listed: &[Kind],
+) -> Result<Vec<AnyAnalysis>, AllocError>
+    ensures { IfOk result (λ all. AreListed opaque listed.now all.items) }
+{
+    let mut all = Vec::new(alloc);
+    let mut rest: &[Kind] = &KINDS;
+    'all_kinds: while let [kind, tail @ ..] = rest {
+        add_listed(alloc, opaque, listed, *kind, &mut all)?;
+        rest = tail;
+    }
     Ok(all)
 }

@@ -240,6 +240,11 @@ fn show_why(alloc: Global, op: OpId, rule: &Option<RuleName<'_>>) -> Result<Stri
     }
 }
 
+/// A line that shows operations.
+fn show_shown(alloc: Global, op: OpId, count: u32) -> Result<String, AllocError> {
+    format!(in alloc; "show {} count {count}", op.number())
+}
+
 /// A line that asks for the rows about an operation or a value.
 fn show_about(alloc: Global, kind: Kind, subject: &Subject) -> Result<String, AllocError> {
     match subject {
@@ -275,6 +280,8 @@ fn show_session_command(alloc: Global, order: &SessionCommand<'_>) -> Result<Str
         SessionCommand::TraceConvert { full, clauses } => show_convert_trace(alloc, *full, clauses),
         SessionCommand::CanonAt { op, limit } => show_canon_at(alloc, *op, *limit),
         SessionCommand::Why { op, rule } => show_why(alloc, *op, rule),
+        SessionCommand::ShowAll => String::from_str(alloc, "show all"),
+        SessionCommand::ShowFrom { op, count } => show_shown(alloc, *op, *count),
     }
 }
 

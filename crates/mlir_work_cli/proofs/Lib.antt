@@ -2,3 +2,5 @@ pub mod JsonEnds
 mod Joined
 mod Ending
 mod Precedings
+mod Rows
+mod Program

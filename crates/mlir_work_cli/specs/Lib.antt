@@ -3,3 +3,7 @@ pub mod Inputs
 pub mod Patterns
 pub mod Readings
 pub mod Positions
+pub mod ListedKinds
+pub mod Arguments
+pub mod ArgValues
+pub mod CommandLines

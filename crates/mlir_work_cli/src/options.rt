@@ -1,19 +1,22 @@
 //! Parses the command line.
+ghost use Rattle.std.specs.Prelude.{◌≡◌, ◌&&◌, IfErr, IfOk, codes, map, option_map, true};
+ghost use Rattle.clap.specs.Words.{found_of, kind_of, rows_of, takes};
+ghost use Rattle.clap.specs.declared.error.kind.ErrorKind.TheVariants.{OutOfMemory};
+ghost use Rattle.mlir_work_cli.specs.ArgValues.{given, is_set};
+ghost use Rattle.mlir_work_cli.specs.Arguments.{program};
+ghost use Rattle.mlir_work_cli.specs.CommandLines.{HasOptions, HasValues, IsCommandLine, IsLine, excludes_interactive};
+ghost use Rattle.mlir_work_cli.specs.CommandLines.{format_named, format_of, is_accepted, is_json, list_of};
+ghost use Rattle.mlir_work_cli.specs.ListedKinds.{kinds_in};
 
+use crate::arg_values::{first_of, is_given, is_set, limit_of, values_of};
+use crate::arguments::{command, worded_command};
+use crate::listed_kinds::kinds_in;
 use crate::text;
-use clap::{Arg, ArgAction, ArgMatches, Command, Error, value_parser};
+use clap::error::ErrorKind;
+use clap::{ArgMatches, Error};
 use mlir_work_run::run::Options;
+use mlir_work_script_base::kind::Kind;
 use std::alloc::{AllocError, Global};
-
-/// The largest value of `--limit`.
-const MOST_LIMIT: i64 = 1_000_000;
-
-/// The rewrite limit of a `canon` without a limit, if the command line gives none. `text::DEFAULT_LIMIT` shows the
-/// same number.
-const DEFAULT_LIMIT: u32 = 1000;
-
-/// The values of `--format`.
-const FORMATS: &[&str] = &[text::TEXT, text::JSON];
 
 /// The format of the output.
 #[derive(Clone, Copy, Debug, PartialEq, Eq)]
@@ -35,6 +38,8 @@ pub struct CommandLine<'a> {
     pub scripts: Vec<&'a str>,
     /// The commands in order. They run after the scripts.
     pub commands: Vec<&'a str>,
+    /// The kinds of analyses to attach at the start, in any order. One may be there twice.
+    pub analyses: Vec<Kind>,
     /// The files of user patterns in order.
     pub patterns: Vec<&'a str>,
     /// The output file, if one is named; `-` is standard output.
@@ -45,191 +50,184 @@ pub struct CommandLine<'a> {
     pub split: bool,
 }
 
-/// Declares `--brief`.
-fn brief<'a>(alloc: Global) -> Arg<'a> {
-    Arg::new(alloc, "brief")
-        .long("brief")
-        .help(text::BRIEF)
-        .action(ArgAction::SetTrue)
+/// Returns the format with this word, or `None`.
+fn format_named(word: &str) -> Option<Format>
+    ensures { result ≡ format_named word.now }
+{
+    if word == text::JSON {
+        return Some(Format::Json);
+    }
+    if word == text::TEXT {
+        return Some(Format::Text);
+    }
+    None
 }
 
-/// Declares `--limit`.
-fn limit<'a>(alloc: Global) -> Arg<'a> {
-    Arg::new(alloc, "limit")
-        .long("limit")
-        .value_name("N")
-        .help(text::LIMIT)
-        .default_value(text::DEFAULT_LIMIT)
-        .value_parser(value_parser!(u32).range(1..=MOST_LIMIT))
+/// Returns the requested output format, or `None` if its word isn't known.
+fn format_of(matches: &ArgMatches<'_>) -> Option<Format>
+    ensures { result ≡ format_of (rows_of (found_of matches.now)) }
+{
+    match first_of(matches, "format") {
+        Some(word) => format_named(word),
+        None => Some(Format::Text),
+    }
 }
 
-/// Declares `--opaque`.
-fn opaque<'a>(alloc: Global) -> Arg<'a> {
-    Arg::new(alloc, "opaque")
-        .long("opaque")
-        .help(text::OPAQUE)
-        .action(ArgAction::SetTrue)
+/// Returns whether a format is JSON.
+fn is_json(format: Format) -> bool
+    ensures { result ≡ is_json format }
+{
+    match format {
+        Format::Json => true,
+        Format::Text => false,
+    }
 }
 
-/// Declares `--explain`.
-fn explain<'a>(alloc: Global) -> Arg<'a> {
-    Arg::new(alloc, "explain")
-        .long("explain")
-        .help(text::EXPLAIN)
-        .action(ArgAction::SetTrue)
+/// Returns the list of analyses to attach.
+fn list_of<'a>(matches: &ArgMatches<'a>) -> &'a str
+    ensures { result.now ≡ list_of (rows_of (found_of matches.now)) }
+{
+    match first_of(matches, "analyses") {
+        Some(list) => list,
+        None => text::ALL,
+    }
 }
 
-/// Declares `--strict`.
-fn strict<'a>(alloc: Global) -> Arg<'a> {
-    Arg::new(alloc, "strict")
-        .long("strict")
-        .help(text::STRICT)
-        .action(ArgAction::SetTrue)
+/// Returns the kinds of analyses to attach, or `None` if an item of the list isn't known.
+fn analyses_of(alloc: Global, matches: &ArgMatches<'_>) -> Result<Option<Vec<Kind>>, AllocError>
+    ensures { IfOk result (λ found.
+        option_map (λ named. named.items) found ≡ kinds_in (list_of (rows_of (found_of matches.now)))) }
+{
+    kinds_in(alloc, list_of(matches).as_bytes())
 }
 
-/// Declares `--format`.
-fn output_format<'a>(alloc: Global) -> Arg<'a> {
-    Arg::new(alloc, "format")
-        .long("format")
-        .value_name("FORMAT")
-        .help(text::FORMAT)
-        .default_value(text::TEXT)
-        .value_parser(FORMATS)
-        .hide_possible_values(true)
+/// Returns whether an argument is given that excludes `--interactive`: with it, lines come from standard input only.
+fn excludes_interactive(matches: &ArgMatches<'_>) -> bool
+    ensures { result ≡ excludes_interactive (rows_of (found_of matches.now)) }
+{
+    is_given(matches, "module")
+        || is_given(matches, "script")
+        || is_given(matches, "command")
+        || is_given(matches, "output")
+        || is_given(matches, "split")
+        || is_given(matches, "format")
 }
 
-/// Declares `--split-input-file`.
-fn split<'a>(alloc: Global) -> Arg<'a> {
-    Arg::new(alloc, "split")
-        .long("split-input-file")
-        .help(text::SPLIT)
-        .action(ArgAction::SetTrue)
+/// Returns whether arguments exclude each other.
+fn is_contradictory(matches: &ArgMatches<'_>) -> bool
+    ensures { result ≡ (is_set (rows_of (found_of matches.now)) (codes "interactive")
+        && excludes_interactive (rows_of (found_of matches.now))) }
+{
+    is_set(matches, "interactive") && excludes_interactive(matches)
 }
 
-/// Declares `--interactive`. It conflicts with the options that name files or commands, since lines then come from
-/// standard input only, and with `--format`.
-fn interactive<'a>(alloc: Global) -> Result<Arg<'a>, AllocError> {
-    Arg::new(alloc, "interactive")
-        .long("interactive")
-        .help(text::INTERACTIVE)
-        .action(ArgAction::SetTrue)
-        .conflicts_with("module")?
-        .conflicts_with("script")?
-        .conflicts_with("command")?
-        .conflicts_with("output")?
-        .conflicts_with("split")?
-        .conflicts_with("format")
+/// Returns the options of a run.
+fn run_options(matches: &ArgMatches<'_>, format: Format) -> Options
+    ensures { HasOptions (rows_of (found_of matches.now)) format result }
+{
+    Options {
+        brief: is_set(matches, "brief"),
+        limit: limit_of(matches),
+        ends: is_set(matches, "interactive"),
+        opaque: is_set(matches, "opaque"),
+        explain: is_set(matches, "explain") || is_json(format),
+        strict: is_set(matches, "strict"),
+    }
 }
 
-/// Declares the positional argument MODULE.
-fn module<'a>(alloc: Global) -> Arg<'a> {
-    Arg::new(alloc, "module")
-        .value_name("MODULE")
-        .help(text::MODULE)
+/// Returns what the words give for each argument.
+fn parsed<'a>(alloc: Global, words: &'a [String]) -> Result<ArgMatches<'a>, Error>
+    ensures found { IfOk result (λ m. rows_of (found_of m) ≡ given (map (λ w. w.bytes.items) words.entry.now)) }
+    ensures passes { IfErr result (λ error. takes program (map (λ w. w.bytes.items) words.entry.now) ≡ true
+        → kind_of error ≡ OutOfMemory) }
+{
+    let command = command(alloc)?;
+    command.try_get_matches_from(words)
 }
 
-/// Declares `--script`.
-fn script<'a>(alloc: Global) -> Arg<'a> {
-    Arg::new(alloc, "script")
-        .short('s')
-        .long("script")
-        .value_name("FILE")
-        .help(text::SCRIPT)
-        .action(ArgAction::Append)
-}
-
-/// Declares `--command`.
-fn line<'a>(alloc: Global) -> Arg<'a> {
-    Arg::new(alloc, "command")
-        .short('e')
-        .long("command")
-        .value_name("COMMAND")
-        .help(text::COMMAND)
-        .action(ArgAction::Append)
-}
-
-/// Declares `--patterns`.
-fn patterns<'a>(alloc: Global) -> Arg<'a> {
-    Arg::new(alloc, "patterns")
-        .long("patterns")
-        .value_name("FILE")
-        .help(text::PATTERNS)
-        .action(ArgAction::Append)
-}
-
-/// Declares `--output`.
-fn output<'a>(alloc: Global) -> Arg<'a> {
-    Arg::new(alloc, "output")
-        .short('o')
-        .long("output")
-        .value_name("FILE")
-        .help(text::OUTPUT)
-}
-
-/// Declares the command line of the program.
-fn command<'a>(alloc: Global) -> Result<Command<'a>, AllocError> {
-    Command::new(alloc, "mlir_work")
-        .version(text::VERSION)
-        .about(text::ABOUT)
-        .after_help(text::AFTER)
-        .arg(module(alloc))?
-        .arg(script(alloc))?
-        .arg(line(alloc))?
-        .arg(patterns(alloc))?
-        .arg(output(alloc))?
-        .arg(brief(alloc))?
-        .arg(limit(alloc))?
-        .arg(opaque(alloc))?
-        .arg(explain(alloc))?
-        .arg(strict(alloc))?
-        .arg(output_format(alloc))?
-        .arg(split(alloc))?
-        .arg(interactive(alloc)?)
-}
-
-/// Returns the values of a repeatable option in order.
-fn values_of<'a>(
+/// Returns the command line with the values that were found.
+fn filled<'a>(
     alloc: Global,
     matches: &ArgMatches<'a>,
-    name: &str,
-) -> Result<Vec<&'a str>, AllocError> {
-    let mut values = Vec::new(alloc);
-    if let Some(found) = matches.get_strs(name) {
-        values.extend_from_slice(found)?;
-    }
-    Ok(values)
+    format: Format,
+    analyses: Vec<Kind>,
+) -> Result<CommandLine<'a>, AllocError>
+    ensures { IfOk result (HasValues (rows_of (found_of matches.now)) format analyses.items) }
+{
+    Ok(CommandLine {
+        options: run_options(matches, format),
+        module: first_of(matches, "module"),
+        scripts: values_of(alloc, matches, "script")?,
+        commands: values_of(alloc, matches, "command")?,
+        analyses,
+        patterns: values_of(alloc, matches, "patterns")?,
+        output: first_of(matches, "output"),
+        format,
+        split: is_set(matches, "split"),
+    })
 }
 
-/// Returns the requested output format.
-fn format_of(matches: &ArgMatches<'_>) -> Format {
-    match matches.get_str("format") {
-        Some(word) if word == text::JSON => Format::Json,
-        _ => Format::Text,
+/// Returns the command line that was found, or `None` if a value isn't known or arguments exclude each other.
+fn line_of<'a>(
+    alloc: Global,
+    matches: &ArgMatches<'a>,
+) -> Result<Option<CommandLine<'a>>, AllocError>
+    ensures { IfOk result (IsLine (rows_of (found_of matches.now))) }
+{
+    let Some(format) = format_of(matches) else {
+        return Ok(None);
+    };
+    let Some(analyses) = analyses_of(alloc, matches)? else {
+        return Ok(None);
+    };
+    if is_contradictory(matches) {
+        return Ok(None);
     }
+    let line = filled(alloc, matches, format, analyses)?;
+    Ok(Some(line))
+}
+
+/// Returns an error with a text that names the mistake in refused words: that of a parse that also knows the values of
+/// `--format` and `--analyses` and which arguments exclude `--interactive`. Without such an error, returns `error`.
+fn worded<'a>(alloc: Global, words: &'a [String], error: Error) -> Error
+    ensures { kind_of error ≡ OutOfMemory → kind_of result ≡ OutOfMemory }
+{
+    if error.kind() == ErrorKind::OutOfMemory {
+        return error;
+    }
+    let Ok(command) = worded_command(alloc) else {
+        return Error::from(AllocError);
+    };
+    match command.try_get_matches_from(words) {
+        Ok(_) => error,
+        Err(worded) => worded,
+    }
+}
+
+/// Returns an error for values that aren't known and arguments that exclude each other.
+fn inconsistent(alloc: Global) -> Result<Error, AllocError> {
+    let mut command = command(alloc)?;
+    command.error(
+        ErrorKind::ValueValidation,
+        "a value isn't known, or arguments exclude each other",
+    )
 }
 
 /// Parses the words of a command line, with the program's name first.
 ///
-/// Errors: a malformed command line; the text of `--help` or `--version`; memory runs out.
-pub fn options_of<'a>(alloc: Global, words: &'a [String]) -> Result<CommandLine<'a>, Error> {
-    let command = command(alloc)?;
-    let matches = command.try_get_matches_from(words)?;
-    let format = format_of(&matches);
-    Ok(CommandLine {
-        options: Options {
-            brief: matches.get_flag("brief"),
-            limit: matches.get_one::<u32>("limit").unwrap_or(DEFAULT_LIMIT),
-            ends: matches.get_flag("interactive"),
-            opaque: matches.get_flag("opaque"),
-            explain: matches.get_flag("explain") || format == Format::Json,
-            strict: matches.get_flag("strict"),
-        },
-        module: matches.get_str("module"),
-        scripts: values_of(alloc, &matches, "script")?,
-        commands: values_of(alloc, &matches, "command")?,
-        patterns: values_of(alloc, &matches, "patterns")?,
-        output: matches.get_str("output"),
-        format,
-        split: matches.get_flag("split"),
-    })
+/// Errors: a malformed command line; the text of `--help` or `--version`; memory runs out. An accepted command line is
+/// refused only if memory runs out.
+pub fn options_of<'a>(alloc: Global, words: &'a [String]) -> Result<CommandLine<'a>, Error>
+    ensures read { IfOk result (IsCommandLine (map (λ w. w.bytes.items) words.entry.now)) }
+    ensures passes { IfErr result (λ error. is_accepted (map (λ w. w.bytes.items) words.entry.now) ≡ true
+        → kind_of error ≡ OutOfMemory) }
+{
+    let matches = match parsed(alloc, words) {
+        Ok(matches) => matches,
+        Err(error) => return Err(worded(alloc, words, error)),
+    };
+    match line_of(alloc, &matches)? {
+        Some(line) => Ok(line),
+        None => Err(worded(alloc, words, inconsistent(alloc)?)),
+    }
 }

@@ -46,6 +46,15 @@ pub(crate) const EXPLAIN: &str = "Add to each refusal what it is about";
 /// The help of `--strict`.
 pub(crate) const STRICT: &str = "Status 1 if no check proves a pattern that rewrites";
 
+/// The help of `--analyses`.
+pub(crate) const ANALYSES: &str = "Attach these kinds, as `uses,dead`";
+
+/// The item of `--analyses` for all kinds, which is the default.
+pub(crate) const ALL: &str = "all";
+
+/// The item of `--analyses` for no kind.
+pub(crate) const NONE: &str = "none";
+
 /// The help of `--format`.
 pub(crate) const FORMAT: &str = "`text`, or `json`: an object a line";
 
@@ -74,6 +83,11 @@ To look:
   report KIND of #N          print only the rows about operation #N, or about a
                              value that belongs to it
   report KIND of VALUE       print only the rows about VALUE
+  show all                   print all operations as JSON objects, a line each
+                             (docs/JSON.md)
+  show #N                    print operation #N as a JSON object
+  show #N COUNT              the same, and the operations after it in pre-order,
+                             at most COUNT in all
   why #N                     for each rule of its name, say whether the rule
                              applies at operation #N, or why it doesn't, as `why
                              #3 4 drop-zero second-not-zero`
@@ -168,10 +182,11 @@ Marks, at most 16 open at once:
   rollback                   restore the module of the newest mark, and drop the
                              mark; a `detach` or an `attach` is not undone
 
-Analyses, which are all attached at the start:
+Analyses, which are all attached at the start, or those of `--analyses LIST`:
+kinds with commas, or `none`:
   detach KIND                drop an analysis
-  attach KIND                compute a dropped analysis again, and report it
-                             last
+  attach KIND                compute an analysis that isn't attached, and report
+                             it last
   resync KIND                compute an analysis again
 
 To expect a refusal:

@@ -1,4 +1,4 @@
--- The object of a line has no floats, and it is no deeper than its members.
+-- The object that the members of a line make has no floats, and it is no deeper than its members.
 use Rattle.std.proofs.Common.{◌≡◌, ℕ, ◌≤◌, List, [], ◌∷◌, map, false, Ordering, Less, Equal, Greater, refl, arith}
 use Rattle.std.specs.Ordering.{match_ordering}
 use Rattle.serde_json.specs.Data.{Data, Members, no_members, member, put, depth, items_depth, members_depth}
@@ -6,7 +6,7 @@ use Rattle.serde_json.specs.Read.{max_depth}
 use Rattle.serde_json.specs.View.{items_of}
 use Rattle.serde_json.specs.Written.{has_float, items_have_float, members_have_float}
 use Rattle.mlir_work_json.specs.Items.{Item, Text, Number, Texts, Member, text_data, data_of, add_members}
-use Rattle.mlir_work_json.specs.Lines.{line_data, line_members}
+use Rattle.mlir_work_json.specs.Lines.{line_members, members_data}
 use Rattle.std.proofs.lemmas.Bool.{or_from, or_parts}
 
 -- ---- no floats
@@ -36,8 +36,8 @@ floats_all : (ms : List Member) (found : Members) → members_have_float found �
 floats_all [] found h = h
 floats_all (m ∷ ms) found h = floats_all ms (put m.0 (data_of m.1) found) (floats_put m.0 (data_of m.1) found (floats_item m.1) h)
 
--- the object of a line has no floats
-pub line_has_no_float : (line : List ℕ) → has_float (line_data line) ≡ false
+-- the object has no floats
+pub line_has_no_float : (line : List ℕ) → has_float (members_data line) ≡ false
 line_has_no_float line = floats_all (line_members line) no_members refl
 
 -- ---- depth
@@ -66,5 +66,5 @@ depth_all [] found h = h
 depth_all (m ∷ ms) found h = depth_all ms (put m.0 (data_of m.1) found) (depth_put m.0 (data_of m.1) found 1 (depth_item m.1) h)
 
 -- the depth of a line's object is at most `max_depth`, so a parser accepts it
-pub line_is_shallow : (line : List ℕ) → depth (line_data line) ≤ max_depth
+pub line_is_shallow : (line : List ℕ) → depth (members_data line) ≤ max_depth
 line_is_shallow line = let flat = depth_all (line_members line) no_members (omega arith) in omega arith

@@ -3,3 +3,4 @@ pub mod Flat
 pub mod Writing
 pub mod OneLine
 pub mod Saying
+pub mod Own

@@ -1,13 +1,13 @@
 -- JSON text has no line feed inside, so the lines of the JSON correspond to the lines of the output.
-use Rattle.std.proofs.Common.{◌≡◌, ◌==◌, ℕ, zero, suc, ◌+◌, ◌<◌, ◌/◌, ◌%◌, List, [], ◌∷◌, ◌++◌, map, Bool, true, false, cond, if◌then◌else◌, refl, ap, subst, ◌∙◌, arith}
-use Rattle.std.specs.Prelude.{◌||◌, nat_lt, decimal, pos, negsuc}
+use Rattle.std.proofs.Common.{◌≡◌, ◌==◌, ℕ, zero, suc, ◌+◌, ◌<◌, ◌/◌, ◌%◌, List, [], ◌∷◌, ◌++◌, map, Bool, true, false, cond, if◌then◌else◌, Option, Some, None, refl, ap, subst, ◌∙◌, arith}
+use Rattle.std.specs.Prelude.{◌||◌, nat_lt, decimal, pos, negsuc, ⊤}
 use Rattle.std.specs.Char.{digit_char}
 use Rattle.std.specs.Fmt.{digit_glyph, digits, digits_onto}
 use Rattle.json.specs.Print.{escape_letter, escape_byte, escape, quoted}
 use Rattle.serde_json.specs.Data.{Num, unsigned, negative, float, Data, null, boolean, number, string, array, object, Items, no_items, item, Members, no_members, member}
 use Rattle.serde_json.specs.Written.{number_text, comma_if, compact_text, items_text, members_text}
 use Rattle.mlir_work_json.specs.Cuts.{parts}
-use Rattle.mlir_work_json.specs.Lines.{line_data, json_line, json_lines}
+use Rattle.mlir_work_json.specs.Lines.{json_line, json_lines, members_data, own_object, own_or_compact}
 use Rattle.mlir_work_script_base.specs.Lines.{is_newline, onto_first}
 use Rattle.std.proofs.lemmas.Bool.{or_from, or_parts}
 
@@ -125,8 +125,32 @@ one_part : (line rest : List ℕ) → has_end line ≡ false → parts is_newlin
 one_part [] rest h = refl
 one_part (b ∷ bs) rest h = let first = or_parts (is_newline b) (has_end bs) h in rw (first.0) (ap (onto_first b) (one_part bs rest first.1))
 
+-- no line contains a line feed
+abbrev AllClear : List (List ℕ) → Type 0
+AllClear [] = ⊤
+AllClear (line ∷ lines) = (has_end line ≡ false) × AllClear lines
+
+onto_clear : (b : ℕ) (lines : List (List ℕ)) → is_newline b ≡ false → AllClear lines → AllClear (onto_first b lines)
+onto_clear b [] e h = (or_from (is_newline b) false e refl, tt)
+onto_clear b (line ∷ lines) e h = (or_from (is_newline b) (has_end line) e h.0, h.1)
+
+part_clear : (b : ℕ) (lines : List (List ℕ)) (t : Bool) → is_newline b ≡ t → AllClear lines → AllClear (if t then [] ∷ lines else onto_first b lines)
+part_clear b lines true e h = (refl, h)
+part_clear b lines false e h = onto_clear b lines e h
+
+parts_clear : (text : List ℕ) → AllClear (parts is_newline text)
+parts_clear [] = tt
+parts_clear (b ∷ bs) = part_clear b (parts is_newline bs) (is_newline b) refl (parts_clear bs)
+
+clear_own : (o : Option Data) (line : List ℕ) → has_end line ≡ false → has_end (own_or_compact o line) ≡ false
+clear_own (Some d) line h = h
+clear_own None line h = clear_value (members_data line)
+
+converted : (lines : List (List ℕ)) → AllClear lines → parts is_newline (json_lines lines) ≡ map json_line lines
+converted [] h = refl
+converted (line ∷ lines) h =
+    one_part (json_line line) (json_lines lines) (clear_own (own_object line) line h.0) ∙ ap (λ ls. json_line line ∷ ls) (converted lines h.1)
+
 -- the lines of the converted output are the conversions of its lines
-pub lines_of_json : (lines : List (List ℕ)) → parts is_newline (json_lines lines) ≡ map json_line lines
-lines_of_json [] = refl
-lines_of_json (line ∷ lines) =
-    one_part (json_line line) (json_lines lines) (clear_value (line_data line)) ∙ ap (λ ls. json_line line ∷ ls) (lines_of_json lines)
+pub lines_of_json : (text : List ℕ) → parts is_newline (json_lines (parts is_newline text)) ≡ map json_line (parts is_newline text)
+lines_of_json text = converted (parts is_newline text) (parts_clear text)

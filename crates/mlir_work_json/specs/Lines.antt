@@ -1,6 +1,8 @@
 -- The output of a run as JSON: each line is one object on one line.
-use Rattle.std.specs.Prelude.{ℕ, List, [], ◌∷◌, ◌++◌, codes}
+use Rattle.std.specs.Prelude.{ℕ, List, [], ◌∷◌, ◌++◌, ◌==◌, ◌&&◌, Bool, false, Option, Some, None, if◌then◌else◌, codes}
+use Rattle.std.specs.Str.{is_utf8}
 use Rattle.serde_json.specs.Data.{Data, object, no_members}
+use Rattle.serde_json.specs.Read.{read}
 use Rattle.serde_json.specs.Written.{compact_text}
 use Rattle.mlir_work_json.specs.Cuts.{parts}
 use Rattle.mlir_work_json.specs.Forms.{form_of}
@@ -44,13 +46,41 @@ form_members Other line = text (codes "text") line ∷ []
 unfoldable pub line_members : List ℕ → List Member
 line_members line = form_members (form_of line) line
 
+abbrev pub members_data : List ℕ → Data
+members_data line = object (add_members (line_members line) no_members)
+
+-- ---- lines that are JSON objects, such as those of `show`
+
+abbrev pub begins_object : List ℕ → Bool
+begins_object [] = false
+begins_object (b ∷ bs) = b == 123
+
+-- a value, if it is an object
+abbrev pub object_only : Option Data → Option Data
+object_only (Some (object ms)) = Some (object ms)
+object_only _ = None
+
+-- the object that a line is, if it is one
+unfoldable pub own_object : List ℕ → Option Data
+own_object line = if begins_object line && is_utf8 line then object_only (read line) else None
+
+abbrev pub own_or_members : Option Data → List ℕ → Data
+own_or_members (Some d) line = d
+own_or_members None line = members_data line
+
+abbrev pub own_or_compact : Option Data → List ℕ → List ℕ
+own_or_compact (Some d) line = line
+own_or_compact None line = compact_text (members_data line)
+
+-- ---- each line
+
 -- the object of a line
 abbrev pub line_data : List ℕ → Data
-line_data line = object (add_members (line_members line) no_members)
+line_data line = own_or_members (own_object line) line
 
--- a line as JSON, both without line feeds
+-- a line as JSON, both without line feeds; a line that is an object stays the same
 abbrev pub json_line : List ℕ → List ℕ
-json_line line = compact_text (line_data line)
+json_line line = own_or_compact (own_object line) line
 
 -- lines as JSON, each with a line feed
 abbrev pub json_lines : List (List ℕ) → List ℕ

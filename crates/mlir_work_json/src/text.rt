@@ -1,10 +1,11 @@
 //! Converts lines and whole outputs to JSON.
-ghost use Rattle.std.specs.Prelude.{◌≡◌, [], ◌∷◌, ◌++◌, map, Some, IfOk, OnOk};
+ghost use Rattle.std.specs.Prelude.{◌≡◌, [], ◌∷◌, ◌++◌, map, Some, true, option_map, IfOk, OnOk};
+ghost use Rattle.std.specs.Str.{is_utf8};
 ghost use Rattle.serde_json.specs.Read.{read};
 ghost use Rattle.serde_json.specs.View.{view};
 ghost use Rattle.mlir_work_json.specs.Cuts.{parts};
 ghost use Rattle.mlir_work_json.specs.Items.{HasMembers};
-ghost use Rattle.mlir_work_json.specs.Lines.{form_members, line_data, json_line, json_text};
+ghost use Rattle.mlir_work_json.specs.Lines.{begins_object, form_members, json_line, json_text, line_data, members_data, object_only, own_object};
 ghost use Rattle.mlir_work_script_base.specs.Lines.{is_newline};
 
 use crate::form::{LineKind, form_of};
@@ -17,7 +18,8 @@ use crate::rows::{
     set_unresolved, set_use,
 };
 use mlir_work_script_base::cuts::cut_at;
-use serde_json::{Map, Value};
+use mlir_work_script_base::words::is_text;
+use serde_json::{Category, Map, Value};
 use std::alloc::{AllocError, Global};
 
 /// Sets the members of a line of this kind.
@@ -59,22 +61,81 @@ fn set_form(
     }
 }
 
-/// Returns the object of a line.
+/// Returns the object that a line's members make.
 #[tactic(auto, unfolding(crate::specs::Lines::line_members))]
-pub fn line_value(alloc: Global, line: &[u8]) -> Result<Value, AllocError>
-    ensures { IfOk result (λ v. view v ≡ line_data line.now) }
+fn members_value(alloc: Global, line: &[u8]) -> Result<Value, AllocError>
+    ensures { IfOk result (λ v. view v ≡ members_data line.now) }
 {
     let mut object = Map::new(alloc);
     set_form(&mut object, alloc, &form_of(line), line)?;
     Ok(Value::Object(object))
 }
 
-/// Converts one output line to one line of JSON, both without line feeds. The JSON parses as the object of the line.
+fn begins_object(line: &[u8]) -> bool
+    ensures { result ≡ begins_object line.now }
+{
+    match line {
+        [b'{', ..] => true,
+        _ => false,
+    }
+}
+
+/// Returns a value if it is an object.
+fn object_only(value: Value) -> Option<Value>
+    ensures { option_map view result ≡ object_only (Some (view value)) }
+{
+    if value.is_object() {
+        return Some(value);
+    }
+    None
+}
+
+/// Returns the object that a text is, if it is one.
+fn parsed_object(alloc: Global, text: &[u8]) -> Result<Option<Value>, AllocError>
+    requires { is_utf8 text.now ≡ true }
+    ensures { IfOk result (λ o. option_map view o ≡ object_only (read text.now)) }
+{
+    let error = match Value::from_slice(alloc, text) {
+        Ok(value) => return Ok(object_only(value)),
+        Err(error) => error,
+    };
+    if error.classify() == Category::Memory {
+        return Err(AllocError);
+    }
+    Ok(None)
+}
+
+/// Returns the object that a line is, if it is one.
+#[tactic(auto, unfolding(crate::specs::Lines::own_object))]
+fn own_object(alloc: Global, line: &[u8]) -> Result<Option<Value>, AllocError>
+    ensures { IfOk result (λ o. option_map view o ≡ own_object line.now) }
+{
+    if begins_object(line) && is_text(line) {
+        return parsed_object(alloc, line);
+    }
+    Ok(None)
+}
+
+/// Returns a copy of a line.
+fn copied(alloc: Global, line: &[u8]) -> Result<Vec<u8>, AllocError>
+    ensures { IfOk result (λ copy. copy.items ≡ line.now) }
+{
+    let mut copy = Vec::new(alloc);
+    copy.extend_from_slice(line)?;
+    Ok(copy)
+}
+
+/// Converts one output line to one line of JSON, both without line feeds. The JSON parses as the object of the line. A
+/// line that is a JSON object stays the same.
 pub fn json_line(alloc: Global, line: &[u8]) -> Result<Vec<u8>, AllocError>
     ensures json { IfOk result (λ json. json.items ≡ json_line line.now) }
     ensures reads { IfOk result (λ json. read json.items ≡ Some (line_data line.now)) }
 {
-    line_value(alloc, line)?.to_vec(alloc)
+    match own_object(alloc, line)? {
+        Some(_) => return copied(alloc, line),
+        None => {}
+    }
+    members_value(alloc, line)?.to_vec(alloc)
 }
 
 /// Appends a line of an output as JSON, with a line feed.

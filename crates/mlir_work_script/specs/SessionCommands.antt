@@ -36,6 +36,10 @@ pub data SessionCommand : Type 0 where
   CanonAt : ℕ → Option ℕ → SessionCommand
   -- says why rules don't match at an operation: the named rule, or all rules in the table for the operation's name
   Why : ℕ → Option RuleName → SessionCommand
+  -- shows all operations as JSON objects
+  ShowAll : SessionCommand
+  -- shows at most so many operations as JSON objects, in pre-order from the operation on
+  ShowFrom : ℕ → ℕ → SessionCommand
 
 -- the model of a session command, read from memory
 abbrev pub session_command_of : Coded → SessionCommand
@@ -48,6 +52,8 @@ session_command_of (code.Fired rules proved limit) = Fired (option_map names_of 
 session_command_of (code.TraceConvert full clauses) = TraceConvert (target_of full (clauses_of clauses))
 session_command_of (code.CanonAt op limit) = CanonAt op limit
 session_command_of (code.Why op rule) = Why op (option_map name_of rule)
+session_command_of code.ShowAll = ShowAll
+session_command_of (code.ShowFrom op count) = ShowFrom op count
 
 -- the result, if nothing is left
 abbrev pub all_said : {A : Type 0} → List ℕ → Option A → Option A
@@ -129,6 +135,21 @@ abbrev pub why_in : List ℕ → Option SessionCommand
 why_in rest = option_and_then
     (λ op. option_map (λ rule. Why op rule) (rule_or_none (after_word rest))) (op_of (word_of rest))
 
+-- [COUNT]; without a count, one operation is shown
+abbrev pub count_in : List ℕ → Option ℕ
+count_in text =
+    if length text == 0 then Some 1
+    else all_said (after_word text) (number_of (word_of text))
+
+-- #N [COUNT] after show
+abbrev pub show_from_in : List ℕ → Option SessionCommand
+show_from_in rest = option_and_then
+    (λ op. option_map (λ count. ShowFrom op count) (count_in (after_word rest))) (op_of (word_of rest))
+
+-- show all, show #N [COUNT]
+abbrev pub show_in : List ℕ → Option SessionCommand
+show_in rest = if bytes_eq rest (codes "all") then Some ShowAll else show_from_in rest
+
 -- canon only, with the arguments of rewrite, canon trace [limit N], canon fired [limit N], and canon at #N [limit N]
 abbrev pub canon_command_in : List ℕ → Option SessionCommand
 canon_command_in rest =
@@ -162,6 +183,7 @@ session_command_named name rest =
     else if bytes_eq name (codes "canon") then canon_command_in rest
     else if bytes_eq name (codes "convert") then convert_command_in rest
     else if bytes_eq name (codes "why") then why_in rest
+    else if bytes_eq name (codes "show") then show_in rest
     else None
 
 -- a trimmed line as a session command

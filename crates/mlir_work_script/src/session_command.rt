@@ -2,7 +2,7 @@
 ghost use Rattle.std.specs.Prelude.{◌≡◌, None, Some, false, option_map};
 ghost use Rattle.mlir_work_script.specs.SessionCommands.{attach_in, canon_command_in, ids_in, limit_in, maybe_traced_in, session_command_in, session_command_named};
 ghost use Rattle.mlir_work_script.specs.SessionCommands.{convert_command_in, convert_trace_in};
-ghost use Rattle.mlir_work_script.specs.SessionCommands.{at_in, fired_in, session_command_of, Rewrite, rewrite_in, rule_or_none, ruled_in, trace_in, why_in, report_in};
+ghost use Rattle.mlir_work_script.specs.SessionCommands.{at_in, count_in, fired_in, session_command_of, Rewrite, rewrite_in, rule_or_none, ruled_in, show_from_in, show_in, trace_in, why_in, report_in};
 ghost use Rattle.mlir_work_script.specs.RuleLists.{names_of};
 ghost use Rattle.mlir_work_script_base.specs.RuleNames.{name_of};
 
@@ -79,6 +79,14 @@ pub enum SessionCommand<'a> {
         /// The rule, if the line names one. Otherwise the command shows all rules in the table for the operation's
         /// name.
         rule: Option<RuleName<'a>>,
+    },
+    /// `show all` shows all operations as JSON objects.
+    ShowAll,
+    /// `show #N [COUNT]` shows at most `count` operations as JSON objects, in pre-order from an operation on.
+    ShowFrom {
+        op: OpId,
+        /// The count, or 1 if the line gives none.
+        count: u32,
     },
 }
 
@@ -272,6 +280,40 @@ fn why(rest: &[u8]) -> Option<SessionCommand<'_>>
     Some(SessionCommand::Why { op, rule })
 }
 
+/// Parses `[COUNT]` at the end of a line.
+fn count_or_one(text: &[u8]) -> Option<u32>
+    ensures { result ≡ count_in text.now }
+{
+    if text.is_empty() {
+        return Some(1);
+    }
+    let (count, left) = split_word(text);
+    if !left.is_empty() {
+        return None;
+    }
+    parse_number(count)
+}
+
+/// Parses `#N [COUNT]` after `show`.
+fn show_from<'a>(rest: &[u8]) -> Option<SessionCommand<'a>>
+    ensures { option_map session_command_of result ≡ show_from_in rest.now }
+{
+    let (op, rest) = split_word(rest);
+    let op = op_named(op)?;
+    let count = count_or_one(rest)?;
+    Some(SessionCommand::ShowFrom { op, count })
+}
+
+/// Parses the arguments of `show all` and `show #N [COUNT]`.
+fn show<'a>(rest: &[u8]) -> Option<SessionCommand<'a>>
+    ensures { option_map session_command_of result ≡ show_in rest.now }
+{
+    if rest == b"all".as_slice() {
+        return Some(SessionCommand::ShowAll);
+    }
+    show_from(rest)
+}
+
 /// Parses the arguments of `canon only`, which are those of `rewrite`, and of `canon trace [limit N]`,
 /// `canon fired [limit N]` and `canon at #N [limit N]`.
 fn canon(rest: &[u8]) -> Option<SessionCommand<'_>>
@@ -338,6 +380,9 @@ fn session_command_named<'a>(name: &[u8], rest: &'a [u8]) -> Option<SessionComma
     }
     if name == b"why".as_slice() {
         return why(rest);
+    }
+    if name == b"show".as_slice() {
+        return show(rest);
     }
     None
 }

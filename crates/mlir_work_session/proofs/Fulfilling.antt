@@ -8,9 +8,10 @@ use Rattle.mlir_work_transforms.specs.rewriter.Commands.{AppliesRule, RuleName, 
 use Rattle.mlir_work_transforms.specs.rewriter.Machine as call
 use Rattle.mlir_work_transforms.specs.rewriter.Machine.{State, Call, Reply, Done, Refused, Shows, Nothing, Transformation, Tree, Goes}
 use Rattle.mlir_work_transforms.specs.rewriter.Panels.{Shown}
-use Rattle.mlir_work_script.specs.SessionCommands.{Attach, CanonAt, Fired, SessionCommand, PrintIds, Rewrite, Trace, TraceConvert, Why, ReportOf}
+use Rattle.mlir_work_script.specs.SessionCommands.{Attach, CanonAt, Fired, SessionCommand, PrintIds, Rewrite, ShowAll, ShowFrom, Trace, TraceConvert, Why, ReportOf}
 use Rattle.mlir_work_session_base.specs.IdsText.{ids_text}
-use Rattle.mlir_work_session.specs.Machine.{AsksWhy, AttachesKind, RunsSessionCommand, SessionCommandAsks, SessionSetting, limit_or, session_command_bytes, bytes_if, AsksAbout, session_command_shows, shows_about}
+use Rattle.mlir_work_session_base.specs.OperationObjects.{all_objects_text, page_text}
+use Rattle.mlir_work_session.specs.Machine.{AsksFrom, AsksWhy, AttachesKind, RunsSessionCommand, SessionCommandAsks, SessionSetting, limit_or, session_command_bytes, bytes_if, AsksAbout, session_command_shows, shows_about}
 use Rattle.mlir_work_script_base.specs.declared.subject.Subject.{Subject}
 use Rattle.mlir_work_session_base.specs.Subjects.{absent, is_there}
 use Rattle.mlir_work_transforms.specs.registry.Replies.{IsBounded, is_accepted}
@@ -61,6 +62,29 @@ module _ (setting : SessionSetting) where
 
   pub fulfils_unprinted : (s : State) → RunsSessionCommand setting s PrintIds (Replied (Refused Memory)) [] s
   fulfils_unprinted s = fulfils_call s s PrintIds call.Print (Refused Memory) Nothing refl (record { answer = inr (refl, refl); panel = refl })
+
+  -- ---- operations as objects
+
+  pub fulfils_shown : (s : State) (bytes : List ℕ) → bytes ≡ all_objects_text s.held.tree → RunsSessionCommand setting s ShowAll (Replied Done) bytes s
+  fulfils_shown s bytes is = rw is (fulfils_call s s ShowAll call.Print Done (Tree s.held.tree) refl (record { answer = inl refl; panel = refl }))
+
+  pub fulfils_unshown : (s : State) → RunsSessionCommand setting s ShowAll (Replied (Refused Memory)) [] s
+  fulfils_unshown s = fulfils_call s s ShowAll call.Print (Refused Memory) Nothing refl (record { answer = inr (refl, refl); panel = refl })
+
+  -- `show` of a missing operation is refused
+  pub fulfils_missing : (x count : ℕ) (s : State) → has_id x s.held.tree ≡ false → RunsSessionCommand setting s (ShowFrom x count) (Replied (Refused NoSuchOp)) [] s
+  fulfils_missing x count s gone =
+      record { requested = Misplaced NoSuchOp; shows = Nothing; asks = subst (λ (b : Bool). AsksFrom b (Misplaced NoSuchOp)) (sym gone) refl; follows = (refl, refl, refl); text = refl }
+
+  asks_from : (x count : ℕ) (m : Module) → has_id x m.tree ≡ true → SessionCommandAsks setting (ShowFrom x count) m (Ask call.Print)
+  asks_from x count m there = subst (λ (b : Bool). AsksFrom b (Ask call.Print)) (sym there) refl
+
+  pub fulfils_page : (x count : ℕ) (s : State) (bytes : List ℕ) → has_id x s.held.tree ≡ true → bytes ≡ page_text x count s.held.tree → RunsSessionCommand setting s (ShowFrom x count) (Replied Done) bytes s
+  fulfils_page x count s bytes there is =
+      rw is (fulfils_call s s (ShowFrom x count) call.Print Done (Tree s.held.tree) (asks_from x count s.held there) (record { answer = inl refl; panel = refl }))
+
+  pub fulfils_no_page : (x count : ℕ) (s : State) → has_id x s.held.tree ≡ true → RunsSessionCommand setting s (ShowFrom x count) (Replied (Refused Memory)) [] s
+  fulfils_no_page x count s there = fulfils_call s s (ShowFrom x count) call.Print (Refused Memory) Nothing (asks_from x count s.held there) (record { answer = inr (refl, refl); panel = refl })
 
   -- ---- rows about an operation or a value
 
@@ -217,6 +241,10 @@ module _ (setting : SessionSetting) where
   by_subject s kind subject false e = (Replied (Refused (absent subject)), [], s, fulfils_no_subject kind subject s e)
   by_subject s kind subject true e = by_call s (ReportOf kind subject) (call.Report kind) (asks_about kind subject s.held e)
 
+  by_page : (s : State) (x count : ℕ) (b : Bool) → has_id x s.held.tree ≡ b → SomeFulfilled s (ShowFrom x count)
+  by_page s x count false e = (Replied (Refused NoSuchOp), [], s, fulfils_missing x count s e)
+  by_page s x count true e = by_call s (ShowFrom x count) call.Print (asks_from x count s.held e)
+
   pub some_fulfilled : (s : State) (o : SessionCommand) → SomeFulfilled s o
   some_fulfilled s (Attach kind) = by_kind s kind (setting.supply kind) refl
   some_fulfilled s PrintIds = by_call s PrintIds call.Print refl
@@ -227,6 +255,8 @@ module _ (setting : SessionSetting) where
   some_fulfilled s (TraceConvert target) = by_call s (TraceConvert target) (call.Change (conversion target)) refl
   some_fulfilled s (CanonAt x limit) = by_call s (CanonAt x limit) (call.Change (canonicalizing_at (limit_or setting.session_options.limit limit) x)) refl
   some_fulfilled s (Why x name) = by_why s x name (requested_rules name x s.held) (has_id x s.held.tree) refl refl
+  some_fulfilled s ShowAll = by_call s ShowAll call.Print refl
+  some_fulfilled s (ShowFrom x count) = by_page s x count (has_id x s.held.tree) refl
 
 -- the trace of a rewrite by rules, if the list of lines was empty at first
 pub reported_trace : (rs : List Rule) (n limit : ℕ) (m : Module) (called : Result Ended Refusal) (before after bytes : List ℕ) (names : List (List ℕ)) → n ≡ limit → before ≡ [] → names ≡ [] → OnOk called (after ≡ before ++ trace_text names (trace_of (by_rules rs) n m))
@@ -290,6 +320,12 @@ never_unparsed setting (ReportOf kind subject) m refusal offset asks = go (is_th
     go false e = absurd cc
     go true e = absurd cc
 never_unparsed setting PrintIds m refusal offset asks = absurd (let e : Unparsed refusal offset ≡ Ask call.Print = asks in cc)
+never_unparsed setting ShowAll m refusal offset asks = absurd (let e : Unparsed refusal offset ≡ Ask call.Print = asks in cc)
+never_unparsed setting (ShowFrom x count) m refusal offset asks = go (has_id x m.tree) asks
+  where
+    go : (b : Bool) → AsksFrom b (Unparsed refusal offset) → ⊥
+    go false e = absurd cc
+    go true e = absurd cc
 
 not_at : (setting : SessionSetting) (s t : State) (o : SessionCommand) (requested : Requested) (shows : Shows) (refusal : Refusal) (offset : ℕ) → SessionCommandAsks setting o s.held requested → Follows s requested (TextRefusedAt refusal offset) shows t → ⊥
 not_at setting s t o (Ask c) shows refusal offset asks follows = follows

@@ -8,7 +8,7 @@ use Rattle.mlir_work_transforms.specs.rewriter.Commands.{Requested, Ask, CanFill
 use Rattle.mlir_work_transforms.specs.rewriter.Machine.{Shows, State}
 use Rattle.mlir_work_transforms.specs.rewriter.Texts.{SpellsNextTo}
 use Rattle.mlir_work_script.specs.Commands.{Spoken, Nothing, Bad, Obey, Ordered, Registered}
-use Rattle.mlir_work_script.specs.SessionCommands.{Attach, CanonAt, Fired, SessionCommand, PrintIds, Rewrite, Trace, TraceConvert, Why, ReportOf}
+use Rattle.mlir_work_script.specs.SessionCommands.{Attach, CanonAt, Fired, SessionCommand, PrintIds, Rewrite, ShowAll, ShowFrom, Trace, TraceConvert, Why, ReportOf}
 use Rattle.mlir_work_transforms.specs.registry.Notices.{Notice}
 use Rattle.mlir_work_transforms.specs.registry.Registry.{RegistryModel, Kept}
 use Rattle.mlir_work_transforms.specs.registry.Replies.{is_accepted}
@@ -60,6 +60,8 @@ module _ (setting : SessionSetting) (bytes : ℕ) (longer : setting.session_opti
   orders_wider : (session_command : SessionCommand) (m : Module) (requested : Requested) → SessionCommandAsks setting session_command m requested → SessionCommandAsks wider session_command m requested
   orders_wider (Attach kind) m requested h = h
   orders_wider PrintIds m requested h = h
+  orders_wider ShowAll m requested h = h
+  orders_wider (ShowFrom x count) m requested h = h
   orders_wider (Rewrite names proved limit) m requested h = h
   orders_wider (Trace names proved limit) m requested h = h
   orders_wider (Fired names proved limit) m requested h = h
@@ -71,6 +73,8 @@ module _ (setting : SessionSetting) (bytes : ℕ) (longer : setting.session_opti
   bytes_wider : (session_command : SessionCommand) (m : Module) (response : Response) (shows : Shows) → session_command_bytes setting session_command m response shows ≡ session_command_bytes wider session_command m response shows
   bytes_wider (Attach kind) m response shows = refl
   bytes_wider PrintIds m response shows = refl
+  bytes_wider ShowAll m response shows = refl
+  bytes_wider (ShowFrom x count) m response shows = refl
   bytes_wider (ReportOf kind subject) m response shows = refl
   bytes_wider (Rewrite names proved limit) m response shows = refl
   bytes_wider (Trace names proved limit) m response shows = refl

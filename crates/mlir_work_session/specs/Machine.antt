@@ -14,7 +14,7 @@ use Rattle.mlir_work_transforms.specs.rewriter.Panels.{Shown}
 pub use Rattle.mlir_work_transforms.specs.rewriter.Machine.{State}
 pub use Rattle.mlir_work_transforms.specs.registry.Replies.{response_of}
 use Rattle.mlir_work_transforms.specs.registry.Replies.{is_accepted}
-use Rattle.mlir_work_script.specs.SessionCommands.{Attach, CanonAt, Fired, SessionCommand, PrintIds, Rewrite, Trace, TraceConvert, Why, ReportOf}
+use Rattle.mlir_work_script.specs.SessionCommands.{Attach, CanonAt, Fired, SessionCommand, PrintIds, Rewrite, ShowAll, ShowFrom, Trace, TraceConvert, Why, ReportOf}
 use Rattle.mlir_work_script_base.specs.declared.subject.Subject.{Subject}
 use Rattle.mlir_work_transforms.specs.greedy.Changes.{canonicalizing}
 use Rattle.mlir_work_transforms.specs.ConvertText.{conversion_text}
@@ -28,7 +28,9 @@ use Rattle.mlir_work_transforms.specs.At.{canonicalizing_at}
 use Rattle.mlir_work_transforms.specs.WhyText.{requested_rules, why_text}
 use Rattle.mlir_work_transforms.specs.Rule.{Rule}
 use Rattle.ir_event.specs.trees.Ids.{has_id}
+use Rattle.ir_event.specs.trees.Meaning.{Operation}
 use Rattle.mlir_work_session_base.specs.IdsText.{ids_text}
+use Rattle.mlir_work_session_base.specs.OperationObjects.{all_objects_text, page_text}
 use Rattle.mlir_work_session_base.specs.RowText.{rows_text}
 use Rattle.mlir_work_session_base.specs.Subjects.{absent, is_there, rows_about}
 use Rattle.mlir_work_session.specs.declared.options.SessionOptions.{SessionOptions}
@@ -85,6 +87,11 @@ abbrev pub AsksAbout : Bool → ℕ → Subject → Requested → Type 0
 AsksAbout true kind subject requested = requested ≡ Ask (call.Report kind)
 AsksAbout false kind subject requested = requested ≡ Misplaced (absent subject)
 
+-- `show` of an operation; a missing operation is refused with `NoSuchOp`
+abbrev pub AsksFrom : Bool → Requested → Type 0
+AsksFrom true requested = requested ≡ Ask call.Print
+AsksFrom false requested = requested ≡ Misplaced NoSuchOp
+
 -- the machine call that a session command makes in a module
 abbrev pub SessionCommandAsks : SessionSetting → SessionCommand → Module → Requested → Type 0
 SessionCommandAsks setting (Attach kind) m requested = AttachesKind (setting.supply kind) requested
@@ -96,6 +103,8 @@ SessionCommandAsks setting (TraceConvert target) m requested = requested ≡ Ask
 SessionCommandAsks setting (CanonAt x limit) m requested =
     requested ≡ Ask (call.Change (canonicalizing_at (limit_or setting.session_options.limit limit) x))
 SessionCommandAsks setting (Why x name) m requested = AsksWhy (requested_rules name x m) (has_id x m.tree) requested
+SessionCommandAsks setting ShowAll m requested = requested ≡ Ask call.Print
+SessionCommandAsks setting (ShowFrom x count) m requested = AsksFrom (has_id x m.tree) requested
 SessionCommandAsks setting (ReportOf kind subject) m requested = AsksAbout (is_there subject m.tree) kind subject requested
 
 -- the bytes of what the machine shows; a module is shown with the ids of its operations
@@ -109,6 +118,12 @@ abbrev pub shows_about : Subject → Shows → Shows
 shows_about subject Nothing = Nothing
 shows_about subject (Rows rows) = Rows (rows_about subject rows)
 shows_about subject (Tree t) = Tree t
+
+-- the bytes of what the machine shows; `text` is that of a module
+abbrev pub shows_by : (Operation → List ℕ) → Shows → List ℕ
+shows_by text Nothing = []
+shows_by text (Rows rows) = rows_text rows
+shows_by text (Tree t) = text t
 
 -- the bytes if the condition holds, and none otherwise
 abbrev pub bytes_if : Bool → List ℕ → List ℕ
@@ -133,6 +148,8 @@ session_command_bytes setting (Fired names proved limit) m response shows =
     fired_by (traced_rules names) (limit_or setting.session_options.limit limit) m response
 session_command_bytes setting (TraceConvert target) m response shows = converted_bytes target m response
 session_command_bytes setting (CanonAt x limit) m response shows = session_command_shows shows
+session_command_bytes setting ShowAll m response shows = shows_by all_objects_text shows
+session_command_bytes setting (ShowFrom x count) m response shows = shows_by (page_text x count) shows
 session_command_bytes setting (Why x name) m response shows = bytes_if (is_accepted response) (why_text (requested_rules name x m) x m)
 
 -- from state `s` a session command may get this response, with these bytes below the reply, and lead to state `t`

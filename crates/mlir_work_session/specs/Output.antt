@@ -15,7 +15,7 @@ use Rattle.mlir_work_script.specs.Commands.{Spoken, Nothing, Bad, Obey, Ordered,
 use Rattle.mlir_work_script.specs.Expecting.{line_expects}
 use Rattle.mlir_work_script_base.specs.Limits.{most_script_bytes}
 use Rattle.mlir_work_script_base.specs.Lines.{lines_of}
-use Rattle.mlir_work_script.specs.SessionCommands.{SessionCommand, PrintIds, ReportOf, Why}
+use Rattle.mlir_work_script.specs.SessionCommands.{SessionCommand, PrintIds, ReportOf, ShowAll, ShowFrom, Why}
 use Rattle.mlir_work_script.specs.Replies.{refused_line, attach_refused_line, kind_line, stale_line, kind_memory_line, module_memory_line}
 use Rattle.mlir_work_transforms.specs.registry.Notices.{IsWithin, Notice, Simple, is_right_under}
 use Rattle.mlir_work_transforms.specs.registry.Registry.{RegistryModel}
@@ -83,6 +83,8 @@ abbrev pub only_shows : SessionCommand → Bool
 only_shows PrintIds = true
 only_shows (Why x name) = true
 only_shows (ReportOf kind subject) = true
+only_shows ShowAll = true
+only_shows (ShowFrom x count) = true
 only_shows _ = false
 
 abbrev pub asks : Spoken → Bool

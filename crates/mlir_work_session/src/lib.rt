@@ -22,6 +22,7 @@ pub mod rule_lists;
 pub mod script;
 pub mod session;
 pub mod session_commands;
+mod showing;
 pub mod shows;
 mod subjects;
 mod texts;

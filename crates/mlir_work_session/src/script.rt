@@ -57,6 +57,8 @@ fn only_shows(session_command: &SessionCommand<'_>) -> bool
         SessionCommand::PrintIds => true,
         SessionCommand::Why { .. } => true,
         SessionCommand::ReportAbout { .. } => true,
+        SessionCommand::ShowAll => true,
+        SessionCommand::ShowFrom { .. } => true,
         _ => false,
     }
 }

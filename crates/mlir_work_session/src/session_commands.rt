@@ -12,7 +12,7 @@ use crate::options::SessionOptions;
 use crate::reply::Reply;
 use crate::shows::{ShownReply, reply_only};
 use crate::subjects::show_about;
-use crate::{fired, tracing, transforming, why};
+use crate::{fired, showing, tracing, transforming, why};
 use ir_event::analysis::Analysis;
 use ir_event::types::refusal::Refusal;
 use ir_event::world::World;
@@ -122,5 +122,7 @@ pub fn run_session_command<L: AnalysisSource>(
             )
         }
         SessionCommand::Why { op, rule } => why::why(alloc, bench, *op, *rule),
+        SessionCommand::ShowAll => showing::show_all(alloc, bench),
+        SessionCommand::ShowFrom { op, count } => showing::show_from(alloc, bench, *op, *count),
     }
 }

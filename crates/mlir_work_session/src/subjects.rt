@@ -4,7 +4,7 @@ ghost use Rattle.ir_event.specs.Modules.{context_model, module_in};
 ghost use Rattle.mlir_work_transforms.specs.rewriter.RewriterCalls.{AgreesOrStale, state_of};
 ghost use Rattle.mlir_work_script.specs.SessionCommands.{ReportOf};
 ghost use Rattle.mlir_work_session_base.specs.RowText.{rows_text};
-ghost use Rattle.mlir_work_session_base.specs.Subjects.{absent, is_there, rows_about};
+ghost use Rattle.mlir_work_session_base.specs.Subjects.{is_there, rows_about};
 ghost use Rattle.mlir_work_session.specs.Machine.{RunsSessionCommand, SessionSetting, response_of};
 
 use crate::reply::Reply;
@@ -15,7 +15,7 @@ use ir_event::types::refusal::Refusal;
 use ir_event::world::World;
 use mlir_work_script_base::kind::Kind;
 use mlir_work_script_base::subject::Subject;
-use mlir_work_session_base::subjects::text_of_rows_about;
+use mlir_work_session_base::subjects::{absent, text_of_rows_about};
 use mlir_work_transforms::rewriter::Bench;
 use std::alloc::Global;
 
@@ -26,16 +26,6 @@ fn is_there(world: &World, subject: &Subject) -> bool
     match subject {
         Subject::Op(op) => world.store.in_tree(*op),
         Subject::Val(value) => world.store.value_type(*value).is_some(),
-    }
-}
-
-/// Returns the refusal for a missing operation or value.
-fn absent(subject: &Subject) -> Refusal
-    ensures { result ≡ absent subject.now }
-{
-    match subject {
-        Subject::Op(_) => Refusal::NoSuchOp,
-        Subject::Val(_) => Refusal::NoSuchValue,
     }
 }
 

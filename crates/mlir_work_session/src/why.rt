@@ -1,8 +1,7 @@
 //! Session commands on rules at one operation: `why` says why rules don't match there, and `canon_at` canonicalizes
 //! there.
 ghost use Rattle.std.specs.Prelude.{◌≡◌, ℕ, [], Bool, Option, Some, option_map};
-ghost use Rattle.ir_event.specs.Modules.{Module, module_in};
-ghost use Rattle.ir_event.specs.trees.Ids.{has_id};
+ghost use Rattle.ir_event.specs.Modules.{Module};
 ghost use Rattle.ir_text.specs.Public.{IsFull};
 ghost use Rattle.mlir_work_script.specs.SessionCommands.{CanonAt, Why};
 ghost use Rattle.mlir_work_script_base.specs.RuleNames.{name_of};
@@ -22,8 +21,8 @@ use crate::transforming::limit_of;
 use ir_event::analysis::Analysis;
 use ir_event::types::ids::OpId;
 use ir_event::types::refusal::Refusal;
-use ir_event::world::World;
 use mlir_work_script_base::rule_name::RuleName;
+use mlir_work_session_base::subjects::is_in;
 use mlir_work_transforms::apply::rule_named;
 use mlir_work_transforms::at::canonicalize_at;
 use mlir_work_transforms::greedy::patterns::rule::Rule;
@@ -31,13 +30,6 @@ use mlir_work_transforms::rewriter::Bench;
 use mlir_work_transforms::rewriter::laws::led_benches_are_kept;
 use mlir_work_transforms::why::match_failure as lines_of;
 use std::alloc::Global;
-
-/// Returns whether an operation is in the module.
-pub(crate) fn is_in(world: &World, op: OpId) -> bool
-    ensures { result ≡ has_id op (module_in world.now).tree }
-{
-    world.store.in_tree(op)
-}
 
 /// Shows why a rule doesn't match at an operation. Without a rule, shows it for each rule in the table for the
 /// operation's name.

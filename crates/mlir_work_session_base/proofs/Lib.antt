@@ -1,3 +1,6 @@
 pub mod RowWalks
 pub mod Lines
 pub mod Abouts
+pub mod JsonText
+pub mod OperationWalk
+pub mod OperationObjects

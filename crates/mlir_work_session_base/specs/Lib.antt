@@ -1,3 +1,6 @@
 pub mod RowText
 pub mod IdsText
 pub mod Subjects
+pub mod PlacedOps
+pub mod OperationObjects
+pub mod OperationWalk

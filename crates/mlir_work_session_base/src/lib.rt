@@ -1,8 +1,14 @@
 //! The parts of a session that know no script: the text of report rows (`rows`, `subjects`), the text of a module
-//! with operation ids (`ids`), and listeners that are created by kind (`analysis_source`).
+//! with operation ids (`ids`), operations as JSON objects (`module_objects`, `operation_walk`, `operation_objects`, `json_text`), and
+//! listeners that are created by kind (`analysis_source`).
 #![tactic(auto)]
 
 pub mod analysis_source;
 pub mod ids;
+mod json_text;
+pub mod module_objects;
+mod operation_objects;
+pub mod operation_walk;
+mod place;
 pub mod rows;
 pub mod subjects;

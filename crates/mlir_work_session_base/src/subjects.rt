@@ -1,12 +1,14 @@
-//! Selects the report rows about one operation or one value.
+//! Selects the report rows about one operation or one value, and says whether an operation is in the module.
 ghost use Rattle.std.specs.Prelude.{◌≡◌, ◌<◌, ◌++◌, [], ◌∷◌, if◌then◌else◌, map, OnOk, IfOk};
 ghost use Rattle.std.specs.List.{All};
+ghost use Rattle.ir_event.specs.Modules.{module_in};
 ghost use Rattle.ir_event.specs.types.Things.{ContextModel};
 ghost use Rattle.ir_event.specs.trees.Frames.{owner_of};
+ghost use Rattle.ir_event.specs.trees.Ids.{has_id};
 ghost use Rattle.ir_event.specs.trees.Uses.{same_value};
 ghost use Rattle.ir_event.specs.Rows.{RowIsOf, cell_meaning, row_meaning, rows_meaning};
 ghost use Rattle.mlir_work_session_base.specs.RowText.{row_text, rows_text};
-ghost use Rattle.mlir_work_session_base.specs.Subjects.{defines, is_about, is_of_op, is_of_value, names, place_about};
+ghost use Rattle.mlir_work_session_base.specs.Subjects.{absent, defines, is_about, is_of_op, is_of_value, names, place_about};
 ghost use Rattle.mlir_work_session_base.specs.Subjects.{rows_about};
 
 use crate::rows::write_row;
@@ -15,8 +17,27 @@ use ir_event::tag::Tag;
 use ir_event::trees::value::Value;
 use ir_event::types::context::Context;
 use ir_event::types::ids::OpId;
+use ir_event::types::refusal::Refusal;
+use ir_event::world::World;
 use mlir_work_script_base::subject::Subject;
 use std::alloc::{AllocError, Global};
+
+/// Returns whether an operation is in the module.
+pub fn is_in(world: &World, op: OpId) -> bool
+    ensures { result ≡ has_id op (module_in world.now).tree }
+{
+    world.store.in_tree(op)
+}
+
+/// Returns the refusal for a missing operation or value.
+pub fn absent(subject: &Subject) -> Refusal
+    ensures { result ≡ absent subject.now }
+{
+    match subject {
+        Subject::Op(_) => Refusal::NoSuchOp,
+        Subject::Val(_) => Refusal::NoSuchValue,
+    }
+}
 
 /// Returns whether a row with this word defines a symbol.
 fn defines(tag: u8) -> bool

@@ -1,6 +1,6 @@
 -- The result of carrying out a plan.
 use Rattle.std.proofs.Common.{◌≡◌, refl, ap, sym, ◌∙◌, subst, ℕ, ◌+◌, ◌≤◌, List, [], Bool, true, false, Option, Some, None, inl, inr, leb-true}
-use Rattle.std.specs.Prelude.{length, nat_le, if◌then◌else◌}
+use Rattle.std.specs.Prelude.{length, nat_le, if◌then◌else◌, Err}
 use Rattle.ir_event.specs.declared.event.Event.{Event}
 use Rattle.ir_event.specs.types.Things.{ContextModel, IsExtendedBy}
 use Rattle.ir_event.specs.types.Sound.{Holds}
@@ -20,11 +20,12 @@ use Rattle.patterns_lowering.specs.Contents.{Edit, all_edited}
 use Rattle.patterns_lowering.specs.Held.{TransactionModel, module_held}
 use Rattle.patterns_lowering.specs.Runs.{Along}
 use Rattle.patterns_lowering.specs.Lists.{Free, IsWhy}
+use Rattle.patterns_base.specs.declared.edit.Edit.{Edit as Coded}
 use Rattle.patterns_lowering.proofs.Journals.{recorded_none}
 use Rattle.patterns_soundness.specs.base.Makes.{made_by}
 use Rattle.patterns_soundness.specs.base.Rewrites.{becomes, refused, carried_out}
 use Rattle.patterns_lowering.specs.Interning.{Added, IsCapacityRefusal}
-use Rattle.patterns.specs.Making.{made_makes}
+use Rattle.patterns.specs.Making.{AreMade, made_makes}
 use Rattle.patterns.proofs.Counted.{made_counted}
 use Rattle.patterns.specs.Applied.{Applied, limit_reason}
 use Rattle.patterns.specs.Planned.{IsFree, ApplyFails, MadeIsOf, planned_edits}
@@ -62,6 +63,17 @@ ids_left m k h = go (nat_le (op_count m.tree + k) most_ops) (nat_le (m.next + k)
 module _ {B : Type 0} (meaning : B → Listener) where
   pub applied_none : (a : Benched B) → Applied meaning a a
   applied_none a = record { grows = grows_refl a.transaction.ctx; opens = refl; led = ([], notified_none meaning a) }
+
+  -- edits that weren't begun, since memory ran out
+  pub made_none : (es : List Coded) (a : Benched B) → AreMade meaning es (Err Memory) a a
+  made_none es a =
+      record {
+        ok = tt;
+        err = refl;
+        refused = inl refl;
+        along = record { ctx = refl; opens = refl; led = ([], notified_none meaning a) };
+        journal = recorded_none a.transaction;
+      }
 
   pub applied_added : (a b : Benched B) → Added meaning a b → Applied meaning a b
   applied_added a b p = record { grows = p.grown.grows; opens = p.grown.marked; led = ([], p.untold) }

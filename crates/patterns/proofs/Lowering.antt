@@ -31,7 +31,7 @@ use Rattle.patterns.proofs.Firsts.{left_out, none_then, past, some_then, taken}
 use Rattle.patterns.proofs.Planned.{found, none_rule}
 
 module _ (w : World) (x : ℕ) (insertion : Place) (r : Rule) (pattern_set : is_canonical r ≡ true) where
-  attempted : (p : Option RulePlan) → option_map (made_edits w.ctx (module_in w).next x insertion) p ≡ edits_of r (module_in w) x → IfSome p (MadeIsOf w.ctx) → FirstMatch r w x insertion p
+  pub attempted : (p : Option RulePlan) → option_map (made_edits w.ctx (module_in w).next x insertion) p ≡ edits_of r (module_in w) x → IfSome p (MadeIsOf w.ctx) → FirstMatch r w x insertion p
   attempted None e of = left_out r (module_in w) x pattern_set e
   attempted (Some p) e of = (record { edits = e; of = of }, taken r (module_in w) x (made_edits w.ctx (module_in w).next x insertion p) pattern_set e)
 

@@ -63,7 +63,7 @@ fn try_likely(
         return Ok(None);
     }
     match rule {
-        Rule::EraseDead => made_dead(alloc, world, point, op, node),
+        Rule::EraseDead => Ok(made_dead(world, point, op, node)),
         _ => made_at(alloc, world, rule, point, op, node),
     }
 }
@@ -123,6 +123,7 @@ fn first_applying(
 
 /// Returns the first of some rules that applies, with its plan. The first rule of the list is already known to pass
 /// the cheap test.
+#[inline(always)]
 pub(crate) fn first_made(
     alloc: Global,
     world: &World,

@@ -5,6 +5,7 @@ ghost use Rattle.patterns_lowering.specs.Held.{module_held};
 ghost use Rattle.patterns.specs.Applied.{Applied};
 ghost use Rattle.patterns.specs.Planned.{IsFree, MadeIsOf, WereCarried, planned_edits};
 
+use crate::apply_edits::apply_listed;
 use crate::count::made_makes;
 use crate::insertion_point::InsertionPoint;
 use crate::limits::limit_reason;
@@ -14,7 +15,6 @@ use ir_event::analysis::Analysis;
 use ir_event::types::ids::OpId;
 use ir_event::types::refusal::Refusal;
 use patterns_lowering::Bench;
-use patterns_lowering::apply_unchecked::apply_unchecked;
 use std::alloc::Global;
 
 /// Carries out the plan of a rule at `op`. If it is refused, the module, its marks and the journal stay the same. No
@@ -50,7 +50,7 @@ pub(crate) fn apply_plan<L: Analysis>(
         Err(refusal) => return Err(refusal),
     };
     bench.is_wellformed();
-    match apply_unchecked(bench, &edits) {
+    match apply_listed(alloc, bench, &site, edits) {
         Ok(()) => Ok(()),
         Err(refusal) => Err(refusal),
     }

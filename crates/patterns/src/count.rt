@@ -1,12 +1,12 @@
 //! Counts the operations that rules make.
 ghost use Rattle.std.specs.Prelude.{◌≡◌, ◌≤◌, length};
-ghost use Rattle.patterns.specs.Making.{all_make, edit_makes, made_makes, plan_makes};
+ghost use Rattle.patterns.specs.Making.{all_make, edit_makes, large_makes, made_makes, plan_makes};
 ghost use Rattle.patterns.specs.Planned.{IsOfSome};
 
 use crate::plan::RulePlan;
 use patterns_lowering::count::lowering_makes;
 use patterns_lowering::edit::Edit;
-use patterns_plans::reads::plan::RewritePlan;
+use patterns_plans::reads::plan::{LargePlan, RewritePlan};
 
 /// Returns the number of operations that an edit makes.
 fn edit_makes(edit: &Edit) -> u64
@@ -32,19 +32,30 @@ fn all_make(edits: &[Edit]) -> u64
     count
 }
 
+/// Returns the number of operations that a large plan makes.
+fn large_makes(plan: &LargePlan) -> u64
+    ensures { result ≡ large_makes plan.now }
+{
+    match plan {
+        LargePlan::CombinedConstant { .. } => 2,
+        LargePlan::SwapComparison { .. } => 0,
+        LargePlan::CompareAndSelect { .. } => 2,
+        LargePlan::Difference { .. } => 5,
+        LargePlan::Remainder { .. } => 3,
+    }
+}
+
 /// Returns the number of operations that a plan makes.
 fn plan_makes(plan: &RewritePlan) -> u64
     ensures { result ≡ plan_makes plan.now }
 {
     match plan {
+        RewritePlan::Erase => 0,
+        RewritePlan::Give { .. } => 0,
         RewritePlan::Edits(edits) => all_make(edits),
         RewritePlan::Constant { .. } => 1,
         RewritePlan::Cast { .. } => 1,
-        RewritePlan::CombinedConstant { .. } => 2,
-        RewritePlan::SwapComparison { .. } => 0,
-        RewritePlan::CompareAndSelect { .. } => 2,
-        RewritePlan::Difference { .. } => 5,
-        RewritePlan::Remainder { .. } => 3,
+        RewritePlan::Large(plan) => large_makes(&**plan),
     }
 }
 

@@ -3,7 +3,7 @@ ghost use Rattle.std.specs.Prelude.{◌≡◌, ◌+◌, ◌≤◌, ◌++◌, [],
 ghost use Rattle.ir_event.specs.trees.Limits.{most_next};
 ghost use Rattle.patterns_base.specs.declared.edit.Edit.TheVariants.{Make as Made};
 ghost use Rattle.patterns.specs.New.{new_constant, new_op};
-ghost use Rattle.patterns.specs.Numbered.{cast_edits, chosen_edits, combined_edits, constant_edits, difference_edits};
+ghost use Rattle.patterns.specs.Numbered.{chosen_edits, combined_edits, difference_edits};
 ghost use Rattle.patterns.specs.Numbered.{first_result, giving, mirrored_edits, remainder_edits, result_at};
 
 use crate::insertion_point::InsertionPoint;
@@ -82,39 +82,6 @@ fn give(edits: &mut Vec<Edit>, site: &InsertionPoint, value: Value) -> Result<()
     })?;
     edits.push(Edit::Erase { op: site.op })?;
     Ok(())
-}
-
-/// Returns the edits of a plan that makes a constant, with an interned attribute.
-pub(crate) fn constant_edits(
-    alloc: Global,
-    site: &InsertionPoint,
-    ty: TypeId,
-    value: AttrId,
-) -> Result<Vec<Edit>, AllocError>
-    requires { site.now.next + 1 ≤ most_next }
-    ensures { IfOk result (λ es. es.items ≡ constant_edits site.now ty value) }
-{
-    let mut edits = Vec::with_capacity(alloc, 3)?;
-    push_constant(alloc, &mut edits, site, ty, value)?;
-    give(&mut edits, site, first_result(site))?;
-    Ok(edits)
-}
-
-/// Returns the edits of a plan that makes an operation with one operand.
-pub(crate) fn cast_edits(
-    alloc: Global,
-    site: &InsertionPoint,
-    name: NameId,
-    ty: TypeId,
-    value: &Value,
-) -> Result<Vec<Edit>, AllocError>
-    requires { site.now.next + 1 ≤ most_next }
-    ensures { IfOk result (λ es. es.items ≡ cast_edits site.now name ty value.now) }
-{
-    let mut edits = Vec::with_capacity(alloc, 3)?;
-    push_insertion(alloc, &mut edits, site, name, &[*value], ty, &None)?;
-    give(&mut edits, site, first_result(site))?;
-    Ok(edits)
 }
 
 /// Returns the edits of a plan that makes a constant, with an interned attribute, and an operation on a value and that

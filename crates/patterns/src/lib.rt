@@ -3,6 +3,7 @@
 #![tactic(auto)]
 
 pub mod apply;
+mod apply_edits;
 pub mod apply_first;
 pub mod apply_highest_priority;
 mod apply_plan;
@@ -15,6 +16,7 @@ pub mod limits;
 mod make;
 mod operations;
 mod plan;
+mod plan_edits;
 mod plans;
 mod prefilter;
 pub mod rules_by_name;

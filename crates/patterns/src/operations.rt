@@ -2,7 +2,7 @@
 ghost use Rattle.std.specs.Prelude.{◌≡◌, IfOk, option_map};
 ghost use Rattle.ir_event.specs.types.Terms.{name_term};
 ghost use Rattle.patterns_laws.specs.Words.{among, flagged};
-ghost use Rattle.patterns.specs.New.{entries, flag_entry, new_op};
+ghost use Rattle.patterns.specs.New.{entries, flag_entry, new_cast, new_constant, new_op};
 
 use ir_event::trees::tree::TreeOp;
 use ir_event::trees::value::Value;
@@ -69,4 +69,24 @@ pub(crate) fn new_op(
         attrs: Vec::new(alloc),
         regions: Vec::new(alloc),
     })
+}
+
+/// Returns a constant with an interned attribute.
+pub(crate) fn new_constant(alloc: Global, ty: TypeId, value: AttrId) -> Result<TreeOp, AllocError>
+    ensures { IfOk result (λ o. o ≡ new_constant ty value) }
+{
+    let entry = Some((Word::Value.id(), value));
+    new_op(alloc, Word::ArithConstant.id(), &[], ty, &entry)
+}
+
+/// Returns an operation with one operand and no properties.
+pub(crate) fn new_cast(
+    alloc: Global,
+    name: NameId,
+    ty: TypeId,
+    value: &Value,
+) -> Result<TreeOp, AllocError>
+    ensures { IfOk result (λ o. o ≡ new_cast name ty value.now) }
+{
+    new_op(alloc, name, &[*value], ty, &None)
 }

@@ -19,7 +19,6 @@ use ir_event::world::World;
 use patterns_lowering::plan::Lowering;
 use patterns_lowering::plans::plan_lowered;
 use patterns_lowering::region_rules::plans::{plan_open_branch, plan_open_loop, plan_stop_loop};
-use patterns_plans::dead::erase;
 use patterns_plans::plan_rule::plan;
 use patterns_plans::reads::eligibility::eligibility_of;
 use patterns_plans::reads::nodes::{insertion_point_before, op_node};
@@ -139,24 +138,17 @@ pub(crate) fn made_at(
 }
 
 /// Plans the erasure of a dead operation that is in order. `point` is the place before it.
-pub(crate) fn made_dead(
-    alloc: Global,
-    world: &World,
-    point: &Place,
-    op: OpId,
-    node: &Node<'_>,
-) -> Result<Option<RulePlan>, AllocError>
+pub(crate) fn made_dead(world: &World, point: &Place, op: OpId, node: &Node<'_>) -> Option<RulePlan>
     requires dead { IsDead world.now op }
     requires shown { Some (header_of_node world.now.ctx node.now) ≡ head_at op (module_in world.now).tree }
     requires point { Some point.now ≡ insertion_of op (module_in world.now).tree }
     requires eligible { eligible EraseDead (module_in world.now).tree (record (header_of_node world.now.ctx node.now) { id = op })
         ≡ true }
-    ensures edits { IfOk result (λ p. option_map (made_edits world.now.ctx (module_in world.now).next op point.now) p
-        ≡ edits_of EraseDead (module_in world.now) op) }
-    ensures of { IfOk result (λ p. IfSome p (MadeIsOf world.now.ctx)) }
+    ensures edits { option_map (made_edits world.now.ctx (module_in world.now).next op point.now) result
+        ≡ edits_of EraseDead (module_in world.now) op }
+    ensures of { IfSome result (MadeIsOf world.now.ctx) }
 {
-    let plan = erase(alloc, op)?;
-    Ok(Some(RulePlan::Rewrite(plan)))
+    Some(RulePlan::Rewrite(RewritePlan::Erase))
 }
 
 /// Plans a rule at `op`, or returns `None` if the rule doesn't apply.

@@ -8,14 +8,14 @@ ghost use Rattle.patterns_soundness.specs.base.Makes.{give_constant, give_new};
 ghost use Rattle.patterns_plans.specs.reads.Plans.{choosing, combined, dividing_by, mirroring, subtracting};
 ghost use Rattle.patterns_lowering.specs.Interning.{Added, IsCapacityRefusal};
 ghost use Rattle.patterns.specs.Interned.{DifferenceAttrs};
-ghost use Rattle.patterns.specs.Making.{EditsDenote};
+ghost use Rattle.patterns.specs.Making.{EditsDenote, listed_edits};
 
 use crate::edits::{
-    cast_edits, chosen_edits, combined_edits, constant_edits, difference_edits, mirrored_edits,
-    remainder_edits,
+    chosen_edits, combined_edits, difference_edits, mirrored_edits, remainder_edits,
 };
 use crate::insertion_point::InsertionPoint;
 use crate::interned::{flags_attr, flags_for, integer_type, predicate_attr, value_attr};
+use crate::plan_edits::PlanEdits;
 use ir_event::analysis::Analysis;
 use ir_event::trees::value::Value;
 use ir_event::types::ids::{AttrId, NameId, TypeId};
@@ -26,15 +26,13 @@ use std::alloc::Global;
 
 /// Returns the edits that make a constant.
 pub(crate) fn constant<L: Analysis>(
-    alloc: Global,
     bench: &mut Bench<L>,
     site: &InsertionPoint,
     ty: TypeId,
     bits: u128,
-) -> Result<Vec<Edit>, Refusal>
+) -> Result<PlanEdits, Refusal>
     requires of { IsType bench.old.transaction.ctx ty }
-    requires headroom { site.now.next + 1 ≤ most_next }
-    ensures stands { IfOk result (λ es. EditsDenote bench.new.transaction.ctx es.items
+    ensures stands { IfOk result (λ es. EditsDenote bench.new.transaction.ctx (listed_edits site.now es)
         (give_constant site.now.point site.now.next site.now.op (type_term bench.old.transaction.ctx ty) bits)) }
     ensures refused { IfErr result (λ e. IsCapacityRefusal bench.new.transaction.ctx e) }
     ensures added { Added L.meaning bench.old bench.new }
@@ -44,35 +42,25 @@ pub(crate) fn constant<L: Analysis>(
         Err(refusal) => return Err(refusal),
     };
     bench.is_wellformed();
-    match constant_edits(alloc, site, ty, value) {
-        Ok(edits) => Ok(edits),
-        Err(_) => Err(Refusal::Memory),
-    }
+    Ok(PlanEdits::Constant { ty, value })
 }
 
 /// Returns the edits that make an operation with one operand.
 pub(crate) fn recast<L: Analysis>(
-    alloc: Global,
-    bench: &mut Bench<L>,
+    bench: &Bench<L>,
     site: &InsertionPoint,
     name: NameId,
     ty: TypeId,
-    value: &Value,
-) -> Result<Vec<Edit>, Refusal>
-    requires name { IsName bench.old.transaction.ctx name }
-    requires ty { IsType bench.old.transaction.ctx ty }
-    requires headroom { site.now.next + 1 ≤ most_next }
-    ensures stands { IfOk result (λ es. EditsDenote bench.new.transaction.ctx es.items
+    value: Value,
+) -> PlanEdits
+    requires name { IsName bench.now.transaction.ctx name }
+    requires ty { IsType bench.now.transaction.ctx ty }
+    ensures { EditsDenote bench.now.transaction.ctx (listed_edits site.now result)
         (give_new site.now.point site.now.next site.now.op
-        (cast (name_term bench.old.transaction.ctx name) (type_term bench.old.transaction.ctx ty) value.now))) }
-    ensures refused { IfErr result (λ e. IsCapacityRefusal bench.new.transaction.ctx e) }
-    ensures added { Added L.meaning bench.old bench.new }
+        (cast (name_term bench.now.transaction.ctx name) (type_term bench.now.transaction.ctx ty) value)) }
 {
     bench.is_wellformed();
-    match cast_edits(alloc, site, name, ty, value) {
-        Ok(edits) => Ok(edits),
-        Err(_) => Err(Refusal::Memory),
-    }
+    PlanEdits::Cast { name, ty, value }
 }
 
 /// Returns the edits that make a constant and an operation on a value and that constant.

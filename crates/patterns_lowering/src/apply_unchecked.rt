@@ -37,8 +37,8 @@ fn carry_all<L: Analysis>(bench: &mut Bench<L>, edits: &[Edit]) -> Result<(), Re
     Ok(())
 }
 
-/// Makes edits one after another. None of them has a reason for a refusal, so moves, replacements and erasures aren't
-/// checked. If memory runs out, the module and its marks stay the same.
+/// Makes edits one after another. None of them has a reason for a refusal, so insertions, moves, replacements and
+/// erasures aren't checked. If memory runs out, the module and its marks stay the same.
 ///
 /// Errors: `Memory`.
 pub fn apply_unchecked<L: Analysis>(bench: &mut Bench<L>, edits: &[Edit]) -> Result<(), Refusal>

@@ -6,12 +6,14 @@ use Rattle.ir_event.specs.trees.declared.value.Value.{Value}
 use Rattle.ir_event.specs.trees.declared.value.Value.TheVariants.{Result}
 use Rattle.ir_event.specs.trees.declared.place.Place.{Place}
 use Rattle.patterns_base.specs.Contents.{Edit}
-use Rattle.patterns_base.specs.Edits.{Make, SetOperand, SetAttr}
+use Rattle.patterns_base.specs.Edits.{Make, SetOperand, SetAttr, Erase}
 use Rattle.patterns_base.specs.Lists.{AllFit, edits_meaning}
 use Rattle.patterns_base.specs.Made.{i64, constant, binary, comparison, choice, cast}
-use Rattle.patterns_base.specs.Makes.{give_new, give_constant}
+use Rattle.patterns_base.specs.Makes.{give, give_new, give_constant}
 use Rattle.patterns_matchers.specs.declared.plan.RewritePlan.{RewritePlan}
 use Rattle.patterns_matchers.specs.declared.plan.RewritePlan.TheVariants as plan
+use Rattle.patterns_matchers.specs.declared.plan.LargePlan.{LargePlan}
+use Rattle.patterns_matchers.specs.declared.plan.LargePlan.TheVariants as large
 
 -- a new constant, and an operation on a value and that constant, which replaces the result of x
 abbrev pub combined : ℕ → ℕ → Place → List ℕ → TypeTerm → Value → ℕ → List Edit
@@ -42,25 +44,37 @@ dividing_by n x point division ty a b =
     ∷ Make point (binary (codes "arith.muli") ty (Result n 0) b)
     ∷ give_new point (n + 2) x (binary (codes "arith.subi") ty a (Result (n + 1) 0))
 
--- the edits of a plan at operation x, where n is the next free id and the place is before x
+-- the edits of a large plan at operation x, where n is the next free id and the place is before x
+abbrev pub large_meaning : ContextModel → ℕ → ℕ → Place → LargePlan → List Edit
+large_meaning c n x point (large.CombinedConstant name ty v bits) = combined n x point (name_term c name) (type_term c ty) v bits
+large_meaning c n x point (large.SwapComparison p a b) = mirroring x p a b
+large_meaning c n x point (large.CompareAndSelect p ty a b) = choosing n x point p (type_term c ty) a b
+large_meaning c n x point (large.Difference ty a b ones) = subtracting n x point (type_term c ty) a b ones
+large_meaning c n x point (large.Remainder division ty a b) =
+    dividing_by n x point (name_term c division) (type_term c ty) a b
+
+-- the same for any plan
 abbrev pub plan_meaning : ContextModel → ℕ → ℕ → Place → RewritePlan → List Edit
+plan_meaning c n x point plan.Erase = Erase x ∷ []
+plan_meaning c n x point (plan.Give v) = give x v
 plan_meaning c n x point (plan.Edits es) = edits_meaning c es.items
 plan_meaning c n x point (plan.Constant ty bits) = give_constant point n x (type_term c ty) bits
 plan_meaning c n x point (plan.Cast name ty v) = give_new point n x (cast (name_term c name) (type_term c ty) v)
-plan_meaning c n x point (plan.CombinedConstant name ty v bits) = combined n x point (name_term c name) (type_term c ty) v bits
-plan_meaning c n x point (plan.SwapComparison p a b) = mirroring x p a b
-plan_meaning c n x point (plan.CompareAndSelect p ty a b) = choosing n x point p (type_term c ty) a b
-plan_meaning c n x point (plan.Difference ty a b ones) = subtracting n x point (type_term c ty) a b ones
-plan_meaning c n x point (plan.Remainder division ty a b) =
-    dividing_by n x point (name_term c division) (type_term c ty) a b
+plan_meaning c n x point (plan.Large p) = large_meaning c n x point p.value
 
--- the numbers of a plan are interned in a context
+-- the numbers of a large plan are interned in a context
+abbrev pub LargeIsOf : ContextModel → LargePlan → Type 0
+LargeIsOf c (large.CombinedConstant name ty v bits) = IsName c name × IsType c ty
+LargeIsOf c (large.SwapComparison p a b) = Unit {0}
+LargeIsOf c (large.CompareAndSelect p ty a b) = IsType c ty
+LargeIsOf c (large.Difference ty a b ones) = IsType c ty
+LargeIsOf c (large.Remainder division ty a b) = IsName c division × IsType c ty
+
+-- the same for any plan
 abbrev pub PlanIsOf : ContextModel → RewritePlan → Type 0
+PlanIsOf c plan.Erase = Unit {0}
+PlanIsOf c (plan.Give v) = Unit {0}
 PlanIsOf c (plan.Edits es) = AllFit c es.items
 PlanIsOf c (plan.Constant ty bits) = IsType c ty
 PlanIsOf c (plan.Cast name ty v) = IsName c name × IsType c ty
-PlanIsOf c (plan.CombinedConstant name ty v bits) = IsName c name × IsType c ty
-PlanIsOf c (plan.SwapComparison p a b) = Unit {0}
-PlanIsOf c (plan.CompareAndSelect p ty a b) = IsType c ty
-PlanIsOf c (plan.Difference ty a b ones) = IsType c ty
-PlanIsOf c (plan.Remainder division ty a b) = IsName c division × IsType c ty
+PlanIsOf c (plan.Large p) = LargeIsOf c p.value

@@ -3,9 +3,16 @@ use ir_event::trees::value::Value;
 use ir_event::types::ids::{NameId, TypeId};
 use patterns_base::edit::Edit;
 
-/// The plan of a rule that applies at an operation. New operations are inserted before that operation.
+/// The plan of a rule that applies at an operation. New operations are inserted before that operation. The plans that
+/// most rewrites need are small and take no memory; the large ones are boxed.
 #[derive(Drop)]
 pub enum RewritePlan {
+    /// The operation is erased.
+    Erase,
+    /// An existing value replaces the result, and the operation is erased.
+    Give {
+        value: Value,
+    },
     /// Edits that need nothing interned.
     Edits(Vec<Edit>),
     /// A new constant with these bits replaces the result.
@@ -19,6 +26,13 @@ pub enum RewritePlan {
         ty: TypeId,
         value: Value,
     },
+    /// One of the large plans.
+    Large(Box<LargePlan>),
+}
+
+/// The plans that make more than one operation, or set a predicate.
+#[derive(Drop)]
+pub enum LargePlan {
     /// A new constant with these bits, followed by a new operation with this name on a value and the constant, which
     /// replaces the result.
     CombinedConstant {

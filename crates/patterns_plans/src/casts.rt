@@ -6,7 +6,6 @@ ghost use Rattle.patterns_matchers.specs.Casting.{extend_extension, cut_cast, ca
 ghost use Rattle.patterns_plans.specs.Planned.{FitsIn, IsPlanned};
 ghost use Rattle.patterns_plans.specs.Casts.{IsPlannedOne};
 
-use crate::fold_to_operand::give;
 use ir_event::store::node::Node;
 use ir_event::types::ids::OpId;
 use ir_event::types::word::Word;
@@ -89,8 +88,7 @@ pub(crate) fn plan_cut_cast(
     if !is_of_type(world, p.ty, q.first) {
         return Ok(None);
     }
-    let plan = give(alloc, op, q.first)?;
-    Ok(Some(plan))
+    Ok(Some(RewritePlan::Give { value: q.first }))
 }
 
 /// Plans a rewrite of an unrealized cast: a cast to its operand's type becomes the operand; a cast of such a cast,
@@ -107,8 +105,7 @@ fn unrealized(
     ensures fits_in { IfOk result (FitsIn world.now.ctx) }
 {
     if is_of_type(world, p.ty, p.first) {
-        let plan = give(alloc, op, p.first)?;
-        return Ok(Some(plan));
+        return Ok(Some(RewritePlan::Give { value: p.first }));
     }
     let Some(inside) = defining_op_named(alloc, world, p.name, &p.first)? else {
         return Ok(None);
@@ -119,8 +116,7 @@ fn unrealized(
     if !is_of_type(world, p.ty, q.first) {
         return Ok(None);
     }
-    let plan = give(alloc, op, q.first)?;
-    Ok(Some(plan))
+    Ok(Some(RewritePlan::Give { value: q.first }))
 }
 
 /// Plans a rewrite of a cast between an integer and index, and back, to its source. The type in the middle must have
@@ -148,8 +144,7 @@ fn through_index(
     if !is_of_type(world, p.ty, q.first) {
         return Ok(None);
     }
-    let plan = give(alloc, op, q.first)?;
-    Ok(Some(plan))
+    Ok(Some(RewritePlan::Give { value: q.first }))
 }
 
 /// Plans `cast-back`: a cast back to the original type becomes the original value.

@@ -11,7 +11,7 @@ use ir_event::world::World;
 use patterns_matchers::constants::constant_value;
 use patterns_matchers::defining_ops::defining_op_named;
 use patterns_matchers::op_names::{is_associative, word_name};
-use patterns_matchers::plan::RewritePlan;
+use patterns_matchers::plan::{LargePlan, RewritePlan};
 use patterns_matchers::shapes::binary_op;
 use patterns_matchers::types::{negated_bits, type_width};
 use std::alloc::{AllocError, Global};
@@ -52,12 +52,15 @@ pub(crate) fn plan_regroup_constants(
         &[Some(inner), Some(outer)],
         &[p.ty],
     ) {
-        Some(bits) => Ok(Some(RewritePlan::CombinedConstant {
-            name: p.name,
-            ty: p.ty,
-            value: q.first,
-            bits: bits.value,
-        })),
+        Some(bits) => {
+            let plan = LargePlan::CombinedConstant {
+                name: p.name,
+                ty: p.ty,
+                value: q.first,
+                bits: bits.value,
+            };
+            Ok(Some(RewritePlan::Large(Box::new(alloc, plan)?)))
+        }
         None => Ok(None),
     }
 }
@@ -82,10 +85,11 @@ pub(crate) fn plan_add_negative(
     let Some(bits) = constant_value(alloc, world, &p.second)? else {
         return Ok(None);
     };
-    Ok(Some(RewritePlan::CombinedConstant {
+    let plan = LargePlan::CombinedConstant {
         name: word_name(&world.ctx, Word::ArithAddi),
         ty: p.ty,
         value: p.first,
         bits: negated_bits(type_width(&world.ctx, p.ty), bits.value),
-    }))
+    };
+    Ok(Some(RewritePlan::Large(Box::new(alloc, plan)?)))
 }

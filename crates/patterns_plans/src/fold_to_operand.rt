@@ -1,21 +1,15 @@
 //! Plans of the rules that replace an operation's result by an existing value.
 ghost use Rattle.std.specs.Prelude.{◌≡◌, IfOk, ℕ};
-ghost use Rattle.ir_event.specs.types.Things.{ContextModel};
-ghost use Rattle.ir_event.specs.trees.declared.place.Place.{Place as At};
 ghost use Rattle.ir_event.specs.Modules.{NodeIsOf};
-ghost use Rattle.patterns_matchers.specs.Makes.{give};
 ghost use Rattle.patterns_matchers.specs.Folding.{drop_zero, drop_one, drop_all_ones, keep_itself, choose_same};
 ghost use Rattle.patterns_matchers.specs.Folding.{choose_known, choose_truth};
-ghost use Rattle.patterns_matchers.specs.Plans.{PlanIsOf, plan_meaning};
 ghost use Rattle.patterns_plans.specs.Planned.{FitsIn, IsPlanned};
 
 use ir_event::store::node::Node;
 use ir_event::trees::uses::is_same;
-use ir_event::trees::value::Value;
 use ir_event::types::ids::OpId;
 use ir_event::types::word::Word;
 use ir_event::world::World;
-use patterns_base::edit::Edit;
 use patterns_matchers::constants::{constant_value, is_number};
 use patterns_matchers::op_names::{
     has_one_as_right_identity, has_zero_as_right_identity, is_idempotent,
@@ -24,20 +18,6 @@ use patterns_matchers::plan::RewritePlan;
 use patterns_matchers::shapes::{binary_op, ternary_op};
 use patterns_matchers::types::{all_ones, is_boolean};
 use std::alloc::{AllocError, Global};
-
-/// Returns the plan that replaces the result of `op` by `value` and erases `op`.
-pub(crate) fn give(alloc: Global, op: OpId, value: Value) -> Result<RewritePlan, AllocError>
-    ensures edits { IfOk result (λ p. (c : ContextModel) (n : ℕ) (point : At) → plan_meaning c n op point p ≡ give op value) }
-    ensures fits_in { IfOk result (λ p. (c : ContextModel) → PlanIsOf c p) }
-{
-    let mut edits = Vec::with_capacity(alloc, 2)?;
-    edits.push(Edit::Replace {
-        old: Value::Result(op, 0),
-        new: value,
-    })?;
-    edits.push(Edit::Erase { op })?;
-    Ok(RewritePlan::Edits(edits))
-}
 
 /// Plans `drop-zero`: a second operand 0 leaves the first operand.
 #[inline(never)]
@@ -59,8 +39,7 @@ pub(crate) fn plan_drop_zero(
     if !is_number(alloc, world, 0, &p.second)? {
         return Ok(None);
     }
-    let plan = give(alloc, op, p.first)?;
-    Ok(Some(plan))
+    Ok(Some(RewritePlan::Give { value: p.first }))
 }
 
 /// Plans `drop-one`: a second operand 1 leaves the first operand.
@@ -83,8 +62,7 @@ pub(crate) fn plan_drop_one(
     if !is_number(alloc, world, 1, &p.second)? {
         return Ok(None);
     }
-    let plan = give(alloc, op, p.first)?;
-    Ok(Some(plan))
+    Ok(Some(RewritePlan::Give { value: p.first }))
 }
 
 /// Plans `drop-all-ones`: a second operand with all bits set leaves the first operand.
@@ -111,56 +89,43 @@ pub(crate) fn plan_drop_all_ones(
     if bits.value != all_ones(&world.ctx, p.ty) {
         return Ok(None);
     }
-    let plan = give(alloc, op, p.first)?;
-    Ok(Some(plan))
+    Ok(Some(RewritePlan::Give { value: p.first }))
 }
 
 /// Plans `keep-itself`: an operation on a value and itself becomes the value.
 #[inline(never)]
-pub(crate) fn plan_keep_itself(
-    alloc: Global,
-    world: &World,
-    op: OpId,
-    node: &Node<'_>,
-) -> Result<Option<RewritePlan>, AllocError>
-    ensures edits { IfOk result (IsPlanned keep_itself world.now op node.now) }
-    ensures fits_in { IfOk result (FitsIn world.now.ctx) }
+pub(crate) fn plan_keep_itself(world: &World, op: OpId, node: &Node<'_>) -> Option<RewritePlan>
+    ensures edits { IsPlanned keep_itself world.now op node.now result }
+    ensures fits_in { FitsIn world.now.ctx result }
 {
     let Some(p) = binary_op(node) else {
-        return Ok(None);
+        return None;
     };
     if !is_idempotent(&world.ctx, p.name) {
-        return Ok(None);
+        return None;
     }
     if !is_same(&p.first, &p.second) {
-        return Ok(None);
+        return None;
     }
-    let plan = give(alloc, op, p.first)?;
-    Ok(Some(plan))
+    Some(RewritePlan::Give { value: p.first })
 }
 
 /// Plans `choose-same`: a select between a value and itself becomes the value.
 #[inline(never)]
-pub(crate) fn plan_choose_same(
-    alloc: Global,
-    world: &World,
-    op: OpId,
-    node: &Node<'_>,
-) -> Result<Option<RewritePlan>, AllocError>
-    ensures edits { IfOk result (IsPlanned choose_same world.now op node.now) }
-    ensures fits_in { IfOk result (FitsIn world.now.ctx) }
+pub(crate) fn plan_choose_same(world: &World, op: OpId, node: &Node<'_>) -> Option<RewritePlan>
+    ensures edits { IsPlanned choose_same world.now op node.now result }
+    ensures fits_in { FitsIn world.now.ctx result }
 {
     let Some(p) = ternary_op(node) else {
-        return Ok(None);
+        return None;
     };
     if !world.ctx.is_word(p.name, Word::ArithSelect) {
-        return Ok(None);
+        return None;
     }
     if !is_same(&p.second, &p.third) {
-        return Ok(None);
+        return None;
     }
-    let plan = give(alloc, op, p.second)?;
-    Ok(Some(plan))
+    Some(RewritePlan::Give { value: p.second })
 }
 
 /// Plans `choose-known`: a select with a constant condition becomes the selected value.
@@ -184,8 +149,7 @@ pub(crate) fn plan_choose_known(
         return Ok(None);
     };
     let chosen = if bits.value == 0 { p.third } else { p.second };
-    let plan = give(alloc, op, chosen)?;
-    Ok(Some(plan))
+    Ok(Some(RewritePlan::Give { value: chosen }))
 }
 
 /// Plans `choose-truth`: a select between true and false becomes the condition.
@@ -215,6 +179,5 @@ pub(crate) fn plan_choose_truth(
     if !is_number(alloc, world, 0, &p.third)? {
         return Ok(None);
     }
-    let plan = give(alloc, op, p.first)?;
-    Ok(Some(plan))
+    Ok(Some(RewritePlan::Give { value: p.first }))
 }

@@ -12,7 +12,7 @@ use patterns_base::edit::Edit;
 use patterns_matchers::constants::{is_known, is_number, named_defining_op};
 use patterns_matchers::nodes::is_constant;
 use patterns_matchers::op_names::is_commutative;
-use patterns_matchers::plan::RewritePlan;
+use patterns_matchers::plan::{LargePlan, RewritePlan};
 use patterns_matchers::predicates::{predicate, swapped_predicate};
 use patterns_matchers::shapes::{binary_op, ternary_op};
 use std::alloc::{AllocError, Global};
@@ -81,11 +81,12 @@ pub(crate) fn plan_mirror_comparison(
     if is_constant(world, &p.second) {
         return Ok(None);
     }
-    Ok(Some(RewritePlan::SwapComparison {
+    let plan = LargePlan::SwapComparison {
         predicate: swapped_predicate(asks),
         first: p.second,
         second: p.first,
-    }))
+    };
+    Ok(Some(RewritePlan::Large(Box::new(alloc, plan)?)))
 }
 
 /// Plans `choose-opposite`: a select on a negated condition becomes one on the condition, with both values swapped.

@@ -26,6 +26,7 @@ use std::alloc::{AllocError, Global};
 
 /// Plans a rule at an operation, or returns `None` if the rule doesn't apply. `node` is what the store shows of the
 /// operation. The caller has checked that the operation is verified and has a place.
+#[inline(always)]
 pub fn plan(
     alloc: Global,
     world: &World,
@@ -40,30 +41,30 @@ pub fn plan(
     ensures fits_in { IfOk result (FitsIn world.now.ctx) }
 {
     match rule {
-        Rule::EraseDead => plan_erase_dead(alloc, world, op),
+        Rule::EraseDead => Ok(plan_erase_dead(world, op)),
         Rule::FoldToConstant => plan_fold_to_constant(alloc, world, node),
         Rule::SwapConstant => plan_swap_constant(alloc, world, op, node),
         Rule::DropZero => plan_drop_zero(alloc, world, op, node),
         Rule::DropOne => plan_drop_one(alloc, world, op, node),
         Rule::DropAllOnes => plan_drop_all_ones(alloc, world, op, node),
         Rule::CancelItself => Ok(plan_cancel_itself(world, node)),
-        Rule::KeepItself => plan_keep_itself(alloc, world, op, node),
+        Rule::KeepItself => Ok(plan_keep_itself(world, op, node)),
         Rule::ZeroRemainder => plan_zero_remainder(alloc, world, node),
         Rule::RegroupConstants => plan_regroup_constants(alloc, world, node),
         Rule::AddNegative => plan_add_negative(alloc, world, node),
         Rule::CompareItself => Ok(plan_compare_itself(world, node)),
         Rule::MirrorComparison => plan_mirror_comparison(alloc, world, node),
         Rule::CompareZero => plan_compare_zero(alloc, world, node),
-        Rule::ChooseSame => plan_choose_same(alloc, world, op, node),
+        Rule::ChooseSame => Ok(plan_choose_same(world, op, node)),
         Rule::ChooseKnown => plan_choose_known(alloc, world, op, node),
         Rule::ChooseTruth => plan_choose_truth(alloc, world, op, node),
         Rule::ChooseOpposite => plan_choose_opposite(alloc, world, op, node),
         Rule::ExtendExtension => plan_extend_extension(alloc, world, node),
         Rule::CutCast => plan_cut_cast(alloc, world, op, node),
         Rule::CastBack => plan_cast_back(alloc, world, op, node),
-        Rule::ExpandMinMax => Ok(plan_expand_min_max(world, node)),
-        Rule::ExpandDifference => Ok(plan_expand_difference(world, node)),
-        Rule::ExpandRemainder => Ok(plan_expand_remainder(world, node)),
+        Rule::ExpandMinMax => plan_expand_min_max(alloc, world, node),
+        Rule::ExpandDifference => plan_expand_difference(alloc, world, node),
+        Rule::ExpandRemainder => plan_expand_remainder(alloc, world, node),
         Rule::OpenBranch
         | Rule::OpenLoop
         | Rule::StopLoop

@@ -22,4 +22,5 @@ pub mod Outcomes
 pub mod Released
 pub mod NextTo
 mod Unchecked
+mod Inserted
 pub use Rattle.rewriter_machine.proofs.Numbers

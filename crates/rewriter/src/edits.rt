@@ -54,6 +54,32 @@ impl<L: Analysis> Bench<L> {
         }
     }
 
+    /// Inserts an operation like `header` at `place` and returns its id, which is the next free id. Nothing is checked:
+    /// the insertion has no reason for a refusal.
+    ///
+    /// Refusals: `Memory`.
+    pub fn make_unchecked(&mut self, place: Place, header: &TreeOp) -> Result<OpId, Refusal>
+        requires sound { IsSoundIn self.old.transaction.ctx header.now }
+        requires bare { holds_none (Some header.now) ≡ true }
+        requires free { reason_by (tests_in self.old.transaction.ctx) (Make place header.now)
+            self.old.transaction.store.module_of ≡ None }
+        ensures does { Does L.meaning (Do (edit_meaning self.old.transaction.ctx (Make place header.now)))
+            (id_reply_of result) self.old self.new }
+        ensures led { Led L.meaning self.old self.new }
+        ensures ctx { self.new.transaction.ctx ≡ self.old.transaction.ctx }
+        ensures journal { JournalAfter L.meaning result self.old self.new }
+    {
+        let op = OpId::new(self.transaction.world().store.next_id());
+        match self.transaction.put_unchecked(place, header) {
+            Err(refusal) => Err(refusal),
+            Ok(event) => {
+                self.panel.tell(self.transaction.world(), event);
+                settle(&mut self.transaction);
+                Ok(op)
+            }
+        }
+    }
+
     /// Takes an operation with no operations inside it out of the module. It is held while a mark is open.
     ///
     /// Refusals, in order: `NoSuchOp`; `IsRoot`; `NotEmpty` if a block of `op` holds operations; `HasUses` if a value

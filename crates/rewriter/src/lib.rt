@@ -22,6 +22,7 @@ mod making;
 pub mod mark;
 mod marks;
 mod moving;
+mod putting;
 mod read_in_module;
 mod release;
 pub mod replace;

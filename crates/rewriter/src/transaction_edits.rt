@@ -14,6 +14,7 @@ ghost use Rattle.rewriter.specs.Moves.{Edited, IsAnswered};
 
 use crate::claims::{claim, note};
 use crate::moving::shift_unchecked;
+use crate::putting::put_unchecked;
 use crate::transaction::Transaction;
 use ir_event::event::Event;
 use ir_event::trees::place::{Part, Place};
@@ -44,6 +45,31 @@ impl Transaction {
         };
         self.world.ctx.sound();
         let made = self.world.put(place, header);
+        note(&mut self.journal, &self.marks, &made);
+        made
+    }
+
+    /// Inserts an operation like `header` at `place` and returns the event, without checks. The insertion has no reason
+    /// for a refusal.
+    ///
+    /// Refusals: `Memory`.
+    pub fn put_unchecked(&mut self, place: Place, header: &TreeOp) -> Result<Event, Refusal>
+        requires sound { IsSoundIn self.old.ctx header.now }
+        requires bare { holds_none (Some header.now) ≡ true }
+        requires tidy { HasNoStaleIds self.old.store }
+        requires free { put_reason (isolated_in self.old.ctx) place header.now self.old.store.module_of.next
+            self.old.store.module_of.tree ≡ None }
+        ensures ok { IfOk result (λ e. Edited e (after_put place header.now self.old.store) self.old self.new) }
+        ensures event { IfOk result (λ e. e ≡ Put self.old.store.module_of.next place true) }
+        ensures err { OnErr result (self.new ≡ self.old) }
+        ensures refused { IfErr result (λ e. e ≡ Refusal.Memory) }
+        ensures tidy { HasNoStaleIds self.new.store }
+    {
+        let Ok(()) = claim(&mut self.journal, &self.marks) else {
+            return Err(Refusal::Memory);
+        };
+        self.world.ctx.sound();
+        let made = put_unchecked(&mut self.world, place, header);
         note(&mut self.journal, &self.marks, &made);
         made
     }

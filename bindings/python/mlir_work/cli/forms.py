@@ -25,6 +25,7 @@ PARTS = {
     "#N": (f"#{NUMBER}", "an operation is #N, as #3"),
     "K": (NUMBER, "K is the number of an operand, counted from 0"),
     "N": (NUMBER, "N is a whole number"),
+    "COUNT": (NUMBER, "a count is a whole number"),
     "W": (NUMBER, "a width is a whole number"),
     "NAME": (NAME, "the name of a pattern doesn't begin with a digit"),
     "MODE": ("partial|full", "a mode is `partial` or `full`"),

@@ -1,7 +1,7 @@
 """Prints the operations of a module, one a line: as text, or as JSON objects.
 
 An object has the keys of docs/JSON.md, and a line of text has the same data. The operations are read through the
-library if the Python package would use it, or from what the program prints for `print ids`. Both give the same lines.
+library if the Python package would use it, or from what the program prints for `show`. Both give the same lines.
 """
 import argparse
 import re
@@ -13,7 +13,8 @@ from ..errors import Error, ModuleRefused, Refused
 from ..library import is_preferred
 from ..positions import positions_of
 from ..session import Session
-from ..shown import OfText
+from ..shown import OfLines, OfText
+from ..values import op_text
 from . import explain, nesting, program
 from .listing import COMMAND
 
@@ -21,6 +22,8 @@ EPILOG = """#N has to be in quotes in a shell; N alone is the same. With --posit
 column at which the operation begins in the text that was read. The status is 1 if the module has no operation #N."""
 # How many operations are read at once from the library.
 PAGE = 1000
+# The refusal of a line that is no command.
+BAD_COMMAND = 60
 
 
 def operation(text):
@@ -39,10 +42,10 @@ def count(text):
 
 
 class Printed:
-    """A module that the program printed, in place of a session."""
+    """The operations that the program printed, in place of a session."""
 
-    def __init__(self, text, positions):
-        self.shown = OfText(operations.read(text), positions)
+    def __init__(self, shown):
+        self.shown = shown
 
     def show(self, number):
         """Returns an operation. Raises Refused if the module doesn't have it."""
@@ -70,10 +73,20 @@ def opened(text, given):
             raise
         except Error as fault:
             raise program.Fault(str(fault)) from None
-    ran = program.asked(text, [COMMAND])
+    positions = positions_of(text) if given.has_positions else None
+    wanted = "all" if given.operation is None else op_text(given.operation)
+    reply = asked(text, f"show {wanted}")
+    if reply.refusal() is not None and reply.refusal().number == BAD_COMMAND:  # (an older program)
+        return Printed(OfText(operations.read(asked(text, COMMAND).shown), positions))
+    return Printed(OfLines(reply.lines, positions))
+
+
+def asked(text, line):
+    """Returns the reply to a line over a module. Raises ModuleRefused."""
+    ran = program.asked(text, [line])
     if ran.refused:
         raise ran.refused
-    return Printed(next(ran.replies()).shown, positions_of(text) if given.has_positions else None)
+    return next(ran.replies())
 
 
 def read(given):

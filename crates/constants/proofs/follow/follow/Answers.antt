@@ -14,11 +14,11 @@ returns-in-Put-clause-looks c =
 
 pub returns-in-SetOperand-clause-followed : goal.returns-in-SetOperand-clause-followed
 returns-in-SetOperand-clause-followed c =
-    subst (λ (e : Event). FactsFollowed (c.update-in-SetOperand.result ≡ true) (look_in c.args.view.now.world.now) e (known_in c.args.table.now) (known_in c.update-in-SetOperand.new.table)) (sym c.in-SetOperand.is) c.update-in-SetOperand.ensures.updated
+    subst (λ (e : Event). FactsFollowed (c.update_operand.result ≡ true) (look_in c.args.view.now.world.now) e (known_in c.args.table.now) (known_in c.update_operand.new.table)) (sym c.in-SetOperand.is) c.update_operand.ensures.followed
 
 pub returns-in-SetOperand-clause-looks : goal.returns-in-SetOperand-clause-looks
 returns-in-SetOperand-clause-looks c =
-    subst (λ (e : Event). LooksFollowed (module_in c.args.view.now.world.now).tree e (known_in c.args.table.now) c.args.view.now.looks c.update-in-SetOperand.new.view.looks) (sym c.in-SetOperand.is) c.update-in-SetOperand.ensures.looks
+    subst (λ (e : Event). LooksFollowed (module_in c.args.view.now.world.now).tree e (known_in c.args.table.now) c.args.view.now.looks c.update_operand.new.view.looks) (sym c.in-SetOperand.is) c.update_operand.ensures.looks
 
 pub returns-in-SetEntry-clause-followed : goal.returns-in-SetEntry-clause-followed
 returns-in-SetEntry-clause-followed c =

@@ -6,4 +6,5 @@ use Rattle.constants.proofs.table.note.Goals as goal
 pub returns-in-Ok-clause-noted : goal.returns-in-Ok-clause-noted
 returns-in-Ok-clause-noted c =
     written c.args.op (Some c.args.bits.now) c.args.table.now c.insert.new.self
-    (subst (λ x. idmap.Updates c.args.table.now c.insert.new.self x (Some c.args.bits.now)) c.number.ensures c.in-Ok.ensures.updates)
+    (subst (λ x. idmap.Updates c.args.table.now c.insert.new.self x (Some c.args.bits.now)) c.number.ensures
+    (subst (λ b. idmap.Updates c.args.table.now c.insert.new.self c.number.result (Some b)) c.new.ensures c.in-Ok.ensures.updates))

@@ -9,7 +9,7 @@ pub invariant_of-rows-2 : goal.invariant_of-rows-2
 invariant_of-rows-2 c =
     let f = row_at c.args.rows.now in
     let g = rows_at c.record_row.new.rows in
-    let n = Some c.args.row in
+    let n = Some c.args.row.now in
     let yes : c.record_row.result ≡ true = search rules in
     let is = on_true_is c.record_row.result _ yes c.record_row.ensures.there in
     let set = c.args.rows.now.acting in

@@ -165,8 +165,8 @@ returns-in-Ok-clause-applied g c =
     let r : Right pattern_set w.passed w.again.items m = subst (λ p. Right pattern_set w.passed w.again.items p) (sym h) c.waiting.invariant.1.1.0 in
     let became = rewrote pattern_set m x true n refl (subst (λ f. Applied (pattern_set.comes m x) (is_some f) m n) c.in-Ok-Some.field-0-is c.in-Ok-Some.ensures.ok) in
     let fires : Some c.in-Ok-Some.by ≡ pattern_set.fires m x = sym c.in-Ok-Some.field-0-is ∙ c.in-Ok-Some.ensures.applied in
-    subst (λ p. Some (record { by = c.in-Ok-Some.by; op = x; from = c.next_id-next.result; until = c.next_id.result; stays = c.in_tree.result }) ≡ applied_next pattern_set p) h
-    (reported_as c.in-Ok-Some.by x m n c.next_id-next.result c.next_id.result c.in_tree.result c.next_id-next.ensures c.next_id.ensures c.in_tree.ensures
+    subst (λ p. Some (record { by = c.in-Ok-Some.by; op = x; from = c.next_id-next.result; until = c.next_id.result; stays = c.in_tree-stays.result }) ≡ applied_next pattern_set p) h
+    (reported_as c.in-Ok-Some.by x m n c.next_id-next.result c.next_id.result c.in_tree-stays.result c.next_id-next.ensures c.next_id.ensures c.in_tree-stays.ensures
     ∙ sym (notified_there pattern_set (pattern_set_lawful c.args.pattern_set.now c.requires.ruled).applied m x w.passed w.again.items v.passed v.again.items r c.in-Some.ensures c.in-Ok-Some.by n fires became))
 
 pub returns-clause-applied : goal.returns-clause-applied

@@ -1,9 +1,14 @@
 use Rattle.std.proofs.Common.{◌∙◌, sym, arith}
-use Rattle.greedy.proofs.Following.{from_inside, from_after, after_root, up}
+use Rattle.greedy.proofs.Following.{from_inside, from_after, after_root, next_after, up}
 use Rattle.greedy.proofs.walk.following.Goals as goal
 
 pub returns-in-Some : goal.returns-in-Some
 returns-in-Some c = sym (from_inside c.args.store.now.module_of.tree c.requires.distinct c.args.op c.in-Some.first c.requires.there (sym c.in-Some.ensures))
+
+pub returns-in-Some-next : goal.returns-in-Some-next
+returns-in-Some-next c =
+    let t = c.args.store.now.module_of.tree in
+    sym (from_after t c.requires.distinct c.args.op c.requires.there (sym c.in_default.ensures) ∙ next_after t c.requires.distinct c.args.op c.in-Some-next.next c.requires.there (sym c.in-Some-next.ensures))
 
 pub around-init : goal.around-init
 around-init c = (c.requires.there, from_after c.args.store.now.module_of.tree c.requires.distinct c.args.op c.requires.there (sym c.in_default.ensures))

@@ -1,5 +1,5 @@
-use Rattle.std.proofs.Common.{◌≡◌, ◌∙◌, ap, sym, subst, map}
-use Rattle.std.specs.Prelude.{option_map, Result, Ok, Err, IfOk}
+use Rattle.std.proofs.Common.{◌≡◌, ◌∙◌, ap, sym, subst, map, true}
+use Rattle.std.specs.Prelude.{option_map, is_some, Result, Ok, Err, IfOk, IfSome}
 use Rattle.ir_event.specs.types.Terms.{name_term}
 use Rattle.ir_event.specs.types.Words.{is_table}
 use Rattle.ir_event.specs.types.Things.{ContextModel}
@@ -9,9 +9,10 @@ use Rattle.ir_event.specs.Modules.{NodeIsOf, module_in}
 use Rattle.ir_event.specs.declared.world.World.{World}
 use Rattle.ir_event.proofs.Nodes.{known_node}
 use Rattle.listeners_symbols.specs.Listeners.{kept_at}
-use Rattle.listeners_symbols.specs.Roles.{call_of}
+use Rattle.listeners_symbols.specs.Roles.{Role, call_of}
 use Rattle.listeners_symbols.specs.Table.{IsReadAs, call_meaning, head_meaning, tables_for, tree_in}
 use Rattle.listeners_symbols.proofs.Gathered.{read_right, parent_kept, meaning_parent}
+use Rattle.listeners_symbols.proofs.Omitted.{parents_kept}
 use Rattle.listeners_symbols.proofs.gather.gather.Goals as goal
 
 if_ok : {A E : Type 0} (P Q : A → Type 0) (r : Result A E) → ((a : A) → P a → Q a) → IfOk r P → IfOk r Q
@@ -59,4 +60,20 @@ returns-clause-role c =
     read_right w x n table tables r c.requires is
     (subst (λ (z : ContextModel). IsReadAs z (head_meaning z n.head) types tables r) e2
     (h types (subst (λ (z : ContextModel). option_map (call_meaning z) c.in_ok-call.call ≡ call_of (head_meaning z n.head) types) (sym e2) call))))
+    c.role_with.ensures
+
+pub returns-clause-parents : goal.returns-clause-parents
+returns-clause-parents c =
+    let w = c.args.view.now.world.now in
+    let n = c.args.node.now in
+    let e1 = c.tables_of.ensures.world in
+    let e2 = c.context-2.ensures ∙ ap (λ (u : World). u.ctx) (c.call_of.ensures.world ∙ e1) in
+    let table = kept_at c.args.roles.now in
+    let tables = c.in-Some.tables in
+    let types = map (λ v. type_of_value v (module_in w).tree) n.head.operands in
+    let call = subst (λ (u : World). option_map (call_meaning u.ctx) c.in_ok-call.call ≡ call_of (head_meaning u.ctx n.head) (map (λ v. type_of_value v (module_in u).tree) n.head.operands)) e1 c.in_ok-call.ensures.call in
+    if_ok _ _ c.role_with.result (λ r h.
+    let read = h types (subst (λ (z : ContextModel). option_map (call_meaning z) c.in_ok-call.call ≡ call_of (head_meaning z n.head) types) (sym e2) call) in
+    subst (λ o. IfSome o (λ p. is_some (table p) ≡ true)) (sym (ap (λ (z : Role). z.parent) read.is))
+    (parents_kept table c.args.op c.table-is_table.result (parent_of c.args.op (tree_in w)) tables (sym c.in-Some.ensures.tables)))
     c.role_with.ensures

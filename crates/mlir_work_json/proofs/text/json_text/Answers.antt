@@ -24,4 +24,4 @@ returns-clause-text c = all_written c.loop-rest.json.items c.loop-rest.rest.now 
 pub returns-clause-lines : goal.returns-clause-lines
 returns-clause-lines c =
     let whole = all_written c.loop-rest.json.items c.loop-rest.rest.now _ (sym c.is_empty.ensures ∙ c.loop-rest-test.false) c.loop-rest.invariant in
-    ap (parts is_newline) whole ∙ lines_of_json (parts is_newline c.args.output.now)
+    ap (parts is_newline) whole ∙ lines_of_json c.args.output.now

@@ -43,3 +43,6 @@ returns-in-CanonAt-clause-headroom g c =
 
 pub returns-in-Why-clause-fulfils : goal.returns-in-Why-clause-fulfils
 returns-in-Why-clause-fulfils g c = fulfils_alike (session_setting g.L.AnalysisSource.supply c.args.session_options.now) _ _ _ _ _ _ (ap session_command_of c.in-Why.is) (c.why.ensures (session_setting g.L.AnalysisSource.supply c.args.session_options.now))
+
+pub returns-in-ShowFrom-clause-fulfils : goal.returns-in-ShowFrom-clause-fulfils
+returns-in-ShowFrom-clause-fulfils g c = fulfils_alike (session_setting g.L.AnalysisSource.supply c.args.session_options.now) _ _ _ _ _ _ (ap session_command_of c.in-ShowFrom.is) (c.show_from.ensures (session_setting g.L.AnalysisSource.supply c.args.session_options.now))

@@ -1,12 +1,12 @@
 use Rattle.std.proofs.Common.{sym, subst, true, ◌∙◌}
 use Rattle.ir_event.specs.Modules.{module_in}
-use Rattle.std.specs.Prelude.{IfOk, option_map}
+use Rattle.std.specs.Prelude.{option_map}
 use Rattle.std.proofs.Common.{◌≡◌}
 use Rattle.patterns_soundness.specs.base.Rewrites.{edits_of, eligible}
 use Rattle.patterns.specs.Planned.{made_edits}
 use Rattle.patterns_plans.specs.reads.Reads.{header_of_node}
 use Rattle.patterns.proofs.Firsts.{left_out}
-use Rattle.patterns.proofs.Lowering.{tried_ok}
+use Rattle.patterns.proofs.Lowering.{attempted, tried_ok}
 use Rattle.patterns.proofs.Planned.{none_suited}
 use Rattle.patterns.proofs.apply_highest_priority.try_likely.Goals as goal
 
@@ -36,8 +36,8 @@ pub returns-in-EraseDead : goal.returns-in-EraseDead
 returns-in-EraseDead c =
     let w = c.args.world.now in
     let m = module_in w in
-    tried_ok w c.args.op c.args.point.now c.args.rule c.requires.likely.attempted c.made_dead.result
-    (subst (λ r. IfOk c.made_dead.result (λ p. option_map (made_edits w.ctx m.next c.args.op c.args.point.now) p ≡ edits_of r m c.args.op)) (sym c.in-EraseDead.is) c.made_dead.ensures.edits)
+    attempted w c.args.op c.args.point.now c.args.rule c.requires.likely.attempted c.made_dead.result
+    (subst (λ r. option_map (made_edits w.ctx m.next c.args.op c.args.point.now) c.made_dead.result ≡ edits_of r m c.args.op) (sym c.in-EraseDead.is) c.made_dead.ensures.edits)
     c.made_dead.ensures.of
 
 pub returns-in_default : goal.returns-in_default

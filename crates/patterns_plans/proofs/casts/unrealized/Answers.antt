@@ -7,9 +7,3 @@ use Rattle.patterns_plans.proofs.casts.unrealized.Goals as goal
 pub returns-in_default-unary_op-clause-edits : goal.returns-in_default-unary_op-clause-edits
 returns-in_default-unary_op-clause-edits c node n insertion =
     none_unrealized (module_in c.args.world.now).tree n insertion (bare_in c.args.world.now.ctx c.args.op node) (one_in c.args.world.now.ctx c.args.p.now) _ (header_of_node c.args.world.now.ctx c.in-Some.inside) c.is_of_type.result c.is_of_type.ensures c.if-is_of_type.false c.in_ok-inside.ensures.node (ap (option_map (header_of_node c.args.world.now.ctx)) c.in-Some.is) (c.in_default-unary_op.ensures.shaped_as c.args.world.now.ctx)
-
-pub returns-then-is_of_type-clause-fits_in : goal.returns-then-is_of_type-clause-fits_in
-returns-then-is_of_type-clause-fits_in c = c.in_ok-plan.ensures.fits_in c.args.world.now.ctx
-
-pub returns-clause-fits_in : goal.returns-clause-fits_in
-returns-clause-fits_in c = c.in_ok-plan-2.ensures.fits_in c.args.world.now.ctx

@@ -1,4 +1,3 @@
-use Rattle.std.proofs.Common.{◌∙◌, ap, Some}
 use Rattle.ir_event.specs.Modules.{module_in}
 use Rattle.patterns_plans.proofs.Headed.{none_dead, one_dead}
 use Rattle.patterns_plans.proofs.dead.plan_erase_dead.Goals as goal
@@ -8,7 +7,4 @@ returns-then-not-dead_op-clause-edits c o f n insertion = none_dead c.args.op (m
 
 pub returns-clause-edits : goal.returns-clause-edits
 returns-clause-edits c o f n insertion =
-    ap Some (c.in_ok-plan.ensures.edits c.args.world.now.ctx n insertion) ∙ one_dead c.args.op (module_in c.args.world.now).tree o c.dead_op.result c.dead_op.ensures c.if-not-dead_op.false f n insertion
-
-pub returns-clause-fits_in : goal.returns-clause-fits_in
-returns-clause-fits_in c = c.in_ok-plan.ensures.fits_in c.args.world.now.ctx
+    one_dead c.args.op (module_in c.args.world.now).tree o c.dead_op.result c.dead_op.ensures c.if-not-dead_op.false f n insertion

@@ -23,7 +23,7 @@ use Rattle.patterns_plans.proofs.plan_rule.plan.Goals as goal
 
 pub returns-in-EraseDead-clause-edits : goal.returns-in-EraseDead-clause-edits
 returns-in-EraseDead-clause-edits c =
-    subst (λ r. IfOk c.plan_erase_dead.result (IsPlanAt r c.args.world.now c.args.op)) (sym c.in-EraseDead.is)
+    subst (λ r. IsPlanAt r c.args.world.now c.args.op c.plan_erase_dead.result) (sym c.in-EraseDead.is)
     c.plan_erase_dead.ensures.edits
 
 pub returns-in-FoldToConstant-clause-edits : goal.returns-in-FoldToConstant-clause-edits
@@ -63,8 +63,7 @@ returns-in-CancelItself-clause-edits c =
 
 pub returns-in-KeepItself-clause-edits : goal.returns-in-KeepItself-clause-edits
 returns-in-KeepItself-clause-edits c =
-    IfOk-weaker c.plan_keep_itself.result _ _
-    (λ p. planned_at keep_itself KeepItself at_keep_itself c.args.rule c.in-KeepItself.is c.args.world.now c.args.op c.args.node.now p c.requires.shown)
+    planned_at keep_itself KeepItself at_keep_itself c.args.rule c.in-KeepItself.is c.args.world.now c.args.op c.args.node.now c.plan_keep_itself.result c.requires.shown
     c.plan_keep_itself.ensures.edits
 
 pub returns-in-ZeroRemainder-clause-edits : goal.returns-in-ZeroRemainder-clause-edits
@@ -104,8 +103,7 @@ returns-in-CompareZero-clause-edits c =
 
 pub returns-in-ChooseSame-clause-edits : goal.returns-in-ChooseSame-clause-edits
 returns-in-ChooseSame-clause-edits c =
-    IfOk-weaker c.plan_choose_same.result _ _
-    (λ p. planned_at choose_same ChooseSame at_choose_same c.args.rule c.in-ChooseSame.is c.args.world.now c.args.op c.args.node.now p c.requires.shown)
+    planned_at choose_same ChooseSame at_choose_same c.args.rule c.in-ChooseSame.is c.args.world.now c.args.op c.args.node.now c.plan_choose_same.result c.requires.shown
     c.plan_choose_same.ensures.edits
 
 pub returns-in-ChooseKnown-clause-edits : goal.returns-in-ChooseKnown-clause-edits
@@ -146,15 +144,18 @@ returns-in-CastBack-clause-edits c =
 
 pub returns-in-ExpandMinMax-clause-edits : goal.returns-in-ExpandMinMax-clause-edits
 returns-in-ExpandMinMax-clause-edits c =
-    planned_at expand_min_max ExpandMinMax at_expand_min_max c.args.rule c.in-ExpandMinMax.is c.args.world.now c.args.op c.args.node.now c.plan_expand_min_max.result c.requires.shown
+    IfOk-weaker c.plan_expand_min_max.result _ _
+    (λ p. planned_at expand_min_max ExpandMinMax at_expand_min_max c.args.rule c.in-ExpandMinMax.is c.args.world.now c.args.op c.args.node.now p c.requires.shown)
     (c.plan_expand_min_max.ensures.edits c.args.op)
 
 pub returns-in-ExpandDifference-clause-edits : goal.returns-in-ExpandDifference-clause-edits
 returns-in-ExpandDifference-clause-edits c =
-    planned_at expand_difference ExpandDifference at_expand_difference c.args.rule c.in-ExpandDifference.is c.args.world.now c.args.op c.args.node.now c.plan_expand_difference.result c.requires.shown
+    IfOk-weaker c.plan_expand_difference.result _ _
+    (λ p. planned_at expand_difference ExpandDifference at_expand_difference c.args.rule c.in-ExpandDifference.is c.args.world.now c.args.op c.args.node.now p c.requires.shown)
     (c.plan_expand_difference.ensures.edits c.args.op)
 
 pub returns-in-ExpandRemainder-clause-edits : goal.returns-in-ExpandRemainder-clause-edits
 returns-in-ExpandRemainder-clause-edits c =
-    planned_at expand_remainder ExpandRemainder at_expand_remainder c.args.rule c.in-ExpandRemainder.is c.args.world.now c.args.op c.args.node.now c.plan_expand_remainder.result c.requires.shown
+    IfOk-weaker c.plan_expand_remainder.result _ _
+    (λ p. planned_at expand_remainder ExpandRemainder at_expand_remainder c.args.rule c.in-ExpandRemainder.is c.args.world.now c.args.op c.args.node.now p c.requires.shown)
     (c.plan_expand_remainder.ensures.edits c.args.op)

@@ -8,5 +8,5 @@ pub returns : goal.returns
 returns g c =
     let es = c.self.inside.entries.items in
     c.pick.ensures
-    ∙ rw (c.deref.ensures.value, c.place_of.ensures, c.self.invariant.agrees.found c.args.name) (find_top c.args.name.now c.self.inside.first (views es))
+    ∙ rw (c.deref-2.ensures.value, c.latest_place-place.ensures, c.deref.ensures.value) (find_top c.args.name.now c.self.inside.first (views es))
     ∙ ap (λ (s : Scopes g.row.T.Denot). find c.args.name.now s.here) c.self.view_is

@@ -1,4 +1,0 @@
-use Rattle.patterns_plans.proofs.casts.plan_cut_cast.Goals as goal
-
-pub returns-clause-fits_in : goal.returns-clause-fits_in
-returns-clause-fits_in c = c.in_ok-plan.ensures.fits_in c.args.world.now.ctx
