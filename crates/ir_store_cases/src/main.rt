@@ -1,6 +1,5 @@
 //! Answers calls of a module under edits. Standard input has one call a line, and each is answered with one line. The
-//! answer is followed by the module after the call, and by `differs` if the plain programs on trees have another
-//! result.
+//! answer is followed by the module after the call, or a sum over all that can be read of it.
 #![tactic(auto)]
 
 mod calls;
@@ -18,7 +17,8 @@ use std::io::{ErrorKind, Read};
 
 /// Prints the answer to a line.
 fn print_answer(rt: &HostRuntime, state: &mut State, line: &str) -> Result<(), Refusal> {
-    let answer = calls::answer(rt.alloc(), state, line)?;
+    let mut answer = String::new(rt.alloc());
+    calls::write_line(rt.alloc(), &mut answer, state, line)?;
     let _ = println!(rt; "{answer}");
     Ok(())
 }

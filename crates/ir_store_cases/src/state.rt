@@ -1,7 +1,5 @@
-//! The state of a run: a context, a module, the operations that were taken out, and what is shown after an answer.
+//! The state of a run: a context, a module, and what is shown after an answer.
 use ir_store::store::Store;
-use ir_tree::tree::TreeOp;
-use ir_tree_cases_base::build::bare;
 use ir_types::context::Context;
 use ir_types::node::{AttrNode, Sign, TypeNode};
 use ir_types::refusal::Refusal;
@@ -12,18 +10,17 @@ use std::alloc::Global;
 pub enum Show {
     /// The tree, and the next free id.
     Tree,
-    /// A checksum of the tree and of all reads of the module.
+    /// A sum over the tree and all reads of the module.
     Sum,
     /// Nothing.
     Nothing,
 }
 
-/// A context, a module if one was loaded, and the operations that were taken out.
+/// A context, a module if one was loaded, and what is shown.
 #[derive(Drop)]
 pub struct State {
     pub context: Context,
     pub store: Option<Store>,
-    pub taken: Vec<TreeOp>,
     pub show: Show,
 }
 
@@ -36,15 +33,8 @@ impl State {
         Ok(State {
             context,
             store: None,
-            taken: Vec::new(alloc),
             show: Show::Tree,
         })
-    }
-
-    /// Replaces the module.
-    pub fn hold(&mut self, store: Store) {
-        self.store = Some(store);
-        self.taken.clear();
     }
 }
 

@@ -1,5 +1,5 @@
 //! A rule at an operation of a module.
-use crate::texts::{bytes, first_word, small, write_all_shown};
+use crate::texts::{first_word, parse_number, write_bytes};
 use crate::witness::Witness;
 use crate::worlds::{rewriter_from, text_of};
 use ir_event::types::ids::OpId;
@@ -32,8 +32,8 @@ fn write_module(alloc: Global, out: &mut String, bench: &Bench<Witness>) -> Resu
     let Ok(text) = text_of(alloc, bench.world()) else {
         return Err(AllocError);
     };
-    out.push(' ')?;
-    write_all_shown(out, &text)
+    out.push('\n')?;
+    write_bytes(out, &text)
 }
 
 /// A rule at an operation of a bench's module, and the module after it.
@@ -49,15 +49,14 @@ fn applied(
     Ok(out)
 }
 
-/// `RULE OP NEXT TEXT`: whether a rule applies at an operation of the module that a text spells, whose next free id is
-/// at least `NEXT`, and the module after it.
-pub fn answer(alloc: Global, line: &str) -> Result<String, AllocError> {
-    let (rule, rest) = first_word(line);
-    let (op, rest) = first_word(rest);
-    let (next, text) = first_word(rest);
-    let text = bytes(alloc, text)?;
-    match rewriter_from(alloc, &text, small(next)) {
-        Ok(mut bench) => applied(alloc, &mut bench, small(rule), OpId::new(small(op))),
+/// `RULE OP NEXT`: whether a rule applies at an operation of the module that a text spells, whose next free id is at
+/// least `NEXT`, and the module after it.
+pub fn answer(alloc: Global, call: &str, text: &[u8]) -> Result<String, AllocError> {
+    let (rule, rest) = first_word(call);
+    let (op, next) = first_word(rest);
+    let (rule, op) = (parse_number(rule), OpId::new(parse_number(op)));
+    match rewriter_from(alloc, text, parse_number(next)) {
+        Ok(mut bench) => applied(alloc, &mut bench, rule, op),
         Err(refusal) => format!(in alloc; "{refusal}"),
     }
 }

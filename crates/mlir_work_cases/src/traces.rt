@@ -2,7 +2,7 @@
 ghost use Rattle.std.specs.Prelude.{◌≡◌, []};
 
 use crate::events::write_event;
-use crate::texts::{bytes, write_all_shown};
+use crate::texts::write_bytes;
 use crate::witness::Witness;
 use crate::worlds::rewriter_of;
 use ir_event::event::Event;
@@ -16,12 +16,10 @@ use mlir_work_session::script::run_script;
 use std::alloc::{AllocError, Global};
 use std::fmt::Write;
 
-/// A text for the status of a script and what it wrote.
-fn run_text(alloc: Global, status: u8, written: &[u8]) -> Result<String, AllocError> {
-    let mut out = String::new(alloc);
-    write!(out, "{status} ")?;
-    write_all_shown(&mut out, written)?;
-    Ok(out)
+/// Writes what a script wrote, and its status.
+fn write_run(out: &mut String, status: u8, written: &[u8]) -> Result<(), AllocError> {
+    write_bytes(out, written)?;
+    write!(out, "status {status}")
 }
 
 /// Writes events, each after a space.
@@ -111,15 +109,15 @@ fn traced(
     let mut written: Vec<u8> = Vec::new(alloc);
     let witness = Witness::new(alloc, 102);
     let status = run_notified(alloc, bytes, bench, witness, script, &mut written)?;
-    let mut out = run_text(alloc, status, &written)?;
+    let mut out = String::new(alloc);
+    write_run(&mut out, status, &written)?;
     write_trace(&mut out, bench)?;
     Ok(out)
 }
 
-/// `TEXT`: the events that a listener is notified of by the script of an input, and the journal that is left.
-pub fn trace(alloc: Global, text: &str) -> Result<String, AllocError> {
-    let input = bytes(alloc, text)?;
-    let (module, script) = split(&input);
+/// The events that a listener is notified of by the script of an input, and the journal that is left.
+pub fn trace(alloc: Global, input: &[u8]) -> Result<String, AllocError> {
+    let (module, script) = split(input);
     match rewriter_of(alloc, module) {
         Ok(mut bench) => traced(alloc, input.len(), &mut bench, script),
         Err(refusal) => format!(in alloc; "{refusal}"),
