@@ -121,8 +121,14 @@ fn add_known(sum: &mut u64, store: &Store, op: OpId) {
 /// Adds whether keys have slots.
 fn add_slots(sum: &mut u64, store: &Store, op: OpId) {
     for key in KEYS {
-        add(sum, u64::from(store.has_slot(op, Part::Props, NameId::new(key))));
-        add(sum, u64::from(store.has_slot(op, Part::Attrs, NameId::new(key))));
+        add(
+            sum,
+            u64::from(store.has_slot(op, Part::Props, NameId::new(key))),
+        );
+        add(
+            sum,
+            u64::from(store.has_slot(op, Part::Attrs, NameId::new(key))),
+        );
     }
 }
 
@@ -162,8 +168,14 @@ fn add_values_of(sum: &mut u64, store: &Store, op: OpId) {
 fn add_pair(sum: &mut u64, ctx: &Context, store: &Store, op: OpId, other: OpId) {
     add(sum, u64::from(store.is_before(op, other)));
     add(sum, u64::from(store.precedes(op, other)));
-    add(sum, u64::from(store.visible(ctx, op, Value::Result(other, 0))));
-    add(sum, u64::from(store.visible(ctx, op, Value::Arg(other, 0, 0))));
+    add(
+        sum,
+        u64::from(store.visible(ctx, op, Value::Result(other, 0))),
+    );
+    add(
+        sum,
+        u64::from(store.visible(ctx, op, Value::Arg(other, 0, 0))),
+    );
 }
 
 /// Adds all reads of an operation.
