@@ -7,7 +7,7 @@ ghost use Rattle.ir_tree.specs.Meaning.{IsSoundIn};
 use crate::edits::{entry_line, put_line, set_line, take_line};
 use crate::moves::shift_line;
 use crate::reads::sum_of;
-use crate::state::{Show, State};
+use crate::state::{Loaded, Show};
 use crate::undone::{restore_line, retract_line, revert_line};
 use ir_store::store::Store;
 use ir_tree::check::check;
@@ -66,15 +66,21 @@ fn made(alloc: Global, ctx: &Context, call: &str, text: &str) -> Result<Store, R
 }
 
 /// Loads a module. The text has the next free id and the tree: `9 : op block end end`.
-fn load_line(alloc: Global, state: &mut State, call: &str, text: &str) -> Result<bool, Refusal> {
-    let store = made(alloc, &state.context, call, text)?;
-    state.store = Some(store);
+fn load_line(
+    alloc: Global,
+    ctx: &Context,
+    loaded: &mut Loaded,
+    call: &str,
+    text: &str,
+) -> Result<bool, Refusal> {
+    let store = made(alloc, ctx, call, text)?;
+    loaded.store = Some(store);
     Ok(true)
 }
 
 /// Sets what is shown: `tree`, `sum`, or nothing for any other word.
-fn show_line(state: &mut State, text: &str) -> Result<bool, Refusal> {
-    state.show = match text {
+fn show_line(loaded: &mut Loaded, text: &str) -> Result<bool, Refusal> {
+    loaded.show = match text {
         "tree" => Show::Tree,
         "sum" => Show::Sum,
         _ => Show::Nothing,
@@ -152,22 +158,19 @@ fn write_module(
 fn write_edit(
     alloc: Global,
     out: &mut String,
-    state: &mut State,
+    ctx: &Context,
+    loaded: &mut Loaded,
     line: &str,
 ) -> Result<(), Refusal> {
-    let State {
-        context,
-        store,
-        show,
-    } = state;
+    let Loaded { store, show } = loaded;
     let Some(store) = store else {
         return Ok(out.push_str("no module")?);
     };
-    let answer = edit(alloc, context, store, line);
+    let answer = edit(alloc, ctx, store, line);
     write_answer(out, answer)?;
     match show {
         Show::Nothing => Ok(()),
-        _ => write_module(alloc, out, context, store, *show),
+        _ => write_module(alloc, out, ctx, store, *show),
     }
 }
 
@@ -175,13 +178,14 @@ fn write_edit(
 pub fn write_line(
     alloc: Global,
     out: &mut String,
-    state: &mut State,
+    ctx: &Context,
+    loaded: &mut Loaded,
     line: &str,
 ) -> Result<(), Refusal> {
     let (call, rest) = first_word(line);
     match call {
-        "load" | "hold" => Ok(write_answer(out, load_line(alloc, state, call, rest))?),
-        "show" => Ok(write_answer(out, show_line(state, rest))?),
-        _ => write_edit(alloc, out, state, line),
+        "load" | "hold" => Ok(write_answer(out, load_line(alloc, ctx, loaded, call, rest))?),
+        "show" => Ok(write_answer(out, show_line(loaded, rest))?),
+        _ => write_edit(alloc, out, ctx, loaded, line),
     }
 }

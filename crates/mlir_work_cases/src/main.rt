@@ -17,7 +17,8 @@ use std::io::{ErrorKind, Read};
 
 /// Prints the answer to a case.
 fn print_answer(rt: &HostRuntime, case: &str) -> Result<(), AllocError> {
-    let answer = answers::answer(rt.alloc(), case)?;
+    let mut answer = String::new(rt.alloc());
+    answers::write_case(rt.alloc(), &mut answer, case)?;
     let _ = println!(rt; "{answer}\n====");
     Ok(())
 }

@@ -7,9 +7,9 @@ pub fn first_word(text: &str) -> (&str, &str) {
     text.split_once(' ').unwrap_or((text, ""))
 }
 
-/// Returns a number, or 4294967295 if the word isn't a number.
+/// Returns a number, or 0 if the word isn't a number.
 pub fn parse_number(word: &str) -> u32 {
-    word.parse::<u32>().unwrap_or(u32::MAX)
+    word.parse::<u32>().unwrap_or(0)
 }
 
 /// Writes bytes as text, or `?` if they aren't UTF-8.
