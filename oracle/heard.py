@@ -167,7 +167,7 @@ class Heard(Run):
         old, new = before.ops()[number], self.module.ops()[number]
         part = "props" if key in old.props or key in new.props else "attrs"
         there = ["some" if key in (op.props if part == "props" else op.attrs) else "none" for op in (old, new)]
-        self.tell([("entry", f"#{number}", part, f"[{key.decode()}]", *there)])
+        self.tell([("entry", f"#{number}", part, key.decode(), *there)])
 
     def set_attr(self, text):
         before = self.module

@@ -1,11 +1,10 @@
-"""Traces of the events that a listener is notified of, which are lines of crates/mlir_work_cases, and the diagnostics
+"""Traces of the events that a listener is notified of, which are cases of crates/mlir_work_cases, and the diagnostics
 of single operations, which are golden files; mlir_work_cases.py makes cases of them. The answers are those of the rules
 (oracle/heard.py). Random cases come from the seed below."""
 import random
 
 from tests.generate.analyses_cases import EDITS, NEAR
 from oracle import chance, examples, heard, script
-from oracle.lines import given, told
 from oracle.module import read, text_of
 
 SEED = 21
@@ -34,9 +33,9 @@ class Cases:
     def trace(self, text):
         """A run with its events, and the journal afterwards."""
         status, out, events, journal = heard.traced(text.encode())
-        self.case(f"trace {given(text.encode())}",
-                  f"{status} {told(out)} heard{heard.text_of_events(events)} journal "
-                  f"{len(journal)}{heard.text_of_events(journal)}")
+        heard_and_left = (f"status {status} heard{heard.text_of_events(events)} journal {len(journal)}"
+                          f"{heard.text_of_events(journal)}")
+        self.case("trace", text.encode(), out + heard_and_left.encode())
         return [heard.text_of_event(event) for event in events], len(journal)
 
 
@@ -118,9 +117,9 @@ def checks(case):
         case(["--brief"], lines, script.run(lines, True), name=name)
 
 
-def all_cases(line, case, begin, title):
-    """Makes all cases: lines of crates/mlir_work_cases, and golden ones."""
-    cases = Cases(line)
+def all_cases(traced, case, begin, title):
+    """Makes all cases: those of crates/mlir_work_cases, and golden ones."""
+    cases = Cases(traced)
     for part in (six_events, unseen, by_hand, by_chance):
         part(cases)
     begin("verifier/each_operation")

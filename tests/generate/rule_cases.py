@@ -14,7 +14,6 @@ import re
 import checkout  # noqa: F401
 
 from oracle import rewrites
-from oracle.lines import given, told
 from oracle.module import read, rules, text_of
 
 MOST_NEXT = 4294967295
@@ -343,16 +342,16 @@ def title_of(rule, op, answer):
             f"Rule {rule}, `{word}`, doesn't apply where its operation, constants, types or form don't fit.")
 
 
-def all_cases(case, line):
-    """All cases, and how many there are of each rule; `case` takes words, a text, an answer and a title, `line` a line
+def all_cases(case, ask):
+    """All cases, and how many there are of each rule; `case` takes words, a text, an answer and a title, `ask` a case
     of crates/mlir_work_cases and its answer."""
     count = collections.Counter()
     lines = with_ids(line for line in cases() if line[0] in WRITTEN)
     for rule, op, least, text, answer, after in itertools.chain(lines, edges()):
         count[rule, after is not None] += 1
         if least:
-            shown = told((text_of(read(text.encode())) if after is None else after).encode())
-            line(f"apply {rule} {op} {least} {given(text.encode())}", f"{answer} {shown}")
+            shown = text_of(read(text.encode())) if after is None else after
+            ask(f"{rule} {op} {least}", text.encode(), f"{answer}\n{shown}".encode())
         else:
             case(["--brief"], *asked(rule, op, text, answer, after), title=title_of(rule, op, answer))
     for rule in WRITTEN:

@@ -11,7 +11,7 @@ use op_registry::registry::Registry;
 use std::alloc::{AllocError, Global};
 
 /// Returns the fold, or `None` if an id isn't of the context.
-pub fn checked_fold(
+fn checked_fold(
     context: &Context,
     name: NameId,
     props: &[(NameId, AttrId)],
@@ -78,31 +78,35 @@ fn width(types: &Types) -> (usize, bool) {
     (types.first.len(), types.more.is_some())
 }
 
+/// Returns how many properties of a row are required.
+fn count_required(def: &OpDef) -> usize {
+    let mut required = 0usize;
+    for property in def.properties.iter() {
+        if property.required {
+            required = required.saturating_add(1);
+        }
+    }
+    required
+}
+
 /// Returns the counts of a row.
 fn counts(alloc: Global, def: &OpDef) -> Result<String, AllocError> {
     let (operands, more_operands) = width(&def.operands);
     let (results, more_results) = width(&def.results);
     let regions = def.regions.len();
     let properties = def.properties.len();
-    let required = def.properties.iter().filter(|p| p.required).count();
+    let required = count_required(def);
     let parents = def.parents.len();
     format!(in alloc;
         "{operands} {more_operands} {results} {more_results} {regions} {properties} {required} {parents}"
     )
 }
 
-fn row(
-    alloc: Global,
-    context: &mut Context,
-    table: &Registry,
-    text: &str,
-) -> Result<String, Refusal> {
-    let name = context.name(text.as_bytes())?;
-    let answer = match table.get(name) {
-        Some(def) => counts(alloc, def)?,
-        None => format!(in alloc; "none")?,
-    };
-    Ok(answer)
+fn row_text(alloc: Global, table: &Registry, name: NameId) -> Result<String, AllocError> {
+    match table.get(name) {
+        Some(def) => counts(alloc, def),
+        None => String::from_str(alloc, "none"),
+    }
 }
 
 fn listed(alloc: Global, effects: EffectSet) -> Result<String, AllocError> {
@@ -115,38 +119,42 @@ fn listed(alloc: Global, effects: EffectSet) -> Result<String, AllocError> {
     format!(in alloc; "{allocate} {free} {read} {write}")
 }
 
-fn effects(
-    alloc: Global,
-    context: &mut Context,
-    table: &Registry,
-    text: &str,
-) -> Result<String, Refusal> {
-    let name = context.name(text.as_bytes())?;
-    let answer = match table.effects(name) {
-        Own::Pure => format!(in alloc; "pure")?,
-        Own::Only(effects) => listed(alloc, effects)?,
-        Own::Recursive => format!(in alloc; "recursive")?,
-        Own::Unknown => format!(in alloc; "unknown")?,
-    };
-    Ok(answer)
+fn effects_text(alloc: Global, table: &Registry, name: NameId) -> Result<String, AllocError> {
+    match table.effects(name) {
+        Own::Pure => String::from_str(alloc, "pure"),
+        Own::Only(effects) => listed(alloc, effects),
+        Own::Recursive => String::from_str(alloc, "recursive"),
+        Own::Unknown => String::from_str(alloc, "unknown"),
+    }
 }
 
-fn traits(
-    alloc: Global,
-    context: &mut Context,
-    table: &Registry,
-    text: &str,
-) -> Result<String, Refusal> {
-    let name = context.name(text.as_bytes())?;
+fn traits_text(alloc: Global, table: &Registry, name: NameId) -> Result<String, AllocError> {
     let terminator = table.has(name, Trait::Terminator);
     let isolated = table.has(name, Trait::Isolated);
     let symbol_table = table.has(name, Trait::SymbolTable);
     let symbol = table.has(name, Trait::Symbol);
     let recursive = table.has(name, Trait::Recursive);
-    Ok(format!(in alloc; "{terminator} {isolated} {symbol_table} {symbol} {recursive}")?)
+    format!(in alloc; "{terminator} {isolated} {symbol_table} {symbol} {recursive}")
 }
 
-/// Returns the answer to a line. A line that isn't a call is returned unchanged.
+/// Answers a question about the row of an operation.
+fn table_text(
+    alloc: Global,
+    context: &mut Context,
+    table: &Registry,
+    call: &str,
+    text: &str,
+) -> Result<String, Refusal> {
+    let name = context.name(text.as_bytes())?;
+    let answer = match call {
+        "row" => row_text(alloc, table, name),
+        "effects" => effects_text(alloc, table, name),
+        _ => traits_text(alloc, table, name),
+    };
+    Ok(answer?)
+}
+
+/// Returns the answer to a line.
 pub fn answer(
     alloc: Global,
     context: &mut Context,
@@ -156,9 +164,6 @@ pub fn answer(
     let (call, rest) = first_word(line);
     match call {
         "fold" => folded(alloc, context, rest),
-        "row" => row(alloc, context, table, rest),
-        "effects" => effects(alloc, context, table, rest),
-        "traits" => traits(alloc, context, table, rest),
-        _ => Ok(format!(in alloc; "{line}")?),
+        _ => table_text(alloc, context, table, call, rest),
     }
 }

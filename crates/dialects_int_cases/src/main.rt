@@ -1,19 +1,16 @@
 //! Answers calls of the operation table and of folds. Standard input has one call a line, and each is answered with one
-//! line. With a number as argument, it folds each operation on two operands that many times, and prints the nanoseconds
-//! of one fold.
+//! line.
 #![tactic(auto)]
 
 mod answers;
 mod parts;
-mod timing;
 
 use dialects_int::tables::registry;
 use ir_types::context::Context;
 use ir_types::refusal::Refusal;
 use op_registry::registry::Registry;
+use std::io;
 use std::io::{ErrorKind, Read};
-use std::rt::Env;
-use std::{env, io};
 
 /// Prints the answer to a line.
 fn print_answer(
@@ -52,24 +49,10 @@ fn answer_all(rt: &HostRuntime, text: &str) -> Result<(), Refusal> {
     answer_in(rt, &mut context, text)
 }
 
-/// Returns how often to fold each operation for timing, or `None` if timing isn't requested.
-fn wanted(rt: &(impl Env + Alloc)) -> Option<u32> {
-    let mut args = env::args(rt).ok()?;
-    args.next();
-    args.next()?.as_str().parse::<u32>().ok()
-}
-
-fn run(rt: &HostRuntime, text: &str) -> Result<(), Refusal> {
-    match wanted(rt) {
-        Some(count) => timing::print_times(rt, count),
-        None => answer_all(rt, text),
-    }
-}
-
 fn main(rt: HostRuntime) -> io::Result<()> {
     let mut text = String::new(rt.alloc());
     rt.stdin().read_to_string(&mut text)?;
-    match run(&rt, text.as_str()) {
+    match answer_all(&rt, text.as_str()) {
         Ok(()) => Ok(()),
         Err(_) => Err(io::Error::from(ErrorKind::OutOfMemory)),
     }

@@ -4,10 +4,10 @@ ghost use Rattle.std.specs.List.{All};
 ghost use Rattle.ir_tree.specs.Ids.{HasDistinctIds, ids};
 ghost use Rattle.ir_tree.specs.Meaning.{IsSoundIn};
 
-use crate::edits::{ExpectedAnswer, entry_line, put_line, set_line, take_line, unasked};
-use crate::moves::{release_line, shift_line};
-use crate::reads::{sum, write_reads};
-use crate::state::{Show, State};
+use crate::edits::{entry_line, put_line, set_line, take_line};
+use crate::moves::shift_line;
+use crate::reads::sum_of;
+use crate::state::{Loaded, Show};
 use crate::undone::{restore_line, retract_line, revert_line};
 use ir_store::store::Store;
 use ir_tree::check::check;
@@ -15,12 +15,12 @@ use ir_tree::find::list_ids;
 use ir_tree::numbered::distinct;
 use ir_tree::sound::sound;
 use ir_tree::tree::TreeOp;
-use ir_tree_cases_base::build::bare;
 use ir_tree_cases_base::words::{first_word, number};
 use ir_tree_cases_base::{build, written};
 use ir_types::context::Context;
 use ir_types::refusal::Refusal;
-use std::alloc::Global;
+use std::alloc::{AllocError, Global};
+use std::fmt::Write;
 
 /// Returns whether all ids of a tree are below a number.
 pub fn are_below(alloc: Global, tree: &TreeOp, next: u32) -> Result<bool, Refusal>
@@ -66,130 +66,126 @@ fn made(alloc: Global, ctx: &Context, call: &str, text: &str) -> Result<Store, R
 }
 
 /// Loads a module. The text has the next free id and the tree: `9 : op block end end`.
-fn load_line(alloc: Global, state: &mut State, call: &str, text: &str) -> Result<String, Refusal> {
-    match made(alloc, &state.context, call, text) {
-        Ok(store) => {
-            state.hold(store);
-            Ok(written::word(alloc, "ok")?)
-        }
-        Err(refusal) => Ok(written::refusal(alloc, refusal)?),
-    }
+fn load_line(
+    alloc: Global,
+    ctx: &Context,
+    loaded: &mut Loaded,
+    call: &str,
+    text: &str,
+) -> Result<bool, Refusal> {
+    let store = made(alloc, ctx, call, text)?;
+    loaded.store = Some(store);
+    Ok(true)
 }
 
 /// Sets what is shown: `tree`, `sum`, or nothing for any other word.
-fn show_line(alloc: Global, state: &mut State, text: &str) -> Result<String, Refusal> {
-    state.show = match text {
+fn show_line(loaded: &mut Loaded, text: &str) -> Result<bool, Refusal> {
+    loaded.show = match text {
         "tree" => Show::Tree,
         "sum" => Show::Sum,
         _ => Show::Nothing,
     };
-    Ok(written::word(alloc, "ok")?)
+    Ok(true)
 }
 
-/// Makes an edit.
-fn edit(
-    alloc: Global,
-    ctx: &Context,
-    store: &mut Store,
-    taken: &mut Vec<TreeOp>,
-    tree: &TreeOp,
-    line: &str,
-) -> Result<ExpectedAnswer, Refusal> {
+/// Releases held operations. The text has the first id to release: `5`.
+fn release_line(store: &mut Store, text: &str) -> Result<bool, Refusal> {
+    store.release(number(text));
+    Ok(true)
+}
+
+/// Makes an edit. Returns whether the module was called.
+fn edit(alloc: Global, ctx: &Context, store: &mut Store, line: &str) -> Result<bool, Refusal> {
     let (call, rest) = first_word(line);
     match call {
-        "put" => put_line(alloc, ctx, store, tree, rest),
-        "take" => take_line(alloc, store, taken, tree, rest),
-        "set" => set_line(alloc, ctx, store, tree, rest),
-        "entry" => entry_line(alloc, ctx, store, tree, rest),
-        "restore" => restore_line(alloc, store, taken, tree, rest),
-        "retract" => retract_line(alloc, store, taken, tree, rest),
-        "revert" => revert_line(alloc, ctx, store, tree, rest),
-        "shift" => shift_line(alloc, ctx, store, tree, rest),
-        "release" => release_line(alloc, store, tree, rest),
-        _ => unasked(alloc, tree),
+        "put" => put_line(alloc, ctx, store, rest),
+        "take" => take_line(store, rest),
+        "set" => set_line(ctx, store, rest),
+        "entry" => entry_line(ctx, store, rest),
+        "restore" => restore_line(store, rest),
+        "retract" => retract_line(alloc, store, rest),
+        "revert" => revert_line(ctx, store, rest),
+        "shift" => shift_line(alloc, ctx, store, rest),
+        "release" => release_line(store, rest),
+        _ => Ok(false),
     }
 }
 
-/// Writes the module after an answer.
-fn write_shown(
+/// Writes what came of a call.
+fn write_answer(out: &mut String, answer: Result<bool, Refusal>) -> Result<(), AllocError> {
+    match answer {
+        Ok(true) => out.push_str("ok"),
+        Ok(false) => out.push_str("unasked"),
+        Err(refusal) => write!(out, "{refusal}"),
+    }
+}
+
+/// Writes a tree and the next free id.
+fn write_tree(out: &mut String, tree: &TreeOp, next: u32) -> Result<(), AllocError> {
+    write!(out, " {next} : ")?;
+    written::write_op(out, tree)
+}
+
+/// Writes a sum over a tree and all reads of the module.
+fn write_sum(
+    alloc: Global,
+    out: &mut String,
+    ctx: &Context,
+    store: &Store,
+    tree: &TreeOp,
+) -> Result<(), AllocError> {
+    let words = written::tree(alloc, tree)?;
+    let sum = sum_of(ctx, store, words.as_bytes());
+    write!(out, " {sum}")
+}
+
+/// Writes the module after an answer, or a sum over it.
+fn write_module(
     alloc: Global,
     out: &mut String,
     ctx: &Context,
     store: &Store,
     show: Show,
-    words: &str,
 ) -> Result<(), Refusal> {
-    match show {
-        Show::Tree => {
-            written::write_number(out, " ", u64::from(store.next_id()))?;
-            out.push_str(" : ")?;
-            Ok(out.push_str(words)?)
-        }
-        _ => {
-            let mut text = String::from_str(alloc, words)?;
-            write_reads(&mut text, ctx, store)?;
-            Ok(written::write_number(out, " ", u64::from(sum(text.as_bytes())))?)
-        }
-    }
-}
-
-/// Makes an edit, and returns the answer followed by the module after it.
-fn edited(
-    alloc: Global,
-    ctx: &Context,
-    store: &mut Store,
-    taken: &mut Vec<TreeOp>,
-    show: Show,
-    line: &str,
-) -> Result<String, Refusal> {
     let tree = store.tree()?;
-    let reported = edit(alloc, ctx, store, taken, &tree, line)?;
-    let after = store.tree()?;
-    let words = written::tree(alloc, &after)?;
-    let want = written::tree(alloc, &reported.tree)?;
-    let mut out = reported.answer;
-    if words.as_str() != want.as_str() {
-        out.push_str(" differs")?;
-    }
-    write_shown(alloc, &mut out, ctx, store, show, words.as_str())?;
-    Ok(out)
-}
-
-/// Makes an edit, and returns only the answer.
-fn edited_briefly(
-    alloc: Global,
-    ctx: &Context,
-    store: &mut Store,
-    taken: &mut Vec<TreeOp>,
-    line: &str,
-) -> Result<String, Refusal> {
-    let reported = edit(alloc, ctx, store, taken, &bare(alloc, 0), line)?;
-    Ok(reported.answer)
-}
-
-/// Makes an edit of the module, if there is one.
-fn edit_line(alloc: Global, state: &mut State, line: &str) -> Result<String, Refusal> {
-    let State {
-        context,
-        store,
-        taken,
-        show,
-    } = state;
-    let Some(store) = store else {
-        return Ok(written::word(alloc, "no module")?);
-    };
     match show {
-        Show::Nothing => edited_briefly(alloc, context, store, taken, line),
-        _ => edited(alloc, context, store, taken, *show, line),
+        Show::Tree => Ok(write_tree(out, &tree, store.next_id())?),
+        _ => Ok(write_sum(alloc, out, ctx, store, &tree)?),
     }
 }
 
-/// Returns the answer to a line.
-pub fn answer(alloc: Global, state: &mut State, line: &str) -> Result<String, Refusal> {
+/// Makes an edit of the module, if there is one. Writes the answer followed by the module after it.
+fn write_edit(
+    alloc: Global,
+    out: &mut String,
+    ctx: &Context,
+    loaded: &mut Loaded,
+    line: &str,
+) -> Result<(), Refusal> {
+    let Loaded { store, show } = loaded;
+    let Some(store) = store else {
+        return Ok(out.push_str("no module")?);
+    };
+    let answer = edit(alloc, ctx, store, line);
+    write_answer(out, answer)?;
+    match show {
+        Show::Nothing => Ok(()),
+        _ => write_module(alloc, out, ctx, store, *show),
+    }
+}
+
+/// Writes the answer to a line.
+pub fn write_line(
+    alloc: Global,
+    out: &mut String,
+    ctx: &Context,
+    loaded: &mut Loaded,
+    line: &str,
+) -> Result<(), Refusal> {
     let (call, rest) = first_word(line);
     match call {
-        "load" | "hold" => load_line(alloc, state, call, rest),
-        "show" => show_line(alloc, state, rest),
-        _ => edit_line(alloc, state, line),
+        "load" | "hold" => Ok(write_answer(out, load_line(alloc, ctx, loaded, call, rest))?),
+        "show" => Ok(write_answer(out, show_line(loaded, rest))?),
+        _ => write_edit(alloc, out, ctx, loaded, line),
     }
 }

@@ -1,6 +1,5 @@
 //! Answers calls of a module under edits. Standard input has one call a line, and each is answered with one line. The
-//! answer is followed by the module after the call, and by `differs` if the plain programs on trees have another
-//! result.
+//! answer is followed by the module after the call, or a sum over all that can be read of it.
 #![tactic(auto)]
 
 mod calls;
@@ -11,30 +10,57 @@ mod reads;
 mod state;
 mod undone;
 
-use crate::state::State;
+use crate::state::{Loaded, Show, fill};
+use ir_types::context::Context;
 use ir_types::refusal::Refusal;
 use std::io;
 use std::io::{ErrorKind, Read};
 
 /// Prints the answer to a line.
-fn print_answer(rt: &HostRuntime, state: &mut State, line: &str) -> Result<(), Refusal> {
-    let answer = calls::answer(rt.alloc(), state, line)?;
+fn print_answer(
+    rt: &HostRuntime,
+    ctx: &Context,
+    loaded: &mut Loaded,
+    line: &str,
+) -> Result<(), Refusal> {
+    let mut answer = String::new(rt.alloc());
+    calls::write_line(rt.alloc(), &mut answer, ctx, loaded, line)?;
     let _ = println!(rt; "{answer}");
     Ok(())
 }
 
 /// Prints the answer to each line.
-fn print_answers(rt: &HostRuntime, state: &mut State, text: &str) -> Result<(), Refusal> {
+fn print_answers(
+    rt: &HostRuntime,
+    ctx: &Context,
+    loaded: &mut Loaded,
+    text: &str,
+) -> Result<(), Refusal> {
     for line in text.lines() {
-        print_answer(rt, state, line)?;
+        print_answer(rt, ctx, loaded, line)?;
     }
     Ok(())
 }
 
-/// Prints the answers of a new state.
+/// Prints the answers of a context, without a module at first.
+fn answer_in(rt: &HostRuntime, ctx: &Context, text: &str) -> Result<(), Refusal> {
+    let mut loaded = Loaded {
+        store: None,
+        show: Show::Tree,
+    };
+    print_answers(rt, ctx, &mut loaded, text)
+}
+
+/// Fills a context, and prints its answers.
+fn answer_filled(rt: &HostRuntime, ctx: &mut Context, text: &str) -> Result<(), Refusal> {
+    fill(rt.alloc(), ctx)?;
+    answer_in(rt, ctx, text)
+}
+
+/// Prints the answers of a new context.
 fn answer_all(rt: &HostRuntime, text: &str) -> Result<(), Refusal> {
-    let mut state = State::new(rt.alloc())?;
-    print_answers(rt, &mut state, text)
+    let mut ctx = Context::new(rt.alloc())?;
+    answer_filled(rt, &mut ctx, text)
 }
 
 fn main(rt: HostRuntime) -> io::Result<()> {

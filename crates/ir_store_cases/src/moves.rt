@@ -1,17 +1,14 @@
-//! Shifts and releases, each with the result of the plain program on the tree.
+//! Shifts of operations.
 ghost use Rattle.std.specs.Prelude.{◌≡◌, true, IfOk};
 ghost use Rattle.ir_tree.specs.Meaning.{isolated_in};
 ghost use Rattle.ir_tree.specs.WellFormed.{IsWellFormed};
 
 use crate::calls::are_below;
-use crate::edits::{ExpectedAnswer, accepted, refused, unasked};
 use ir_store::store::Store;
 use ir_tree::check::check;
-use ir_tree::copy::copy;
 use ir_tree::numbered::distinct;
 use ir_tree::tree::TreeOp;
-use ir_tree::tree_edits::with_moved;
-use ir_tree_cases_base::words::{first_word, number, op_id, place};
+use ir_tree_cases_base::words::{first_word, op_id, place};
 use ir_types::context::Context;
 use ir_types::refusal::Refusal;
 use std::alloc::Global;
@@ -45,27 +42,14 @@ pub fn shift_line(
     alloc: Global,
     ctx: &Context,
     store: &mut Store,
-    tree: &TreeOp,
     text: &str,
-) -> Result<ExpectedAnswer, Refusal> {
+) -> Result<bool, Refusal> {
     let (op, at) = first_word(text);
-    let (op, place) = (op_id(op), place(at));
     if !may_shift(alloc, ctx, store)? {
-        return unasked(alloc, tree);
+        return Ok(false);
     }
-    match store.shift(ctx, op, place) {
-        Ok(()) => accepted(alloc, "ok", with_moved(alloc, tree, op, &place)?),
-        Err(refusal) => refused(alloc, refusal, tree),
+    match store.shift(ctx, op_id(op), place(at)) {
+        Ok(()) => Ok(true),
+        Err(refusal) => Err(refusal),
     }
-}
-
-/// Releases held operations. The text has the first id to release: `5`.
-pub fn release_line(
-    alloc: Global,
-    store: &mut Store,
-    tree: &TreeOp,
-    text: &str,
-) -> Result<ExpectedAnswer, Refusal> {
-    store.release(number(text));
-    accepted(alloc, "ok", copy(tree)?)
 }

@@ -1,7 +1,5 @@
-//! The state of a run: a context, a module, the operations that were taken out, and what is shown after an answer.
+//! The state of a run: a module and what is shown after an answer, and the context.
 use ir_store::store::Store;
-use ir_tree::tree::TreeOp;
-use ir_tree_cases_base::build::bare;
 use ir_types::context::Context;
 use ir_types::node::{AttrNode, Sign, TypeNode};
 use ir_types::refusal::Refusal;
@@ -12,50 +10,34 @@ use std::alloc::Global;
 pub enum Show {
     /// The tree, and the next free id.
     Tree,
-    /// A checksum of the tree and of all reads of the module.
+    /// A sum over the tree and all reads of the module.
     Sum,
     /// Nothing.
     Nothing,
 }
 
-/// A context, a module if one was loaded, and the operations that were taken out.
+/// A module if one was loaded, and what is shown of it.
 #[derive(Drop)]
-pub struct State {
-    pub context: Context,
+pub struct Loaded {
     pub store: Option<Store>,
-    pub taken: Vec<TreeOp>,
     pub show: Show,
 }
 
-impl State {
-    /// Returns a state with four names and 300 more, two types, four attributes, and no module.
-    pub fn new(alloc: Global) -> Result<State, Refusal> {
-        let mut context = Context::new(alloc)?;
-        fill(&mut context)?;
-        add_names(alloc, &mut context)?;
-        Ok(State {
-            context,
-            store: None,
-            taken: Vec::new(alloc),
-            show: Show::Tree,
-        })
-    }
-
-    /// Replaces the module.
-    pub fn hold(&mut self, store: Store) {
-        self.store = Some(store);
-        self.taken.clear();
-    }
-}
-
-/// Adds names, types and attributes to a context.
-fn fill(context: &mut Context) -> Result<(), Refusal> {
-    for text in ["a", "Z", "ab", "\u{e9}"] {
-        context.name(text.as_bytes())?;
-    }
+/// Adds four names and 300 more, two types and four attributes to a context.
+pub fn fill(alloc: Global, context: &mut Context) -> Result<(), Refusal> {
+    add_words(context)?;
+    add_names(alloc, context)?;
     add_type(context, 1)?;
     add_type(context, 2)?;
     add_attrs(context)
+}
+
+/// Adds four names to a context.
+fn add_words(context: &mut Context) -> Result<(), Refusal> {
+    for text in ["a", "Z", "ab", "\u{e9}"] {
+        context.name(text.as_bytes())?;
+    }
+    Ok(())
 }
 
 /// Adds the names `n0`, `n1`, .. to a context.

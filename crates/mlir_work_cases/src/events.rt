@@ -1,5 +1,5 @@
 //! Events in a line: words that `_` joins.
-use crate::texts::write_all_shown;
+use crate::texts::write_bytes;
 use ir_event::event::Event;
 use ir_event::trees::place::{Part, Place};
 use ir_event::trees::value::Value;
@@ -38,10 +38,10 @@ fn write_bare(
     out.push_str(if fresh { "_fresh" } else { "_old" })
 }
 
-/// A key: its bytes between brackets.
+/// A key: its bytes.
 fn write_key(out: &mut String, ctx: &Context, key: NameId) -> Result<(), AllocError> {
     if ctx.has_name(key) {
-        return write_all_shown(out, ctx.name_bytes(key));
+        return write_bytes(out, ctx.name_bytes(key));
     }
     out.push('?')
 }
@@ -54,7 +54,7 @@ fn entry(attribute: &Option<AttrId>) -> &'static str {
     }
 }
 
-/// An entry that was set, as `entry_#3_props_[value]_some_none`.
+/// An entry that was set, as `entry_#3_props_value_some_none`.
 fn write_entry(
     out: &mut String,
     ctx: &Context,

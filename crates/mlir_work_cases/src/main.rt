@@ -1,14 +1,10 @@
-//! A test program of what no output of `mlir_work` shows: what a line of a script says, how an input is cut, what is
-//! written for each reply, the events that a listener is notified of, and rules where ids run out. Standard input has a
-//! case in each line, and an answer is printed for each. `bench/cases/mlir_work_cases.py` writes both.
-//!
-//! A line's text has `\n`, `\t`, `\r` and `\xff` for bytes.
+//! A test program of what no output of `mlir_work` shows: the events that a listener is notified of, and rules where
+//! ids run out. Standard input has cases, and standard output has their answers, each followed by a line `====`.
+//! `tests/generate/mlir_work_cases.py` writes both.
 #![tactic(auto)]
 
 mod answers;
 mod events;
-mod lines;
-mod replies;
 mod rules;
 mod texts;
 mod traces;
@@ -19,17 +15,18 @@ use std::alloc::AllocError;
 use std::io;
 use std::io::{ErrorKind, Read};
 
-/// Prints the answer to a line.
-fn print_answer(rt: &HostRuntime, line: &str) -> Result<(), AllocError> {
-    let answer = answers::answer(rt.alloc(), line)?;
-    let _ = println!(rt; "{answer}");
+/// Prints the answer to a case.
+fn print_answer(rt: &HostRuntime, case: &str) -> Result<(), AllocError> {
+    let mut answer = String::new(rt.alloc());
+    answers::write_case(rt.alloc(), &mut answer, case)?;
+    let _ = println!(rt; "{answer}\n====");
     Ok(())
 }
 
-/// Prints the answer to each line.
+/// Prints the answer to each case.
 fn print_answers(rt: &HostRuntime, text: &str) -> Result<(), AllocError> {
-    for line in text.lines() {
-        print_answer(rt, line)?;
+    for case in text.split_terminator("====\n") {
+        print_answer(rt, case)?;
     }
     Ok(())
 }

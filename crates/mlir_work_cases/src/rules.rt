@@ -1,7 +1,7 @@
 //! A rule at an operation of a module.
-use crate::texts::{bytes, first_word, small, write_all_shown};
+use crate::texts::write_bytes;
 use crate::witness::Witness;
-use crate::worlds::{rewriter_from, text_of};
+use crate::worlds::text_of;
 use ir_event::types::ids::OpId;
 use mlir_work_session::Bench;
 use mlir_work_session::greedy::patterns::apply::apply;
@@ -18,46 +18,31 @@ fn write_applied(
     op: OpId,
 ) -> Result<(), AllocError> {
     let Some(rule) = Rule::by_number(rule) else {
-        return out.push_str("no rule");
+        return out.push_str("no rule\n");
     };
     match apply(alloc, bench, rule, op) {
-        Ok(true) => out.push_str("applied"),
-        Ok(false) => out.push_str("none"),
-        Err(refusal) => write!(out, "{refusal}"),
+        Ok(true) => out.push_str("applied\n"),
+        Ok(false) => out.push_str("none\n"),
+        Err(refusal) => write!(out, "{refusal}\n"),
     }
 }
 
 /// Writes the module of a rewriter.
 fn write_module(alloc: Global, out: &mut String, bench: &Bench<Witness>) -> Result<(), AllocError> {
-    let Ok(text) = text_of(alloc, bench.world()) else {
-        return Err(AllocError);
-    };
-    out.push(' ')?;
-    write_all_shown(out, &text)
+    match text_of(alloc, bench.world()) {
+        Ok(text) => write_bytes(out, &text),
+        Err(_) => Err(AllocError),
+    }
 }
 
-/// A rule at an operation of a bench's module, and the module after it.
-fn applied(
+/// Writes whether a rule applies at an operation of a module, and the module after it.
+pub fn write_answer(
     alloc: Global,
+    out: &mut String,
     bench: &mut Bench<Witness>,
     rule: u32,
     op: OpId,
-) -> Result<String, AllocError> {
-    let mut out = String::new(alloc);
-    write_applied(alloc, &mut out, bench, rule, op)?;
-    write_module(alloc, &mut out, bench)?;
-    Ok(out)
-}
-
-/// `RULE OP NEXT TEXT`: whether a rule applies at an operation of the module that a text spells, whose next free id is
-/// at least `NEXT`, and the module after it.
-pub fn answer(alloc: Global, line: &str) -> Result<String, AllocError> {
-    let (rule, rest) = first_word(line);
-    let (op, rest) = first_word(rest);
-    let (next, text) = first_word(rest);
-    let text = bytes(alloc, text)?;
-    match rewriter_from(alloc, &text, small(next)) {
-        Ok(mut bench) => applied(alloc, &mut bench, small(rule), OpId::new(small(op))),
-        Err(refusal) => format!(in alloc; "{refusal}"),
-    }
+) -> Result<(), AllocError> {
+    write_applied(alloc, out, bench, rule, op)?;
+    write_module(alloc, out, bench)
 }

@@ -2,27 +2,17 @@
 ghost use Rattle.std.specs.Prelude.{◌≡◌, []};
 
 use crate::events::write_event;
-use crate::texts::{bytes, write_all_shown};
+use crate::texts::write_bytes;
 use crate::witness::Witness;
-use crate::worlds::rewriter_of;
 use ir_event::event::Event;
 use ir_event::types::context::Context;
 use mlir_work_session::Bench;
 use mlir_work_session::analysis_source::AnalysisSource;
-use mlir_work_session::input::split;
 use mlir_work_session::options::SessionOptions;
 use mlir_work_session::registry::PatternRegistry;
 use mlir_work_session::script::run_script;
 use std::alloc::{AllocError, Global};
 use std::fmt::Write;
-
-/// A text for the status of a script and what it wrote.
-fn run_text(alloc: Global, status: u8, written: &[u8]) -> Result<String, AllocError> {
-    let mut out = String::new(alloc);
-    write!(out, "{status} ")?;
-    write_all_shown(&mut out, written)?;
-    Ok(out)
-}
 
 /// Writes events, each after a space.
 fn write_events(out: &mut String, ctx: &Context, events: &[Event]) -> Result<(), AllocError> {
@@ -62,6 +52,18 @@ fn write_trace(out: &mut String, bench: &Bench<Witness>) -> Result<(), AllocErro
     write_journal(out, bench)
 }
 
+/// Writes what a script wrote, its status, the events and the journal.
+fn write_run(
+    out: &mut String,
+    bench: &Bench<Witness>,
+    status: u8,
+    written: &[u8],
+) -> Result<(), AllocError> {
+    write_bytes(out, written)?;
+    write!(out, "status {status}")?;
+    write_trace(out, bench)
+}
+
 /// Attaches a listener to a bench without any, and runs the script of an input of so many bytes over it. Returns the
 /// status.
 fn run_notified<L: AnalysisSource>(
@@ -98,30 +100,19 @@ fn run_notified<L: AnalysisSource>(
     .unwrap_or(4))
 }
 
-/// Runs the script of an input of so many bytes over a bench with a witness. Returns the status, the output, the events
+/// Runs the script of an input of so many bytes over a bench with a witness. Writes the output, the status, the events
 /// that the witness was notified of, and the journal that is left.
-fn traced(
+pub fn write_traced(
     alloc: Global,
+    out: &mut String,
     bytes: usize,
     bench: &mut Bench<Witness>,
     script: &[u8],
-) -> Result<String, AllocError>
+) -> Result<(), AllocError>
     requires { bench.old.listeners ≡ [] }
 {
     let mut written: Vec<u8> = Vec::new(alloc);
     let witness = Witness::new(alloc, 102);
     let status = run_notified(alloc, bytes, bench, witness, script, &mut written)?;
-    let mut out = run_text(alloc, status, &written)?;
-    write_trace(&mut out, bench)?;
-    Ok(out)
-}
-
-/// `TEXT`: the events that a listener is notified of by the script of an input, and the journal that is left.
-pub fn trace(alloc: Global, text: &str) -> Result<String, AllocError> {
-    let input = bytes(alloc, text)?;
-    let (module, script) = split(&input);
-    match rewriter_of(alloc, module) {
-        Ok(mut bench) => traced(alloc, input.len(), &mut bench, script),
-        Err(refusal) => format!(in alloc; "{refusal}"),
-    }
+    write_run(out, bench, status, &written)
 }
