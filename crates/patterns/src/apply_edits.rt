@@ -1,9 +1,9 @@
 //! Carries out the edits of a plan.
-ghost use Rattle.std.specs.Prelude.{◌∷◌};
-ghost use Rattle.patterns_base.specs.declared.edit.Edit.TheVariants.{Make as Made};
+ghost use Rattle.std.specs.Prelude.{◌∷◌, []};
+ghost use Rattle.patterns_base.specs.declared.edit.Edit.TheVariants.{Erase as Erased, Make as Made};
 ghost use Rattle.patterns_lowering.specs.Held.{module_held};
 ghost use Rattle.patterns.specs.Making.{AreFree, AreMade, listed_edits};
-ghost use Rattle.patterns.specs.Numbered.{first_result, giving};
+ghost use Rattle.patterns.specs.Numbered.{cast_edits, constant_edits, first_result, giving};
 
 use crate::insertion_point::InsertionPoint;
 use crate::operations::{new_cast, new_constant};
@@ -11,6 +11,7 @@ use crate::plan_edits::PlanEdits;
 use ir_event::analysis::Analysis;
 use ir_event::trees::tree::TreeOp;
 use ir_event::trees::value::Value;
+use ir_event::types::ids::{AttrId, NameId, OpId, TypeId};
 use ir_event::types::refusal::Refusal;
 use patterns_lowering::Bench;
 use patterns_lowering::apply_unchecked::apply_unchecked;
@@ -56,6 +57,74 @@ fn give_made<L: Analysis>(
     )
 }
 
+/// Erases an operation.
+///
+/// Errors: `Memory`.
+fn erase_op<L: Analysis>(bench: &mut Bench<L>, op: OpId) -> Result<(), Refusal>
+    requires { AreFree bench.old.transaction.ctx (Erased op ∷ []) (module_held bench.old.transaction) }
+    ensures { AreMade L.meaning (Erased op ∷ []) result bench.old bench.new }
+{
+    make_edits(bench, &[Edit::Erase { op }])
+}
+
+/// Replaces the result of the site's operation with `new`, and erases the operation.
+///
+/// Errors: `Memory`.
+fn give_value<L: Analysis>(
+    bench: &mut Bench<L>,
+    site: &InsertionPoint,
+    new: Value,
+) -> Result<(), Refusal>
+    requires { AreFree bench.old.transaction.ctx (giving site.now new) (module_held bench.old.transaction) }
+    ensures { AreMade L.meaning (giving site.now new) result bench.old bench.new }
+{
+    let old = Value::Result(site.op, 0);
+    make_edits(
+        bench,
+        &[Edit::Replace { old, new }, Edit::Erase { op: site.op }],
+    )
+}
+
+/// Inserts a constant at a site. Its result replaces the result of the site's operation, which is erased.
+///
+/// Errors: `Memory`.
+fn give_constant<L: Analysis>(
+    alloc: Global,
+    bench: &mut Bench<L>,
+    site: &InsertionPoint,
+    ty: TypeId,
+    value: AttrId,
+) -> Result<(), Refusal>
+    requires { AreFree bench.old.transaction.ctx (constant_edits site.now ty value) (module_held bench.old.transaction) }
+    ensures { AreMade L.meaning (constant_edits site.now ty value) result bench.old bench.new }
+{
+    match new_constant(alloc, ty, value) {
+        Ok(constant) => give_made(bench, site, constant),
+        Err(_) => Err(Refusal::Memory),
+    }
+}
+
+/// Inserts an operation with one operand at a site. Its result replaces the result of the site's operation, which is
+/// erased.
+///
+/// Errors: `Memory`.
+fn give_cast<L: Analysis>(
+    alloc: Global,
+    bench: &mut Bench<L>,
+    site: &InsertionPoint,
+    name: NameId,
+    ty: TypeId,
+    value: &Value,
+) -> Result<(), Refusal>
+    requires { AreFree bench.old.transaction.ctx (cast_edits site.now name ty value.now) (module_held bench.old.transaction) }
+    ensures { AreMade L.meaning (cast_edits site.now name ty value.now) result bench.old bench.new }
+{
+    match new_cast(alloc, name, ty, value) {
+        Ok(cast) => give_made(bench, site, cast),
+        Err(_) => Err(Refusal::Memory),
+    }
+}
+
 /// Makes the edits of a plan at a site. None of them is refused. If memory runs out, the module and its marks stay the
 /// same.
 ///
@@ -69,21 +138,11 @@ pub(crate) fn apply_listed<L: Analysis>(
     requires { AreFree bench.old.transaction.ctx (listed_edits site.now edits) (module_held bench.old.transaction) }
     ensures { AreMade L.meaning (listed_edits site.now edits) result bench.old bench.new }
 {
-    let op = site.op;
-    match edits {
-        PlanEdits::Erase => make_edits(bench, &[Edit::Erase { op }]),
-        PlanEdits::Give(new) => {
-            let old = Value::Result(op, 0);
-            make_edits(bench, &[Edit::Replace { old, new }, Edit::Erase { op }])
-        }
-        PlanEdits::Constant { ty, value } => match new_constant(alloc, ty, value) {
-            Ok(constant) => give_made(bench, site, constant),
-            Err(_) => Err(Refusal::Memory),
-        },
-        PlanEdits::Cast { name, ty, value } => match new_cast(alloc, name, ty, &value) {
-            Ok(cast) => give_made(bench, site, cast),
-            Err(_) => Err(Refusal::Memory),
-        },
-        PlanEdits::List(edits) => make_edits(bench, &edits),
+    match &edits {
+        PlanEdits::Erase => erase_op(bench, site.op),
+        PlanEdits::Give(new) => give_value(bench, site, *new),
+        PlanEdits::Constant { ty, value } => give_constant(alloc, bench, site, *ty, *value),
+        PlanEdits::Cast { name, ty, value } => give_cast(alloc, bench, site, *name, *ty, value),
+        PlanEdits::List(edits) => make_edits(bench, edits),
     }
 }

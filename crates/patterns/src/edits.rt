@@ -1,8 +1,10 @@
 //! The edits of plans, with interned numbers.
-ghost use Rattle.std.specs.Prelude.{◌≡◌, ◌+◌, ◌≤◌, ◌++◌, [], ◌∷◌, IfOk, OnOk};
+ghost use Rattle.std.specs.Prelude.{◌≡◌, ◌+◌, ◌≤◌, ◌++◌, [], ◌∷◌, IfOk, None, OnOk, Some};
+ghost use Rattle.ir_event.specs.types.declared.word.Word.TheVariants.{ArithAddi, ArithMuli, ArithSubi, ArithXori};
+ghost use Rattle.ir_event.specs.types.WordNames.{word_number};
 ghost use Rattle.ir_event.specs.trees.Limits.{most_next};
 ghost use Rattle.patterns_base.specs.declared.edit.Edit.TheVariants.{Make as Made};
-ghost use Rattle.patterns.specs.New.{new_constant, new_op};
+ghost use Rattle.patterns.specs.New.{new_binary, new_constant, new_op};
 ghost use Rattle.patterns.specs.Numbered.{chosen_edits, combined_edits, difference_edits};
 ghost use Rattle.patterns.specs.Numbered.{first_result, giving, mirrored_edits, remainder_edits, result_at};
 
@@ -163,6 +165,86 @@ pub(crate) fn chosen_edits(
     Ok(edits)
 }
 
+/// Appends the complement of a value, by a constant of ones.
+fn push_complement(
+    alloc: Global,
+    edits: &mut Vec<Edit>,
+    site: &InsertionPoint,
+    ty: TypeId,
+    value: &Value,
+    ones: AttrId,
+) -> Result<(), AllocError>
+    ensures { OnOk result (edits.new.items ≡ edits.old.items ++ Made site.now.point (new_constant ty ones)
+        ∷ Made site.now.point (new_binary (word_number ArithXori) ty value.now (first_result site.now) None) ∷ []) }
+{
+    let operands = [*value, first_result(site)];
+    push_constant(alloc, edits, site, ty, ones)?;
+    push_insertion(
+        alloc,
+        edits,
+        site,
+        Word::ArithXori.id(),
+        &operands,
+        ty,
+        &None,
+    )
+}
+
+/// Appends the sum of the complement and 1, by a constant of 1.
+fn push_negative(
+    alloc: Global,
+    edits: &mut Vec<Edit>,
+    site: &InsertionPoint,
+    ty: TypeId,
+    one: AttrId,
+    flags: AttrId,
+) -> Result<(), AllocError>
+    requires { site.now.next + 5 ≤ most_next }
+    ensures { OnOk result (edits.new.items ≡ edits.old.items ++ Made site.now.point (new_constant ty one)
+        ∷ Made site.now.point (new_binary (word_number ArithAddi) ty (result_at site.now 1) (result_at site.now 2) (Some flags)) ∷ []) }
+{
+    let operands = [result_at(site, 1), result_at(site, 2)];
+    let flags = flag_entry(Some(flags));
+    push_constant(alloc, edits, site, ty, one)?;
+    push_insertion(
+        alloc,
+        edits,
+        site,
+        Word::ArithAddi.id(),
+        &operands,
+        ty,
+        &flags,
+    )
+}
+
+/// Appends the sum of a value and the negative value, which replaces the result of the site's operation.
+fn push_sum(
+    alloc: Global,
+    edits: &mut Vec<Edit>,
+    site: &InsertionPoint,
+    ty: TypeId,
+    value: &Value,
+    flags: AttrId,
+) -> Result<(), AllocError>
+    requires { site.now.next + 5 ≤ most_next }
+    ensures { OnOk result (edits.new.items ≡ edits.old.items
+        ++ Made site.now.point (new_binary (word_number ArithAddi) ty value.now (result_at site.now 3) (Some flags))
+        ∷ giving site.now (result_at site.now 4)) }
+{
+    let operands = [*value, result_at(site, 3)];
+    let flags = flag_entry(Some(flags));
+    push_insertion(
+        alloc,
+        edits,
+        site,
+        Word::ArithAddi.id(),
+        &operands,
+        ty,
+        &flags,
+    )?;
+    give(edits, site, result_at(site, 4))
+}
+
 /// Returns the edits of a plan that adds the complement of the second value and 1 to the first value.
 pub(crate) fn difference_edits(
     alloc: Global,
@@ -177,20 +259,64 @@ pub(crate) fn difference_edits(
     requires { site.now.next + 5 ≤ most_next }
     ensures { IfOk result (λ es. es.items ≡ difference_edits site.now ty first.now second.now ones one flags) }
 {
-    let complement = [*second, first_result(site)];
-    let negative = [result_at(site, 1), result_at(site, 2)];
-    let sum = [*first, result_at(site, 3)];
-    let flags = flag_entry(Some(flags));
-    let xori = Word::ArithXori.id();
-    let addi = Word::ArithAddi.id();
     let mut edits = Vec::with_capacity(alloc, 7)?;
-    push_constant(alloc, &mut edits, site, ty, ones)?;
-    push_insertion(alloc, &mut edits, site, xori, &complement, ty, &None)?;
-    push_constant(alloc, &mut edits, site, ty, one)?;
-    push_insertion(alloc, &mut edits, site, addi, &negative, ty, &flags)?;
-    push_insertion(alloc, &mut edits, site, addi, &sum, ty, &flags)?;
-    give(&mut edits, site, result_at(site, 4))?;
+    push_complement(alloc, &mut edits, site, ty, second, ones)?;
+    push_negative(alloc, &mut edits, site, ty, one, flags)?;
+    push_sum(alloc, &mut edits, site, ty, first, flags)?;
     Ok(edits)
+}
+
+/// Appends the product of the first result and a value.
+fn push_product(
+    alloc: Global,
+    edits: &mut Vec<Edit>,
+    site: &InsertionPoint,
+    ty: TypeId,
+    value: &Value,
+    flags: AttrId,
+) -> Result<(), AllocError>
+    ensures { OnOk result (edits.new.items ≡ edits.old.items
+        ++ Made site.now.point (new_binary (word_number ArithMuli) ty (first_result site.now) value.now (Some flags)) ∷ []) }
+{
+    let operands = [first_result(site), *value];
+    let flags = flag_entry(Some(flags));
+    push_insertion(
+        alloc,
+        edits,
+        site,
+        Word::ArithMuli.id(),
+        &operands,
+        ty,
+        &flags,
+    )
+}
+
+/// Appends the difference of a value and the product, which replaces the result of the site's operation.
+fn push_rest(
+    alloc: Global,
+    edits: &mut Vec<Edit>,
+    site: &InsertionPoint,
+    ty: TypeId,
+    value: &Value,
+    flags: AttrId,
+) -> Result<(), AllocError>
+    requires { site.now.next + 3 ≤ most_next }
+    ensures { OnOk result (edits.new.items ≡ edits.old.items
+        ++ Made site.now.point (new_binary (word_number ArithSubi) ty value.now (result_at site.now 1) (Some flags))
+        ∷ giving site.now (result_at site.now 2)) }
+{
+    let operands = [*value, result_at(site, 1)];
+    let flags = flag_entry(Some(flags));
+    push_insertion(
+        alloc,
+        edits,
+        site,
+        Word::ArithSubi.id(),
+        &operands,
+        ty,
+        &flags,
+    )?;
+    give(edits, site, result_at(site, 2))
 }
 
 /// Returns the edits of a plan that computes the remainder of the first value by the second.
@@ -208,16 +334,10 @@ pub(crate) fn remainder_edits(
     ensures { IfOk result (λ es. es.items ≡ remainder_edits site.now division ty first.now second.now flags set) }
 {
     let divided = [*first, *second];
-    let product = [first_result(site), *second];
-    let rest = [*first, result_at(site, 1)];
     let flags = flag_entry(flags);
-    let set = flag_entry(Some(set));
-    let muli = Word::ArithMuli.id();
-    let subi = Word::ArithSubi.id();
     let mut edits = Vec::with_capacity(alloc, 5)?;
     push_insertion(alloc, &mut edits, site, division, &divided, ty, &flags)?;
-    push_insertion(alloc, &mut edits, site, muli, &product, ty, &set)?;
-    push_insertion(alloc, &mut edits, site, subi, &rest, ty, &set)?;
-    give(&mut edits, site, result_at(site, 2))?;
+    push_product(alloc, &mut edits, site, ty, second, set)?;
+    push_rest(alloc, &mut edits, site, ty, first, set)?;
     Ok(edits)
 }

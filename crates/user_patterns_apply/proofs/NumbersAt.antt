@@ -1,5 +1,5 @@
 -- The numbers of a pattern, from the bindings of a match.
-use Rattle.std.proofs.Common.{◌≡◌, ℕ, ap, sym, ◌∙◌, List, [], map, take, Bool, true, false, Some}
+use Rattle.std.proofs.Common.{◌≡◌, ℕ, ap, sym, ◌∙◌, List, [], map, take, Bool, true, false, None, Some}
 use Rattle.ir_event.specs.types.Terms.{TypeTerm}
 use Rattle.ir_event.specs.trees.declared.value.Value.{Value}
 use Rattle.ir_event.specs.trees.Meaning.{Operation}
@@ -12,12 +12,12 @@ use Rattle.user_patterns_data.specs.Matching.{Header, BoundValues}
 use Rattle.user_patterns_data.specs.Planning.{bound_type, outcomes, typed}
 use Rattle.user_patterns_data.specs.Shapes.{PatternModel}
 use Rattle.user_patterns_apply.specs.Matched.{any, matched}
-use Rattle.user_patterns_apply.specs.Numbers.{numbers_at, or_empty}
+use Rattle.user_patterns_apply.specs.Numbers.{numbers_at, numbers_given, or_empty}
 use Rattle.user_patterns_apply.proofs.Planned.{not_ran, ran}
 
-module _ (t : Operation) (verified : Header → Bool) (n : ℕ) (p : PatternModel) (x most : ℕ) (b : BoundValues Value) (match_is : Some b ≡ matched t any p x) (ts : BoundValues TypeTerm) (types_are : Some ts ≡ typed t verified n p b) where
-  computed : or_empty (run (take most (Content.given (content_with (map bound_type ts) p))) (outcomes t verified n p 0 p.values b)) ≡ numbers_at t verified n p x most
-  computed =
+module _ (t : Operation) (verified : Header → Bool) (n : ℕ) (p : PatternModel) (most : ℕ) (b : BoundValues Value) (ts : BoundValues TypeTerm) where
+  pub computed : (x : ℕ) → Some b ≡ matched t any p x → Some ts ≡ typed t verified n p b → numbers_given t verified n p most b ts ≡ numbers_at t verified n p x most
+  computed x match_is types_are =
       ap (λ z. or_empty (given z (λ ts. run (take most (Content.given (content_with (map bound_type ts) p))) (outcomes t verified n p 0 p.values b)))) types_are
       ∙ ap (λ z. or_empty (given z (λ b. given (typed t verified n p b) (λ ts. run (take most (Content.given (content_with (map bound_type ts) p))) (outcomes t verified n p 0 p.values b))))) match_is
 
@@ -25,8 +25,14 @@ module _ (t : Operation) (verified : Header → Bool) (n : ℕ) (p : PatternMode
     same : run (take most (Content.given (content_with (map bound_type ts) p))) (outcomes t verified n p 0 p.values b) ≡ run steps env
     same = λ i. run (sym are i) (sym start i)
 
-    pub all_numbers : done ≡ true → after ≡ numbers_at t verified n p x most
-    all_numbers e = sym (ap or_empty (same ∙ ran (run steps env) after done stands e)) ∙ computed
+    pub all_numbers : done ≡ true → after ≡ numbers_given t verified n p most b ts
+    all_numbers e = sym (ap or_empty (same ∙ ran (run steps env) after done stands e))
 
-    pub no_numbers : done ≡ false → [] ≡ numbers_at t verified n p x most
-    no_numbers e = sym (ap or_empty (same ∙ not_ran (run steps env) after done stands e)) ∙ computed
+    pub no_numbers : done ≡ false → [] ≡ numbers_given t verified n p most b ts
+    no_numbers e = sym (ap or_empty (same ∙ not_ran (run steps env) after done stands e))
+
+-- without types that agree there are none
+pub untyped : (t : Operation) (verified : Header → Bool) (n : ℕ) (p : PatternModel) (most : ℕ) (b : BoundValues Value) (x : ℕ) → Some b ≡ matched t any p x → None ≡ typed t verified n p b → [] ≡ numbers_at t verified n p x most
+untyped t verified n p most b x match_is types_are =
+    ap (λ z. or_empty (given z (λ ts. run (take most (Content.given (content_with (map bound_type ts) p))) (outcomes t verified n p 0 p.values b)))) types_are
+    ∙ ap (λ z. or_empty (given z (λ b. given (typed t verified n p b) (λ ts. run (take most (Content.given (content_with (map bound_type ts) p))) (outcomes t verified n p 0 p.values b))))) match_is

@@ -1,6 +1,7 @@
 -- The numbers of a pattern at an operation.
 use Rattle.std.specs.Prelude.{ℕ, List, [], map, take, Bool, Option, Some, None}
 use Rattle.ir_event.specs.types.declared.bits.BitsKind.{BitsKind}
+use Rattle.ir_event.specs.types.Terms.{TypeTerm}
 use Rattle.ir_event.specs.trees.declared.value.Value.{Value}
 use Rattle.ir_event.specs.trees.declared.value.Value.TheVariants.{Result, Arg}
 use Rattle.ir_event.specs.trees.Ids.{find}
@@ -13,7 +14,7 @@ use Rattle.patterns_base.specs.Looks.{is_verified, known, predicate}
 use Rattle.user_patterns_check.specs.Contents.{Content}
 use Rattle.user_patterns_check.specs.Outcomes.{Outcome, given, run}
 use Rattle.user_patterns_data.specs.Fitting.{content_with}
-use Rattle.user_patterns_data.specs.Matching.{Header}
+use Rattle.user_patterns_data.specs.Matching.{BoundValues, Header}
 use Rattle.user_patterns_data.specs.Planning.{bound_type, outcomes, typed}
 use Rattle.user_patterns_data.specs.Shapes.{PatternModel}
 use Rattle.user_patterns_apply.specs.Matched.{any, matched}
@@ -27,6 +28,10 @@ or_empty (Some env) = env
 abbrev pub numbers_at : Operation → (Header → Bool) → ℕ → PatternModel → ℕ → ℕ → List Outcome
 numbers_at t verified n p x most = or_empty (given (matched t any p x) (λ b. given (typed t verified n p b) (λ ts.
     run (take most (Content.given (content_with (map bound_type ts) p))) (outcomes t verified n p 0 p.values b))))
+
+-- the same, given the values and the types that a match bound
+abbrev pub numbers_given : Operation → (Header → Bool) → ℕ → PatternModel → ℕ → BoundValues Value → BoundValues TypeTerm → List Outcome
+numbers_given t verified n p most b ts = or_empty (run (take most (Content.given (content_with (map bound_type ts) p))) (outcomes t verified n p 0 p.values b))
 
 -- the same in a module
 abbrev pub numbers_in : Module → PatternModel → ℕ → ℕ → List Outcome

@@ -1,9 +1,10 @@
 //! Whether a pattern holds at every width.
-ghost use Rattle.std.specs.Prelude.{◌≡◌, [], IfOk, Some};
+ghost use Rattle.std.specs.Prelude.{◌≡◌, ◌≤◌, [], IfOk, IfSome, Some, length, true};
 ghost use Rattle.user_patterns_data.specs.Shapes.{pattern_model};
 ghost use Rattle.user_patterns_claims.specs.Code.{state};
 ghost use Rattle.user_patterns_claims.specs.Settled.{AreGoalsDecided, IsAimDecided, IsEmptyDecided, IsGoalDecided, IsPatternDecided, decision_by};
-ghost use Rattle.user_patterns_claims.specs.Translation.{claim_from, empty_goal_of, empty_sides, goal_for, goal_from, goal_of};
+ghost use Rattle.user_patterns_claims.specs.Translation.{claim_from, empty_goal_of, empty_sides, goal_for, goal_from, goal_of, set_count};
+ghost use Rattle.user_patterns_instructions.specs.Expressions.{claim_types, narrower_types};
 
 use crate::aim::Aim;
 use crate::decision::Decision;
@@ -18,7 +19,7 @@ use user_patterns_instructions::types::{push_narrower, push_widths};
 use width_claims::claim::decide_equal;
 use width_claims::form::Expr;
 use width_claims::verdict::Verdict;
-use width_claims::width::Width;
+use width_claims::width::{Narrower, Width};
 
 /// The most sets of poison variables.
 const MOST_SETS: usize = 64;
@@ -55,25 +56,32 @@ fn decide_results(
     )
 }
 
-/// Whether the new side refines the old side for a set of poison variables.
-fn decide_refines(alloc: Global, question: &Question, set: usize) -> Result<Verdict, AllocError>
+/// Whether the new side refines the old side for a set of poison variables. The lists are empty at first.
+fn decide_refines(
+    alloc: Global,
+    question: &Question,
+    set: usize,
+    exprs: &mut Vec<Expr>,
+    operands: &mut Vec<Operand>,
+    conditions: &mut Vec<usize>,
+) -> Result<Verdict, AllocError>
+    requires none { exprs.old.items ≡ [] }
+    requires empty { operands.old.items ≡ [] }
+    requires free { conditions.old.items ≡ [] }
     ensures { IfOk result (IsGoalDecided (goal_of (pattern_model question.now.pattern.now) set)) }
 {
-    let mut exprs = Vec::new(alloc);
-    let mut operands = Vec::new(alloc);
-    let mut conditions = Vec::new(alloc);
     let results = translate_pattern(
         question.pattern,
         question.narrower,
         set,
-        &mut exprs,
-        &mut operands,
-        &mut conditions,
+        exprs,
+        operands,
+        conditions,
     )?;
     let Some(results) = results else {
         return Ok(Verdict::TooMany);
     };
-    decide_results(alloc, question, &results, &mut exprs, &conditions)
+    decide_results(alloc, question, &results, exprs, conditions.as_slice())
 }
 
 /// Whether the value at a place is 1.
@@ -116,20 +124,27 @@ fn decide_poison(
     }
 }
 
-/// Whether the old side is never a number for a set of poison variables.
-fn decide_empty_set(alloc: Global, question: &Question, set: usize) -> Result<Verdict, AllocError>
+/// Whether the old side is never a number for a set of poison variables. The lists are empty at first.
+fn decide_empty_set(
+    alloc: Global,
+    question: &Question,
+    set: usize,
+    exprs: &mut Vec<Expr>,
+    operands: &mut Vec<Operand>,
+    conditions: &mut Vec<usize>,
+) -> Result<Verdict, AllocError>
+    requires none { exprs.old.items ≡ [] }
+    requires empty { operands.old.items ≡ [] }
+    requires free { conditions.old.items ≡ [] }
     ensures { IfOk result (IsGoalDecided (empty_goal_of (pattern_model question.now.pattern.now) set)) }
 {
-    let mut exprs = Vec::new(alloc);
-    let mut operands = Vec::new(alloc);
-    let mut conditions = Vec::new(alloc);
     let old = translate_old(
         question.pattern,
         question.narrower,
         set,
-        &mut exprs,
-        &mut operands,
-        &mut conditions,
+        exprs,
+        operands,
+        conditions,
     )?;
     let Some(old) = old else {
         return Ok(Verdict::TooMany);
@@ -147,9 +162,26 @@ fn decide_empty_set(alloc: Global, question: &Question, set: usize) -> Result<Ve
 fn decide_set(alloc: Global, question: &Question, set: usize) -> Result<Verdict, AllocError>
     ensures { IfOk result (IsGoalDecided (goal_for question.now.aim (pattern_model question.now.pattern.now) set)) }
 {
+    let mut exprs = Vec::new(alloc);
+    let mut operands = Vec::new(alloc);
+    let mut conditions = Vec::new(alloc);
     match question.aim {
-        Aim::Refines => decide_refines(alloc, question, set),
-        Aim::IsEmpty => decide_empty_set(alloc, question, set),
+        Aim::Refines => decide_refines(
+            alloc,
+            question,
+            set,
+            &mut exprs,
+            &mut operands,
+            &mut conditions,
+        ),
+        Aim::IsEmpty => decide_empty_set(
+            alloc,
+            question,
+            set,
+            &mut exprs,
+            &mut operands,
+            &mut conditions,
+        ),
     }
 }
 
@@ -179,6 +211,42 @@ fn decide_sets(alloc: Global, question: &Question, count: usize) -> Result<Decis
     Ok(decision_of(count - 1, verdict))
 }
 
+/// Returns the number of sets of poison variables, if the pattern and that number are small enough.
+fn few_sets(pattern: &Pattern) -> Option<usize>
+    ensures few { IfSome result (λ _. length pattern.now.values.items ≤ 1000) }
+    ensures types { IfSome result (λ _. length pattern.now.value_types.items ≤ 1000) }
+    ensures count { IfSome result (λ n. n ≡ set_count (pattern_model pattern.now) 0 pattern.now.values.items) }
+{
+    if pattern.values.len() > MOST_VARIABLES || pattern.value_types.len() > MOST_VARIABLES {
+        return None;
+    }
+    let Some(count) = set_count(pattern, 0, &pattern.values) else {
+        return None;
+    };
+    if count > MOST_SETS { None } else { Some(count) }
+}
+
+/// Appends the types of a pattern's claims to empty lists, with the pairs of a narrower and a wider type. Returns whether
+/// claims can express all types.
+fn push_types(
+    pattern: &Pattern,
+    types: &mut Vec<Width>,
+    narrower: &mut Vec<Narrower>,
+) -> Result<bool, AllocError>
+    requires few { length pattern.now.value_types.items ≤ 1000 }
+    requires types { types.old.items ≡ [] }
+    requires narrower { narrower.old.items ≡ [] }
+    ensures types { IfOk result (λ done. done ≡ true → types.new.items ≡ claim_types pattern.now.value_types.items) }
+    ensures narrower { IfOk result (λ done. done ≡ true → narrower.new.items ≡ narrower_types pattern.now.value_types.items pattern.now.type_constraints.items) }
+{
+    types.push(Width::Fixed(1))?;
+    if !push_widths(&pattern.value_types, 0, &pattern.value_types, types)? {
+        return Ok(false);
+    }
+    push_narrower(&pattern.value_types, &pattern.type_constraints, narrower)?;
+    Ok(true)
+}
+
 /// Whether the goals for all sets of poison variables are reached.
 fn decide_aim(
     alloc: Global,
@@ -188,26 +256,14 @@ fn decide_aim(
 ) -> Result<Decision, AllocError>
     ensures { IfOk result (IsAimDecided aim (pattern_model pattern.now)) }
 {
-    if pattern.values.len() > MOST_VARIABLES || pattern.value_types.len() > MOST_VARIABLES {
-        return Ok(Decision::Undecided);
-    }
-    let Some(count) = set_count(pattern, 0, &pattern.values) else {
+    let Some(count) = few_sets(pattern) else {
         return Ok(Decision::Undecided);
     };
-    if count > MOST_SETS {
-        return Ok(Decision::Undecided);
-    }
     let mut types = Vec::new(alloc);
-    types.push(Width::Fixed(1))?;
-    if !push_widths(&pattern.value_types, 0, &pattern.value_types, &mut types)? {
+    let mut narrower = Vec::new(alloc);
+    if !push_types(pattern, &mut types, &mut narrower)? {
         return Ok(Decision::Undecided);
     }
-    let mut narrower = Vec::new(alloc);
-    push_narrower(
-        &pattern.value_types,
-        &pattern.type_constraints,
-        &mut narrower,
-    )?;
     let question = Question {
         pattern,
         aim,

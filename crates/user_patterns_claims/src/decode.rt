@@ -291,6 +291,34 @@ fn assignment(
     }))
 }
 
+/// Returns the widths and outcomes that a word spells for a pattern of these types.
+fn decode_typed(
+    alloc: Global,
+    pattern: &Pattern,
+    types: &[Width],
+    set: usize,
+    word: &[u32],
+) -> Result<Option<Assignment>, AllocError>
+    requires { types.now ≡ types_of (pattern_model pattern.now) }
+    ensures { IfOk result (λ r. IfSome r (IsAssignment (pattern_model pattern.now) set word.now)) }
+{
+    let Some(first) = first_place(alloc, pattern, types)? else {
+        return Ok(None);
+    };
+    if first > MOST {
+        return Ok(None);
+    }
+    let Some(widths) = widths_of(alloc, pattern, types, word)? else {
+        return Ok(None);
+    };
+    let read = PatternWord {
+        pattern,
+        word,
+        first,
+    };
+    assignment(alloc, &read, set, widths)
+}
+
 /// Returns the widths and outcomes that a word spells for a pattern and a set of poison variables, or `None` if a type
 /// hasn't 1 to 128 bits or a number is too large.
 pub fn decode(
@@ -309,19 +337,5 @@ pub fn decode(
     if !push_widths(value_types, 0, value_types, &mut types)? {
         return Ok(None);
     }
-    let Some(first) = first_place(alloc, pattern, types.as_slice())? else {
-        return Ok(None);
-    };
-    if first > MOST {
-        return Ok(None);
-    }
-    let Some(widths) = widths_of(alloc, pattern, types.as_slice(), word)? else {
-        return Ok(None);
-    };
-    let read = PatternWord {
-        pattern,
-        word,
-        first,
-    };
-    assignment(alloc, &read, set, widths)
+    decode_typed(alloc, pattern, types.as_slice(), set, word)
 }

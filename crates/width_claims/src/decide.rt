@@ -1,5 +1,5 @@
 //! The search for a state that isn't accepted.
-ghost use Rattle.std.specs.Prelude.{◌≡◌, Some, IfOk, OnOk, slice_get};
+ghost use Rattle.std.specs.Prelude.{◌≡◌, [], Some, IfOk, OnOk, slice_get};
 ghost use Rattle.width_claims.specs.Runs.{IsVerdict};
 ghost use Rattle.width_claims.specs.Walks.{AreFrom, Found, Visited, Walked, WentThrough};
 
@@ -87,24 +87,26 @@ fn visit<M: Machine>(
     Ok(Visit::Fails(letter))
 }
 
-/// Returns whether a machine accepts every state that one or more letters lead to from `start`. Looks at no more than
-/// `most` transitions.
-pub fn decide<M: Machine>(
+/// Visits the states that letters lead to from `start`, in the order in which they are found. They are added to the empty
+/// lists. Looks at no more than `most` transitions.
+fn search<M: Machine>(
     alloc: Global,
     machine: &M,
     start: u128,
     most: usize,
+    states: &mut IndexSet<u128>,
+    origins: &mut Vec<Origin>,
 ) -> Result<Verdict, AllocError>
+    requires states { states.old.keys ≡ [] }
+    requires origins { origins.old.items ≡ [] }
     ensures { IfOk result (IsVerdict (M.after machine.now) (M.accepts machine.now) (M.letters machine.now) start) }
 {
-    let mut states = IndexSet::new(alloc);
-    let mut origins = Vec::new(alloc);
     let first = Origin { from: 0, letter: 0 };
-    find(&mut states, &mut origins, start, first)?;
+    find(states, origins, start, first)?;
     let mut left = most;
     let mut place = 0usize;
     'places: while place < most {
-        let visit = visit(alloc, machine, left, place, &mut states, &mut origins)?;
+        let visit = visit(alloc, machine, left, place, states, origins)?;
         match visit {
             Visit::Passes(rest) => left = rest,
             Visit::Fails(letter) => {
@@ -117,4 +119,19 @@ pub fn decide<M: Machine>(
         place += 1;
     }
     Ok(Verdict::TooMany)
+}
+
+/// Returns whether a machine accepts every state that one or more letters lead to from `start`. Looks at no more than
+/// `most` transitions.
+pub fn decide<M: Machine>(
+    alloc: Global,
+    machine: &M,
+    start: u128,
+    most: usize,
+) -> Result<Verdict, AllocError>
+    ensures { IfOk result (IsVerdict (M.after machine.now) (M.accepts machine.now) (M.letters machine.now) start) }
+{
+    let mut states = IndexSet::new(alloc);
+    let mut origins = Vec::new(alloc);
+    search(alloc, machine, start, most, &mut states, &mut origins)
 }

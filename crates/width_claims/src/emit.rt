@@ -1,6 +1,6 @@
 //! The steps of a claim.
-ghost use Rattle.std.specs.Prelude.{◌≡◌, ◌++◌, IfOk, IfSome, OnOk};
-ghost use Rattle.width_claims.specs.Emission.{condition_steps};
+ghost use Rattle.std.specs.Prelude.{◌≡◌, ◌≤◌, ◌++◌, ◌∷◌, [], IfOk, IfSome, OnOk};
+ghost use Rattle.width_claims.specs.Emission.{condition_steps, type_numbers, type_steps, type_truths};
 ghost use Rattle.width_claims.specs.Blocks.{AreNarrow, ArePatternOps, AreTypes};
 
 use crate::block::{at, block};
@@ -18,6 +18,49 @@ pub struct Counts {
 
 /// The limit of numbers and truths.
 const MOST: usize = 100000;
+
+/// Appends steps, after which there are so many numbers and truths.
+fn push_counted(
+    steps: &mut Vec<Step>,
+    more: &[Step],
+    numbers: usize,
+    truths: usize,
+) -> Result<Counts, AllocError>
+    ensures steps { OnOk result (steps.new.items ≡ steps.old.items ++ more.now) }
+    ensures counts { IfOk result (λ c. (c.numbers ≡ numbers) × (c.truths ≡ truths)) }
+{
+    steps.extend_from_slice(more)?;
+    Ok(Counts { numbers, truths })
+}
+
+/// Appends the steps of a type's mask, which is the variable `v` if the type is free.
+fn emit_type(
+    v: usize,
+    width: &Width,
+    steps: &mut Vec<Step>,
+    n: usize,
+    t: usize,
+) -> Result<Counts, AllocError>
+    requires numbers { n ≤ 100000 }
+    requires truths { t ≤ 100000 }
+    ensures steps { OnOk result (steps.new.items ≡ steps.old.items ++ type_steps v (width.now ∷ []) n) }
+    ensures counts { IfOk result (λ c. (c.numbers ≡ type_numbers (width.now ∷ []) n) × (c.truths ≡ type_truths (width.now ∷ []) t)) }
+{
+    match width {
+        Width::Free => {
+            let free = [
+                Step::Variable(v),
+                Step::Add(n, 1),
+                Step::And(n, n + 1),
+                Step::Suppose(n + 2, 0),
+                Step::And(n, 1),
+                Step::Suppose(n + 3, 1),
+            ];
+            push_counted(steps, &free, n + 4, t + 2)
+        }
+        Width::Fixed(w) => push_counted(steps, &[Step::Ones(*w)], n + 1, t),
+    }
+}
 
 /// Appends the masks of types, and their places. The masks of free types are the variables from `v` on.
 pub fn emit_types(
@@ -40,23 +83,8 @@ pub fn emit_types(
         }));
     };
     masks.push(n)?;
-    match width {
-        Width::Free => {
-            steps.extend_from_slice(&[
-                Step::Variable(v),
-                Step::Add(n, 1),
-                Step::And(n, n + 1),
-                Step::Suppose(n + 2, 0),
-                Step::And(n, 1),
-                Step::Suppose(n + 3, 1),
-            ])?;
-            emit_types(v + 1, tail, steps, masks, n + 4, t + 2)
-        }
-        Width::Fixed(w) => {
-            steps.extend_from_slice(&[Step::Ones(*w)])?;
-            emit_types(v + 1, tail, steps, masks, n + 1, t)
-        }
-    }
+    let typed = emit_type(v, width, steps, n, t)?;
+    emit_types(v + 1, tail, steps, masks, typed.numbers, typed.truths)
 }
 
 /// Appends the assumptions that types are narrower than others.

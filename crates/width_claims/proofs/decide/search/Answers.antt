@@ -2,7 +2,7 @@ use Rattle.std.proofs.Common.{length, arith, ap, List, subst}
 use Rattle.width_claims.specs.declared.origin.Origin.{Origin}
 use Rattle.width_claims.specs.Walks.{LeadsTo}
 use Rattle.width_claims.proofs.Walking.{all_visited, begun, failed, known_origins, passed}
-use Rattle.width_claims.proofs.decide.decide.Goals as goal
+use Rattle.width_claims.proofs.decide.search.Goals as goal
 
 pub returns-in-Missing : goal.returns-in-Missing
 returns-in-Missing g c =
@@ -27,4 +27,4 @@ places-preserved g c =
 
 pub places-init : goal.places-init
 places-init g c =
-    begun (g.M.Machine.after c.args.machine.now) (g.M.Machine.accepts c.args.machine.now) (g.M.Machine.letters c.args.machine.now) c.args.start _ _ _ _ _ c.new-states.ensures.len (ap length c.new-origins.ensures.items) c.in_ok-find.ensures
+    begun (g.M.Machine.after c.args.machine.now) (g.M.Machine.accepts c.args.machine.now) (g.M.Machine.letters c.args.machine.now) c.args.start _ _ _ _ _ (ap length c.requires.states) (ap length c.requires.origins) c.in_ok-find.ensures

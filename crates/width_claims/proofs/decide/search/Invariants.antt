@@ -1,6 +1,6 @@
 use Rattle.std.proofs.Common.{◌-◌, Some}
 use Rattle.width_claims.specs.Walks.{Walked}
-use Rattle.width_claims.proofs.decide.decide.Given as goal
+use Rattle.width_claims.proofs.decide.search.Given as goal
 
 abbrev pub invariant-places : goal.invariant-places
 invariant-places g l =
