@@ -120,6 +120,31 @@ fn load_region(
     }
 }
 
+/// Frees the operations inside an operation.
+#[cycle(release)]
+fn release(op: TreeOp) {
+    for region in op.regions {
+        release_region(region);
+    }
+}
+
+/// Frees the operations in the block of a region. A long list is shrunk before it is freed.
+#[cycle(release)]
+fn release_region(region: TreeRegion) {
+    if let TreeRegion::Block { ops, .. } = region {
+        let mut ops = ops;
+        while ops.len() > 1 {
+            if let Some(op) = ops.pop() {
+                release(op);
+            }
+        }
+        ops.shrink_to_fit();
+        for op in ops {
+            release(op);
+        }
+    }
+}
+
 /// Returns the store of a tree whose root has no operands.
 fn spread(alloc: Global, tree: &TreeOp, next: u32) -> Result<Store, AllocError>
     requires distinct { HasDistinctIds tree.now }
@@ -175,6 +200,7 @@ impl Store {
         ensures refused { IfErr result (λ e. e ≡ Refusal.Memory) }
     {
         let store = spread(alloc, &tree, next)?;
+        release(tree);
         Ok(store)
     }
 }

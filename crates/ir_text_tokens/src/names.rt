@@ -10,6 +10,9 @@ use std::alloc::{AllocError, Global};
 use std::collections::HashMap;
 use std::marker::Model;
 
+/// The number of entries for which a cleared list keeps its capacity.
+const KEPT: usize = 1_024;
+
 /// A name, its value, and the index of the entry of the same name that it shadows.
 #[derive(Drop)]
 pub(crate) struct Entry<'a, T> {
@@ -156,6 +159,8 @@ fn push_entry<'a, T: Drop>(
     }
 }
 
+/// Removes all entries. The list keeps the capacity for `KEPT` entries, so that the block of a long list is given back
+/// before smaller ones are allocated.
 fn clear<'a, T: Drop>(
     latest: &mut HashMap<&'a [u8], Option<usize>, Keyed>,
     entries: &mut Vec<Entry<'a, T>>,
@@ -165,6 +170,7 @@ fn clear<'a, T: Drop>(
 {
     latest.clear();
     entries.clear();
+    entries.shrink_to(KEPT);
 }
 
 /// Removes entries from the end until `count` are left. If `count` is 0 and at least a quarter of the map's capacity
