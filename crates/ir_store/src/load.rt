@@ -120,27 +120,35 @@ fn load_region(
     }
 }
 
-/// Frees the operations inside an operation.
-#[cycle(release)]
-fn release(op: TreeOp) {
-    for region in op.regions {
-        release_region(region);
+/// Frees a tree. The lists of its functions are shrunk first: a large block that is freed as a whole makes the C library
+/// keep later blocks of up to its size in one heap, in which lists that grow leave holes.
+fn release(tree: TreeOp) {
+    let mut tree = tree;
+    shrink_functions(&mut tree.regions);
+}
+
+/// Shrinks the lists of the functions in these regions.
+fn shrink_functions(regions: &mut [TreeRegion]) {
+    for region in regions {
+        if let TreeRegion::Block { ops, .. } = region {
+            shrink_bodies(ops);
+        }
     }
 }
 
-/// Frees the operations in the block of a region. A long list is shrunk before it is freed.
-#[cycle(release)]
-fn release_region(region: TreeRegion) {
-    if let TreeRegion::Block { ops, .. } = region {
-        let mut ops = ops;
-        while ops.len() > 1 {
-            if let Some(op) = ops.pop() {
-                release(op);
-            }
-        }
-        ops.shrink_to_fit();
-        for op in ops {
-            release(op);
+/// Shrinks the lists of these operations.
+fn shrink_bodies(ops: &mut [TreeOp]) {
+    for op in ops {
+        shrink_lists(&mut op.regions);
+    }
+}
+
+/// Drops all operations of these regions except the first of each, and shrinks the lists.
+fn shrink_lists(regions: &mut [TreeRegion]) {
+    for region in regions {
+        if let TreeRegion::Block { ops, .. } = region {
+            ops.truncate(1);
+            ops.shrink_to_fit();
         }
     }
 }
