@@ -45,7 +45,11 @@ fn flag_pair(first: bool, second: bool) -> FlagPair
     ensures second { has_second result ≡ second }
 {
     if first {
-        if second { FlagPair::Both } else { FlagPair::First }
+        if second {
+            FlagPair::Both
+        } else {
+            FlagPair::First
+        }
     } else if second {
         FlagPair::Second
     } else {
