@@ -1,5 +1,5 @@
 -- Entries in fewer bytes.
-use Rattle.std.specs.Prelude.{ℕ, Bool, true, false, Option, Some, None, if◌then◌else◌}
+use Rattle.std.specs.Prelude.{ℕ, Bool, true, false, Some, None, if◌then◌else◌}
 use Rattle.effects.specs.declared.packed.FlagPair.{FlagPair}
 use Rattle.effects.specs.declared.packed.FlagPair.TheVariants.{Neither, First, Second, Both}
 use Rattle.effects.specs.declared.row.RowHead.{RowHead}
