@@ -123,6 +123,8 @@ impl Dictionary {
         let Some(at) = find_entry(ctx, present, key) else {
             unreachable!()
         };
+        // The length is at most the capacity.
+        let _count = self.items.len();
         let (_key, attr) = self.items.remove(at);
         self.len -= 1;
         match self.items.push((key, attr)) {

@@ -113,5 +113,7 @@ pub(crate) fn forget(items: &mut SmallVec<(NameId, AttrId), 2>, len: usize, key:
     let Some(at) = find_gone(gone, key) else {
         return;
     };
+    // The length is at most the capacity.
+    let _count = items.len();
     let _slot = items.remove(len + at);
 }
