@@ -67,6 +67,7 @@ pub fn read_all<R: Source>(alloc: Global, reader: &mut R) -> Result<Vec<u8>, Rea
     ensures read { ReadsWhole (R.intake reader.old) (R.intake reader.new) result }
     ensures made { AreMadeAtMost (R.intake reader.old).reads (R.intake reader.new).reads most_reads }
 {
+    // One block of the largest size: nothing is copied as the input grows, and the C library maps it apart from its heap.
     let mut kept = Vec::with_capacity(alloc, MAX_INPUT_BYTES).ok();
     let mut count = 0usize;
     let mut buffer = [0u8; CHUNK];
