@@ -13,3 +13,4 @@ pub mod Within
 pub mod Marks
 pub mod Picked
 pub mod RowMaps
+pub mod Packed

@@ -12,6 +12,7 @@ pub mod effect_rows;
 pub mod effects;
 mod follow;
 mod own;
+mod packed;
 mod report;
 pub mod row;
 mod row_map;

@@ -9,6 +9,7 @@ ghost use Rattle.effects.specs.declared.effect_kinds.EffectKinds.{EffectKinds as
 ghost use Rattle.effects.specs.RowMaps.{counts_at, whole, zero_counts};
 ghost use Rattle.effects.specs.Walks.{total};
 
+use crate::packed::PackedHead;
 use crate::row::{Counts, Row, RowHead};
 use ir_event::types::ids::OpId;
 use listeners_support::IdMap;
@@ -24,7 +25,7 @@ use std::marker::Model;
 /// them.
 #[derive(Drop)]
 pub struct RowMap {
-    heads: IdMap<RowHead>,
+    heads: IdMap<PackedHead>,
     /// The counts that aren't 0, and those of operations with regions.
     sums: IdMap<Counts>,
 }
@@ -99,10 +100,13 @@ impl RowMap {
 }
 
 /// Returns an entry without its counts, if there is one.
-fn head_in(heads: &IdMap<RowHead>, id: u32) -> Option<RowHead>
+fn head_in(heads: &IdMap<PackedHead>, id: u32) -> Option<RowHead>
     ensures { result ≡ get heads.now id }
 {
-    heads.get(id).copied()
+    match heads.get(id) {
+        None => None,
+        Some(packed) => Some(packed.head()),
+    }
 }
 
 /// Returns the counts of an operation.
@@ -116,7 +120,7 @@ fn counts_in(sums: &IdMap<Counts>, id: u32) -> Counts
 }
 
 /// Returns the entry of an id, if it has one.
-fn row_in(heads: &IdMap<RowHead>, sums: &IdMap<Counts>, id: u32) -> Option<Row>
+fn row_in(heads: &IdMap<PackedHead>, sums: &IdMap<Counts>, id: u32) -> Option<Row>
     ensures { result ≡ get (whole sums.now heads.now) id }
 {
     let Some(head) = head_in(heads, id) else {
@@ -148,7 +152,7 @@ fn clear_counts(sums: &mut IdMap<Counts>, id: u32)
 
 /// Sets the entry of an id. All its counts are 0. If memory runs out, the entries are unchanged.
 fn insert_in(
-    heads: &mut IdMap<RowHead>,
+    heads: &mut IdMap<PackedHead>,
     sums: &mut IdMap<Counts>,
     id: u32,
     row: &Row,
@@ -162,7 +166,7 @@ fn insert_in(
     if !reserve_counts(sums, id, inner) {
         return Err(AllocError);
     }
-    match heads.insert(id, row.head()) {
+    match heads.insert(id, PackedHead::new(&row.head())) {
         Ok(()) => {
             clear_counts(sums, id);
             Ok(())
@@ -172,7 +176,7 @@ fn insert_in(
 }
 
 /// Removes the entry of an id, and returns it if there was one. Needs no memory.
-fn remove_in(heads: &mut IdMap<RowHead>, sums: &mut IdMap<Counts>, id: u32) -> Option<Row>
+fn remove_in(heads: &mut IdMap<PackedHead>, sums: &mut IdMap<Counts>, id: u32) -> Option<Row>
     ensures value { result ≡ get (whole sums.old heads.old) id }
     ensures updates { Updates (whole sums.old heads.old) (whole sums.new heads.new) id None }
 {
@@ -203,7 +207,7 @@ fn write_counts(sums: &mut IdMap<Counts>, id: u32, counts: &Counts) -> bool
 }
 
 /// Replaces the entry of an id.
-fn write_in(heads: &mut IdMap<RowHead>, sums: &mut IdMap<Counts>, id: u32, row: &Row) -> bool
+fn write_in(heads: &mut IdMap<PackedHead>, sums: &mut IdMap<Counts>, id: u32, row: &Row) -> bool
     ensures had { result ≡ true → is_some (get (whole sums.old heads.old) id) ≡ true }
     ensures kept { (r : Kept) → get (whole sums.old heads.old) id ≡ Some r
         → (r.counts ≡ zero_counts → row.now.counts ≡ zero_counts) → result ≡ true }
@@ -219,5 +223,5 @@ fn write_in(heads: &mut IdMap<RowHead>, sums: &mut IdMap<Counts>, id: u32, row: 
     if !write_counts(sums, id, &row.counts) {
         return false;
     }
-    heads.write(id, row.head())
+    heads.write(id, PackedHead::new(&row.head()))
 }

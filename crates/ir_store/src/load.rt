@@ -120,6 +120,39 @@ fn load_region(
     }
 }
 
+/// Frees a tree. The lists of its functions are shrunk first: a large block that is freed as a whole makes the C library
+/// keep later blocks of up to its size in one heap, in which lists that grow leave holes.
+fn release(tree: TreeOp) {
+    let mut tree = tree;
+    shrink_functions(&mut tree.regions);
+}
+
+/// Shrinks the lists of the functions in these regions.
+fn shrink_functions(regions: &mut [TreeRegion]) {
+    for region in regions {
+        if let TreeRegion::Block { ops, .. } = region {
+            shrink_bodies(ops);
+        }
+    }
+}
+
+/// Shrinks the lists of these operations.
+fn shrink_bodies(ops: &mut [TreeOp]) {
+    for op in ops {
+        shrink_lists(&mut op.regions);
+    }
+}
+
+/// Drops all operations of these regions except the first of each, and shrinks the lists.
+fn shrink_lists(regions: &mut [TreeRegion]) {
+    for region in regions {
+        if let TreeRegion::Block { ops, .. } = region {
+            ops.truncate(1);
+            ops.shrink_to_fit();
+        }
+    }
+}
+
 /// Returns the store of a tree whose root has no operands.
 fn spread(alloc: Global, tree: &TreeOp, next: u32) -> Result<Store, AllocError>
     requires distinct { HasDistinctIds tree.now }
@@ -175,6 +208,7 @@ impl Store {
         ensures refused { IfErr result (λ e. e ≡ Refusal.Memory) }
     {
         let store = spread(alloc, &tree, next)?;
+        release(tree);
         Ok(store)
     }
 }

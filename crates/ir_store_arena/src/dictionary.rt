@@ -7,13 +7,15 @@ ghost use Rattle.ir_store_arena.specs.Slots.{has_key, has_slot, with_change};
 use crate::lookup::{binary_search, contains, find_entry, forget, value_at};
 use ir_tree_laws::types::context::Context;
 use ir_tree_laws::types::ids::{AttrId, NameId};
+use smallvec::SmallVec;
 use std::alloc::{AllocError, Global};
 use std::marker::Model;
 
-/// The entries of a dictionary, sorted by the bytes of their keys, followed by the entries of removed keys.
+/// The entries of a dictionary, sorted by the bytes of their keys, followed by the entries of removed keys. Up to two
+/// entries are inline.
 #[derive(Drop)]
 pub struct Dictionary {
-    items: Vec<(NameId, AttrId)>,
+    items: SmallVec<(NameId, AttrId), 2>,
     len: usize,
 }
 
@@ -36,7 +38,7 @@ impl Dictionary {
         ensures { result ≡ record { present = []; gone = [] } }
     {
         Dictionary {
-            items: Vec::new(alloc),
+            items: SmallVec::new(alloc),
             len: 0,
         }
     }
@@ -45,7 +47,7 @@ impl Dictionary {
     pub fn from_slice(alloc: Global, entries: &[(NameId, AttrId)]) -> Result<Dictionary, AllocError>
         ensures { IfOk result (λ d. d ≡ record { present = entries.now; gone = [] }) }
     {
-        let items = Vec::from_slice(alloc, entries)?;
+        let items = SmallVec::from_slice(alloc, entries)?;
         Ok(Dictionary {
             len: items.len(),
             items,
@@ -121,6 +123,8 @@ impl Dictionary {
         let Some(at) = find_entry(ctx, present, key) else {
             unreachable!()
         };
+        // The length is at most the capacity.
+        let _count = self.items.len();
         let (_key, attr) = self.items.remove(at);
         self.len -= 1;
         match self.items.push((key, attr)) {

@@ -1,7 +1,7 @@
 //! Searches for a key among entries.
 ghost use Rattle.std.specs.Prelude.{◌≡◌, ℕ, ◌<◌, ◌≤◌, ◌+◌, ◌⊎◌, length, take, drop, true, false, slice_set, None, MatchOption, MatchResult};
 ghost use Rattle.std.specs.List.{insert, remove};
-ghost use Rattle.std.specs.Vec.{vec_capacity, vec_len};
+ghost use Rattle.smallvec.specs.SmallVec.{HasRoomFor};
 ghost use Rattle.ir_tree_laws.specs.trees.Edits.{put_entry, drop_entry, entry_at, same_key};
 ghost use Rattle.ir_tree_laws.specs.trees.Meaning.{key_before_in, rises};
 ghost use Rattle.ir_store_arena.specs.Slots.{has_key, is_gone, keep_gone, keys};
@@ -9,6 +9,7 @@ ghost use Rattle.ir_store_arena.specs.Slots.{has_key, is_gone, keep_gone, keys};
 use ir_tree_laws::trees::sound::comes_before;
 use ir_tree_laws::types::context::Context;
 use ir_tree_laws::types::ids::{AttrId, NameId};
+use smallvec::SmallVec;
 
 /// Returns the index of a key in a dictionary (`Ok`), or the index at which to insert it (`Err`).
 pub(crate) fn binary_search(
@@ -100,17 +101,19 @@ pub(crate) fn contains(entries: &[(NameId, AttrId)], key: NameId) -> bool
 }
 
 /// Releases the slot of a removed key, if the key has one.
-pub(crate) fn forget(items: &mut Vec<(NameId, AttrId)>, len: usize, key: NameId)
+pub(crate) fn forget(items: &mut SmallVec<(NameId, AttrId), 2>, len: usize, key: NameId)
     requires { len ≤ length items.old.items }
     ensures len { len ≤ length items.new.items }
     ensures present { take len items.new.items ≡ take len items.old.items }
     ensures gone { keys (drop len items.new.items) ≡ keep_gone key (keys (drop len items.old.items)) }
-    ensures kept { (items.new.items ≡ items.old.items) ⊎ (vec_len items.new < vec_capacity items.new) }
-    ensures headroom { is_gone key (keys (drop len items.old.items)) ≡ true → vec_len items.new < vec_capacity items.new }
+    ensures kept { (items.new.items ≡ items.old.items) ⊎ HasRoomFor items.new 1 }
+    ensures headroom { is_gone key (keys (drop len items.old.items)) ≡ true → HasRoomFor items.new 1 }
 {
     let (_present, gone) = items.as_slice().split_at(len);
     let Some(at) = find_gone(gone, key) else {
         return;
     };
+    // The length is at most the capacity.
+    let _count = items.len();
     let _slot = items.remove(len + at);
 }

@@ -10,6 +10,9 @@ use std::alloc::{AllocError, Global};
 use std::collections::HashMap;
 use std::marker::Model;
 
+/// The number of names for which a cleared list and map keep their capacity.
+const KEPT: usize = 2_048;
+
 /// A name, its value, and the index of the entry of the same name that it shadows.
 #[derive(Drop)]
 pub(crate) struct Entry<'a, T> {
@@ -156,6 +159,8 @@ fn push_entry<'a, T: Drop>(
     }
 }
 
+/// Removes all entries. The list and the map keep capacity for `KEPT` names. A large block is shrunk before it is freed:
+/// otherwise the C library keeps later blocks of up to its size in one heap, in which lists that grow leave holes.
 fn clear<'a, T: Drop>(
     latest: &mut HashMap<&'a [u8], Option<usize>, Keyed>,
     entries: &mut Vec<Entry<'a, T>>,
@@ -164,7 +169,9 @@ fn clear<'a, T: Drop>(
     ensures cleared { entries.new.items ≡ [] }
 {
     latest.clear();
+    latest.shrink_to(KEPT);
     entries.clear();
+    entries.shrink_to(KEPT);
 }
 
 /// Removes entries from the end until `count` are left. If `count` is 0 and at least a quarter of the map's capacity

@@ -31,8 +31,9 @@ impl OpId {
     }
 }
 
-/// The id of a name: an operation's name, a key, a component of a symbol, or a string.
-#[derive(Clone, Copy, Debug, PartialEq, Eq, PartialOrd, Ord, Hash)]
+/// The id of a name: an operation's name, a key, a component of a symbol, or a string. The default id is a placeholder
+/// for unused entries of lists.
+#[derive(Clone, Copy, Debug, Default, PartialEq, Eq, PartialOrd, Ord, Hash)]
 pub struct NameId(u32);
 
 impl Model for NameId {
@@ -87,8 +88,8 @@ impl TypeId {
     }
 }
 
-/// The id of an attribute.
-#[derive(Clone, Copy, Debug, PartialEq, Eq, PartialOrd, Ord, Hash)]
+/// The id of an attribute. The default id is a placeholder for unused entries of lists.
+#[derive(Clone, Copy, Debug, Default, PartialEq, Eq, PartialOrd, Ord, Hash)]
 pub struct AttrId(u32);
 
 impl Model for AttrId {

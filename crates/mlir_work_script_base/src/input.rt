@@ -67,7 +67,8 @@ pub fn read_all<R: Source>(alloc: Global, reader: &mut R) -> Result<Vec<u8>, Rea
     ensures read { ReadsWhole (R.intake reader.old) (R.intake reader.new) result }
     ensures made { AreMadeAtMost (R.intake reader.old).reads (R.intake reader.new).reads most_reads }
 {
-    let mut kept = Some(Vec::new(alloc));
+    // One block of the largest size: nothing is copied as the input grows, and the C library maps it apart from its heap.
+    let mut kept = Vec::with_capacity(alloc, MAX_INPUT_BYTES).ok();
     let mut count = 0usize;
     let mut buffer = [0u8; CHUNK];
     for _made in 0..MAX_READS {

@@ -13,7 +13,7 @@ returns-in-Ok-clause-updates c =
     let b = c.clear_counts.new.sums in
     let x = c.args.id in
     written a b heads c.insert.new.self x c.args.row.now
-    (subst (λ h. idmap.Updates heads c.insert.new.self x (Some h)) c.head.ensures c.in-Ok.ensures.updates)
+    (subst (λ h. idmap.Updates heads c.insert.new.self x (Some h)) (c.new.ensures ∙ c.head.ensures) c.in-Ok.ensures.updates)
     (λ y. c.clear_counts.ensures y ∙ (λ i. cond (is_at (nat_cmp x) y) (sym c.requires i) (c.reserve_counts.ensures y i)))
 
 pub returns-then-not-reserve_counts-clause-err : goal.returns-then-not-reserve_counts-clause-err

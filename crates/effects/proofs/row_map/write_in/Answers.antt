@@ -38,7 +38,7 @@ returns-clause-updates c =
     let counted : c.write_counts.result ≡ true = search rules in
     true_on c.write.result _
     (written c.args.sums.now c.write_counts.new.sums c.args.heads.now c.write.new.self c.args.id c.args.row.now
-    (subst (λ h. idmap.Updates c.args.heads.now c.write.new.self c.args.id (Some h)) c.head.ensures (on_true_is c.write.result _ yes c.write.ensures.updates))
+    (subst (λ h. idmap.Updates c.args.heads.now c.write.new.self c.args.id (Some h)) (c.new.ensures ∙ c.head.ensures) (on_true_is c.write.result _ yes c.write.ensures.updates))
     (on_true_is c.write_counts.result _ counted c.write_counts.ensures.counts))
 
 pub returns-clause-total : goal.returns-clause-total
@@ -47,7 +47,7 @@ returns-clause-total c =
     let yes = c.write.ensures.had ∙ sym c.contains_key.ensures ∙ held in
     true_on c.write.result _
     (λ f r is. total_written f c.args.sums.now c.write_counts.new.sums c.args.heads.now c.write.new.self c.args.id c.args.row.now r
-    (on_true_is c.write.result _ yes c.write.ensures.entries ∙ ap (set_value (is_at (nat_cmp c.args.id)) c.args.heads.now.entries) c.head.ensures) is)
+    (on_true_is c.write.result _ yes c.write.ensures.entries ∙ ap (set_value (is_at (nat_cmp c.args.id)) c.args.heads.now.entries) (c.new.ensures ∙ c.head.ensures)) is)
 
 pub returns-clause-none : goal.returns-clause-none
 returns-clause-none c e =

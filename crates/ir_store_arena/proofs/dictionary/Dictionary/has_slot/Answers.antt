@@ -4,4 +4,4 @@ use Rattle.ir_store_arena.proofs.Changed.{slot_is}
 use Rattle.ir_store_arena.proofs.dictionary.Dictionary.has_slot.Goals as goal
 
 pub returns : goal.returns
-returns c = c.contains.ensures ∙ ap (has_key c.args.key) c.as_slice.ensures.value ∙ slot_is c.args.key c.self.inside.len c.self.inside.items.items ∙ ap (has_slot c.args.key) c.self.view_is
+returns c = c.contains.ensures ∙ ap (has_key c.args.key) c.as_slice.ensures ∙ slot_is c.args.key c.self.inside.len c.self.inside.items.items ∙ ap (has_slot c.args.key) c.self.view_is
