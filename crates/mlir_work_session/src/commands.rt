@@ -63,7 +63,10 @@ pub fn run_command<L: Analysis>(
             TraceForm::Off,
         ),
         Command::Convert { full, clauses } => {
-            reply_only(alloc, transforming::convert(alloc, bench, *full, clauses))
+            reply_only(
+                alloc,
+                transforming::convert_plainly(alloc, bench, *full, clauses),
+            )
         }
         Command::Sweep => reply_only(alloc, transforming::sweep(alloc, bench)),
         Command::Apply { rule, op } => reply_only(

@@ -34,11 +34,7 @@ use mlir_work_transforms::transform::transform;
 use std::alloc::Global;
 
 /// Returns the reply to a rewrite. The lines are shown below an accepted reply only.
-fn rewrite_reply(
-    alloc: Global,
-    lines: RewriteLines,
-    called: Result<Ended, Refusal>,
-) -> ShownReply
+fn rewrite_reply(alloc: Global, lines: RewriteLines, called: Result<Ended, Refusal>) -> ShownReply
     ensures reply { response_of result.reply ≡ Replied (canonical_reply called) }
     ensures shows { result.shows.items ≡ bytes_if (is_accepted (Replied (canonical_reply called))) lines.text.items }
 {

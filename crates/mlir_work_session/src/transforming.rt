@@ -21,9 +21,11 @@ use ir_event::types::ids::OpId;
 use ir_event::types::refusal::Refusal;
 use mlir_work_script_base::clauses::Clauses;
 use mlir_work_script_base::rule_name::RuleName;
+use mlir_work_transforms::convert::{convert, convert_traced};
 use mlir_work_transforms::rewriter::Bench;
 use mlir_work_transforms::rewriter::laws::led_benches_are_kept;
-use mlir_work_transforms::{apply, convert, sweep};
+use mlir_work_transforms::tracer::NoTracer;
+use mlir_work_transforms::{apply, sweep};
 use std::alloc::Global;
 
 /// Returns the rewrite limit of a command: its own, or the session's default.
@@ -48,7 +50,7 @@ pub(crate) fn sweep<L: Analysis>(alloc: Global, bench: &mut Bench<L>) -> Reply
 }
 
 /// Converts the module to the target of the clauses and reconciles type casts.
-pub(crate) fn convert<L: Analysis>(
+pub(crate) fn convert_plainly<L: Analysis>(
     alloc: Global,
     bench: &mut Bench<L>,
     full: bool,
@@ -61,7 +63,7 @@ pub(crate) fn convert<L: Analysis>(
     ensures mode { bench.new.transaction.ctx.opaque ≡ bench.old.transaction.ctx.opaque }
 {
     led_benches_are_kept::<L>();
-    reply_converted(convert::convert(alloc, bench, full, clauses))
+    reply_converted(convert(alloc, bench, full, clauses, &mut NoTracer))
 }
 
 /// Applies the named rule at an operation. Refused with `NoSuchKey` if no rule has the name.
@@ -84,7 +86,7 @@ pub(crate) fn apply_named_rule<L: Analysis>(
     reply_applied(apply::apply_rule(alloc, bench, rule, op))
 }
 
-/// Converts the module as `convert` does, and traces each applied rule, or shows why an operation stays illegal.
+/// Converts the module as `convert_plainly` does, and traces each applied rule, or shows why an operation stays illegal.
 pub(crate) fn trace_conversion<L: Analysis>(
     alloc: Global,
     bench: &mut Bench<L>,
@@ -98,7 +100,7 @@ pub(crate) fn trace_conversion<L: Analysis>(
     ensures mode { bench.new.transaction.ctx.opaque ≡ bench.old.transaction.ctx.opaque }
 {
     led_benches_are_kept::<L>();
-    let traced = convert::convert_traced(alloc, bench, full, clauses);
+    let traced = convert_traced(alloc, bench, full, clauses);
     ShownReply {
         reply: reply_converted(traced.called),
         shows: traced.lines,

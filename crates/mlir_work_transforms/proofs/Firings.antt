@@ -123,14 +123,16 @@ fired_reported (Err e) fs a b text fresh whole taken is = taken
 pub taken_off : (fs : List AppliedRewrite) (a b : RewriteLines) → a.form ≡ Off → b.form ≡ a.form → b.text.items ≡ a.text.items → Taken fs a b
 taken_off fs a b is form text = record { form = form; lines = subst (λ (f : TraceForm). LinesTaken f fs a b) (sym is) text }
 
-pub taken_each : (f : AppliedRewrite) (a b : RewriteLines) → a.form ≡ EachRewrite → b.form ≡ a.form → names_of b ≡ names_of a → b.text.items ≡ a.text.items ++ applied_line (names_of a) f → Taken (f ∷ []) a b
-taken_each f a b is form names text = record {
+pub taken_each : {A E : Type 0} (r : Result A E) (f : AppliedRewrite) (a b : RewriteLines) → a.form ≡ EachRewrite → b.form ≡ a.form → names_of b ≡ names_of a → OnOk r (b.text.items ≡ a.text.items ++ applied_line (names_of a) f) → OnOk r (Taken (f ∷ []) a b)
+taken_each (Ok x) f a b is form names text = record {
   form = form;
   lines = subst (λ (form : TraceForm). LinesTaken form (f ∷ []) a b) (sym is) (text ∙ ap (λ (l : List ℕ). a.text.items ++ l) (sym (append-nil (applied_line (names_of a) f))), names);
 }
+taken_each (Err e) f a b is form names text = text
 
-pub taken_counts : (fs : List AppliedRewrite) (a b : RewriteLines) → a.form ≡ Counts → b.form ≡ a.form → FiredTaken fs a b → Taken fs a b
-taken_counts fs a b is form taken = record { form = form; lines = subst (λ (f : TraceForm). LinesTaken f fs a b) (sym is) taken }
+pub taken_counts : {A E : Type 0} (r : Result A E) (fs : List AppliedRewrite) (a b : RewriteLines) → a.form ≡ Counts → b.form ≡ a.form → OnOk r (FiredTaken fs a b) → OnOk r (Taken fs a b)
+taken_counts (Ok x) fs a b is form taken = record { form = form; lines = subst (λ (f : TraceForm). LinesTaken f fs a b) (sym is) taken }
+taken_counts (Err e) fs a b is form taken = taken
 
 -- the text after a run from a tracer without counts
 pub lines_reported : (called : Result Outcome Refusal) (fs : List AppliedRewrite) (a b : RewriteLines) (text : List ℕ) → IsFresh a → ((k : ℕ) → called ≡ Ok (Limit k) → length fs ≡ a.limit) → OnOk called (Taken fs a b) → text ≡ ended_text b.form called b.shown b.text.items
@@ -138,10 +140,10 @@ pub lines_reported : (called : Result Outcome Refusal) (fs : List AppliedRewrite
 lines_reported (Err e) fs a b text fresh whole taken is = taken
 lines_reported (Ok o) fs a b text fresh whole taken is = go a.form refl taken.lines
   where
-    as : (form : TraceForm) → a.form ≡ form → text ≡ ended_text form (Ok o) b.shown b.text.items
-    as form e = is ∙ ap (λ (f : TraceForm). ended_text f (Ok o) b.shown b.text.items) (taken.form ∙ e)
+    by_form : (form : TraceForm) → a.form ≡ form → text ≡ ended_text form (Ok o) b.shown b.text.items
+    by_form form e = is ∙ ap (λ (f : TraceForm). ended_text f (Ok o) b.shown b.text.items) (taken.form ∙ e)
 
     go : (form : TraceForm) → a.form ≡ form → LinesTaken form fs a b → text ≡ a.text.items ++ lines_below form (Replied (canonical_reply (Ok o))) (names_of a) fs
-    go Off e h = as Off e ∙ h ∙ sym (append-nil a.text.items)
-    go EachRewrite e h = as EachRewrite e ∙ h.0
-    go Counts e h = fired_reported (Ok o) fs a b text fresh whole h (as Counts e)
+    go Off e h = by_form Off e ∙ h ∙ sym (append-nil a.text.items)
+    go EachRewrite e h = by_form EachRewrite e ∙ h.0
+    go Counts e h = fired_reported (Ok o) fs a b text fresh whole h (by_form Counts e)

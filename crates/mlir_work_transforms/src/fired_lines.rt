@@ -1,14 +1,12 @@
 //! The lines that count which rules and patterns fired: `fired 4 drop-zero 37`. A line shows a user pattern by its name:
 //! `names` has the name of each rule and pattern of the list, at the same index.
 ghost use Rattle.std.specs.Prelude.{◌≡◌, ◌++◌, [], OnOk, map};
-ghost use Rattle.std.specs.Fmt.{decimal};
 ghost use Rattle.greedy.specs.declared.applied_rewrite.AppliedPattern.TheVariants as by;
 ghost use Rattle.mlir_work_transforms.specs.FiredText.{fired_after, fired_line, fired_of, fired_text, first_of, is_in, is_same, last_hundred, times_in};
 
-use crate::trace_lines::write_pattern;
+use crate::trace_lines::{write_number, write_pattern};
 use greedy::applied_rewrite::AppliedPattern;
 use greedy::patterns::rule::Rule;
-use mlir_work_script_base::cells;
 use std::alloc::AllocError;
 
 /// How many of the last rewrites are counted.
@@ -73,13 +71,6 @@ fn times_in(one: &AppliedPattern, list: &[AppliedPattern]) -> usize
     count
 }
 
-/// Appends a count.
-fn write_count(text: &mut Vec<u8>, count: usize) -> Result<(), AllocError>
-    ensures { OnOk result (text.new.items ≡ text.old.items ++ decimal count) }
-{
-    cells::write_number(text, count as u64).map_err(|_| AllocError)
-}
-
 /// Appends the line of a rule or pattern that fired so many times.
 fn write_firing(
     text: &mut Vec<u8>,
@@ -93,7 +84,7 @@ fn write_firing(
     text.extend_from_slice(b"fired ")?;
     write_pattern(text, names, applied)?;
     text.extend_from_slice(b" ")?;
-    write_count(text, times)?;
+    write_number(text, times as u64)?;
     text.extend_from_slice(b"\n")
 }
 

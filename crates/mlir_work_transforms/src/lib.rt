@@ -38,6 +38,6 @@ pub mod why_pattern;
 mod why_types;
 mod why_values;
 
-pub use conversion::{fault, rewriter};
+pub use conversion::{fault, rewriter, tracer};
 pub use greedy;
 pub use mlir_work_registry as registry;

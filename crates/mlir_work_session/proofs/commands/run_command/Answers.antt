@@ -13,11 +13,11 @@ returns-in-Canon-clause-headroom g c = headroom_plainly _ c.args.session_options
 
 pub returns-in-Convert-clause-obeys : goal.returns-in-Convert-clause-obeys
 returns-in-Convert-clause-obeys g c =
-    obeys_plainly c.args.session_options.now _ _ _ _ _ _ _ (ap said_of c.in-Convert.is) (ap response_of c.reply_only-in-Convert.ensures.reply) c.reply_only-in-Convert.ensures.shows (c.convert.ensures.obeys c.args.session_options.now)
+    obeys_plainly c.args.session_options.now _ _ _ _ _ _ _ (ap said_of c.in-Convert.is) (ap response_of c.reply_only-in-Convert.ensures.reply) c.reply_only-in-Convert.ensures.shows (c.convert_plainly.ensures.obeys c.args.session_options.now)
 
 pub returns-in-Convert-clause-headroom : goal.returns-in-Convert-clause-headroom
 returns-in-Convert-clause-headroom g c =
-    headroom_plainly _ c.args.session_options.now _ _ _ _ _ (ap said_of c.in-Convert.is) (ap response_of c.reply_only-in-Convert.ensures.reply) c.convert.ensures.headroom
+    headroom_plainly _ c.args.session_options.now _ _ _ _ _ (ap said_of c.in-Convert.is) (ap response_of c.reply_only-in-Convert.ensures.reply) c.convert_plainly.ensures.headroom
 
 pub returns-in-Apply-clause-headroom : goal.returns-in-Apply-clause-headroom
 returns-in-Apply-clause-headroom g c =

@@ -52,4 +52,3 @@ returns-clause-headroom g c f is =
     let rules = rw c.in-Ok-Some.field-0-is at c.in-Ok-Some.ensures.rules in
     let limit = c.of_rules-lines.ensures.limit ∙ c.limit_of-limit.ensures in
     same_headroom _ _ f (rewriting (by_rules rs) c.of_rules-lines.result.limit) _ (rules_rewrite names rs _ rules ∙ ap (λ k. Some (rewriting (by_rules rs) k)) (sym limit)) (rw c.in-Some.is at is) (rw c.deref.ensures.value at c.rewrite_by.ensures.headroom)
-

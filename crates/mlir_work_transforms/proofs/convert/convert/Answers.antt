@@ -6,7 +6,7 @@ use Rattle.conversion.specs.Targets.{target_model}
 use Rattle.conversion.specs.declared.match_failure.MatchFailure.{MatchFailure}
 use Rattle.conversion_base.specs.declared.applied_rule.AppliedRule.{AppliedRule}
 use Rattle.mlir_work_transforms.proofs.Converted.{refused_converts, refused_does, then_converts, then_does, then_journal, then_led, then_stays, then_reported, unaimed_converts, unaimed_does}
-use Rattle.mlir_work_transforms.proofs.convert.convert_and_trace.Goals as goal
+use Rattle.mlir_work_transforms.proofs.convert.convert.Goals as goal
 
 pub returns-in-Err-clause-does : goal.returns-in-Err-clause-does
 returns-in-Err-clause-does g c =

@@ -7,7 +7,7 @@ use Rattle.mlir_work_transforms.specs.Converting.{command_aim, conversion}
 use Rattle.mlir_work_transforms.proofs.Converted.{convert_full}
 use Rattle.mlir_work_session.proofs.Obeying.{obeys_plain}
 use Rattle.mlir_work_session.proofs.Headroom.{replied}
-use Rattle.mlir_work_session.proofs.transforming.convert.Goals as goal
+use Rattle.mlir_work_session.proofs.transforming.convert_plainly.Goals as goal
 
 pub returns-clause-obeys : goal.returns-clause-obeys
 returns-clause-obeys g c session_options =
