@@ -16,7 +16,7 @@ use Rattle.greedy.specs.Applications.{IsApplied}
 use Rattle.greedy.proofs.Applications.{entries_lawful, rules_fire}
 use Rattle.mlir_work_transforms.specs.Transforming.{MayTransform, set_of, transformation_of}
 use Rattle.mlir_work_transforms.specs.declared.rule_choice.RuleChoice.{RuleChoice}
-use Rattle.mlir_work_transforms.specs.declared.rule_choice.RuleChoice.TheVariants.{Canonical, Listed, WithPatterns}
+use Rattle.mlir_work_transforms.specs.declared.rule_choice.RuleChoice.TheVariants as choice
 use Rattle.greedy.specs.declared.outcome.Outcome.{Outcome}
 use Rattle.greedy.specs.declared.outcome.Outcome.TheVariants.{Limit}
 
@@ -95,6 +95,6 @@ canonicalization_length applied counted rules limit s t called goes k is =
 
 -- the same for a choice of rules
 pub chosen_length : (r : RuleChoice) → MayTransform r → TraceIsCounted → IsOfItsRules → (limit : ℕ) (s t : State) (called : Result Outcome Refusal) → Goes s (Change (transformation_of r limit)) (canonical_reply called) Nothing t → (k : ℕ) → called ≡ Ok (Limit k) → length (trace_of (set_of r) limit s.held) ≡ limit
-chosen_length Canonical may counted rules = canonicalization_length (rules_fire greedy_rules) counted rules
-chosen_length (Listed rs) may counted rules = rewriting_length (by_rules rs.now) (rules_fire rs.now) counted
-chosen_length (WithPatterns list) may counted rules = rewriting_length (pattern_set_from (patterns_of list.now)) (entries_lawful (patterns_of list.now) may).applied counted
+chosen_length choice.Canonical may counted rules = canonicalization_length (rules_fire greedy_rules) counted rules
+chosen_length (choice.Listed rs) may counted rules = rewriting_length (by_rules rs.now) (rules_fire rs.now) counted
+chosen_length (choice.WithPatterns list) may counted rules = rewriting_length (pattern_set_from (patterns_of list.now)) (entries_lawful (patterns_of list.now) may).applied counted
