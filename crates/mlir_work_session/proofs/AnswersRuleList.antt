@@ -59,10 +59,10 @@ module _ (session_options : SessionOptions) (registry : RegistryModel) (x : List
   -- the bytes below the reply: the lines of unproved patterns, and then those of the run
   bytes_are : (m : Module) (response : Response) (bytes unproved : List ℕ) (ls : List Listed) (candidates : List RuleOrPatternModel) (form : TraceForm) (names : List (List ℕ)) (n : ℕ) → all_listed registry x.names ≡ Some ls → unproved ≡ unproved_of registry x.names m.tree → form ≡ x.trace → candidates ≡ rules_and_patterns_in ls → names ≡ names_in ls
       → n ≡ limit_or session_options.limit x.limit → bytes ≡ bytes_if (is_accepted response) (unproved ++ lines_below form response names (trace_of (pattern_set_from candidates) n m)) → bytes ≡ list_command_bytes session_options registry x m response
-  bytes_are m response bytes unproved ls candidates form names n e these formed is named same shows =
+  bytes_are m response bytes unproved ls candidates form names n e these same_form is named same shows =
       shows
       ∙ ap (λ (l : List ℕ). bytes_if (is_accepted response) (l ++ lines_below form response names (trace_of (pattern_set_from candidates) n m))) these
-      ∙ ap (λ (p : TraceForm). bytes_if (is_accepted response) (unproved_of registry x.names m.tree ++ lines_below p response names (trace_of (pattern_set_from candidates) n m))) formed
+      ∙ ap (λ (p : TraceForm). bytes_if (is_accepted response) (unproved_of registry x.names m.tree ++ lines_below p response names (trace_of (pattern_set_from candidates) n m))) same_form
       ∙ ap (λ (ns : List (List ℕ)). bytes_if (is_accepted response) (unproved_of registry x.names m.tree ++ lines_below x.trace response ns (trace_of (pattern_set_from candidates) n m))) named
       ∙ ap (λ (bs : List RuleOrPatternModel). bytes_if (is_accepted response) (unproved_of registry x.names m.tree ++ lines_below x.trace response (names_in ls) (trace_of (pattern_set_from bs) n m))) is
       ∙ ap (λ (k : ℕ). bytes_if (is_accepted response) (unproved_of registry x.names m.tree ++ lines_below x.trace response (names_in ls) (trace_of (pattern_set_from (rules_and_patterns_in ls)) k m))) same
@@ -72,10 +72,10 @@ module _ (session_options : SessionOptions) (registry : RegistryModel) (x : List
   pub mixes_found : (s t : State) (response : Response) (bytes unproved : List ℕ) (ls : List Listed) (candidates : List RuleOrPatternModel) (form : TraceForm) (names : List (List ℕ)) (n : ℕ) → all_listed registry x.names ≡ Some ls → unproved ≡ unproved_of registry x.names s.held.tree → form ≡ x.trace → candidates ≡ rules_and_patterns_in ls → names ≡ names_in ls
       → n ≡ limit_or session_options.limit x.limit → Follows s (Ask (call.Change (rewriting (pattern_set_from candidates) n))) response Nothing t
       → bytes ≡ bytes_if (is_accepted response) (unproved ++ lines_below form response names (trace_of (pattern_set_from candidates) n s.held)) → AnswersRuleList session_options registry x s response bytes t
-  mixes_found s t response bytes unproved ls candidates form names n e these formed is named same follows shows =
+  mixes_found s t response bytes unproved ls candidates form names n e these same_form is named same follows shows =
       rewrites_called _ _ s t (change (rules_and_patterns_in ls)) response bytes (change_is ls e)
       (subst (λ (k : ℕ). Follows s (Ask (call.Change (rewriting (pattern_set_from (rules_and_patterns_in ls)) k))) response Nothing t) same (subst (λ (bs : List RuleOrPatternModel). Follows s (Ask (call.Change (rewriting (pattern_set_from bs) n))) response Nothing t) is follows))
-      (bytes_are s.held response bytes unproved ls candidates form names n e these formed is named same shows)
+      (bytes_are s.held response bytes unproved ls candidates form names n e these same_form is named same shows)
 
   -- ---- refusals because the context is full
   pub list_command_unroomed : (full : Type 0) (s : State) (refusal : Refusal) → (refusal ≡ Full → ⊥) → ListCommandHeadroom full session_options registry x s (Replied (Refused refusal))

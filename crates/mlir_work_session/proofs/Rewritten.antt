@@ -109,16 +109,16 @@ rules_lines Counts names rs limit m response e =
     accepted_fired response [] (trace_of (by_rules rs) limit m) ∙ ap (λ (o : Option (List Rule)). fired_by o limit m response) (sym e)
 
 -- a rewrite by rules, if the list of lines was empty at first
-pub rewrites_rules : (options : SessionOptions) (form : TraceForm) (names : Option (List RuleName)) (limit : Option ℕ) (s t : State) (response : Response) (bytes : List ℕ) (f : Transformation) (rs : List Rule) (shape : TraceForm) (n : ℕ) (before : List ℕ) (labels : List (List ℕ))
-    → tracing names (limit_or options.limit limit) ≡ Some f → traced_rules names ≡ Some rs → shape ≡ form → n ≡ limit_or options.limit limit → before ≡ [] → labels ≡ []
-    → Follows s (Ask (call.Change f)) response Nothing t → bytes ≡ bytes_if (is_accepted response) (before ++ lines_below shape response labels (trace_of (by_rules rs) n s.held)) → RunsRewrite options form names limit s response bytes t
-rewrites_rules options form names limit s t response bytes f rs shape n before labels change rules formed same none unnamed follows shows =
+pub rewrites_rules : (options : SessionOptions) (form : TraceForm) (names : Option (List RuleName)) (limit : Option ℕ) (s t : State) (response : Response) (bytes : List ℕ) (f : Transformation) (rs : List Rule) (given : TraceForm) (n : ℕ) (before : List ℕ) (labels : List (List ℕ))
+    → tracing names (limit_or options.limit limit) ≡ Some f → traced_rules names ≡ Some rs → given ≡ form → n ≡ limit_or options.limit limit → before ≡ [] → labels ≡ []
+    → Follows s (Ask (call.Change f)) response Nothing t → bytes ≡ bytes_if (is_accepted response) (before ++ lines_below given response labels (trace_of (by_rules rs) n s.held)) → RunsRewrite options form names limit s response bytes t
+rewrites_rules options form names limit s t response bytes f rs given n before labels change rules same_form same none unnamed follows shows =
     rewrites_called _ _ s t f response bytes change follows
     (shows
-    ∙ ap (λ (l : List ℕ). bytes_if (is_accepted response) (l ++ lines_below shape response labels (trace_of (by_rules rs) n s.held))) none
-    ∙ ap (λ (ns : List (List ℕ)). bytes_if (is_accepted response) (lines_below shape response ns (trace_of (by_rules rs) n s.held))) unnamed
-    ∙ ap (λ (k : ℕ). bytes_if (is_accepted response) (lines_below shape response [] (trace_of (by_rules rs) k s.held))) same
-    ∙ ap (λ (p : TraceForm). bytes_if (is_accepted response) (lines_below p response [] (trace_of (by_rules rs) (limit_or options.limit limit) s.held))) formed
+    ∙ ap (λ (l : List ℕ). bytes_if (is_accepted response) (l ++ lines_below given response labels (trace_of (by_rules rs) n s.held))) none
+    ∙ ap (λ (ns : List (List ℕ)). bytes_if (is_accepted response) (lines_below given response ns (trace_of (by_rules rs) n s.held))) unnamed
+    ∙ ap (λ (k : ℕ). bytes_if (is_accepted response) (lines_below given response [] (trace_of (by_rules rs) k s.held))) same
+    ∙ ap (λ (p : TraceForm). bytes_if (is_accepted response) (lines_below p response [] (trace_of (by_rules rs) (limit_or options.limit limit) s.held))) same_form
     ∙ rules_lines form names rs (limit_or options.limit limit) s.held response rules)
 
 -- a refusal has no lines below it

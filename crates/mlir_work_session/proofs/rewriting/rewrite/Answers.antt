@@ -39,16 +39,16 @@ returns-clause-rewrites g c =
     let names = names_of c.in-Some.list.now in
     let rs = c.in-Ok-Some.rules.items in
     let rules = rw c.in-Ok-Some.field-0-is at c.in-Ok-Some.ensures.rules in
-    let lines = c.of_rules-lines.ensures in
+    let lines = c.of_rules-lines-2.ensures in
     let limit = lines.limit ∙ c.limit_of-limit.ensures in
-    rw c.in-Some.is (rewrites_rules c.args.session_options.now c.args.form (Some names) c.args.limit _ _ _ _ (rewriting (by_rules rs) c.of_rules-lines.result.limit) rs _ _ _ _
+    rw c.in-Some.is (rewrites_rules c.args.session_options.now c.args.form (Some names) c.args.limit _ _ _ _ (rewriting (by_rules rs) c.of_rules-lines-2.result.limit) rs _ _ _ _
     (rules_rewrite names rs _ rules ∙ ap (λ k. Some (rewriting (by_rules rs) k)) (sym limit)) (sym rules) lines.form limit lines.text (ap (λ (ns : List (Vec ℕ Global)). map (λ n. n.items) ns) lines.names)
-    (rw c.deref.ensures.value at c.rewrite_by.ensures.follows) (rw c.deref.ensures.value at c.rewrite_by.ensures.shows))
+    (rw c.deref.ensures.value at c.rewrite_by-2.ensures.follows) (rw c.deref.ensures.value at c.rewrite_by-2.ensures.shows))
 
 pub returns-clause-headroom : goal.returns-clause-headroom
 returns-clause-headroom g c f is =
     let names = names_of c.in-Some.list.now in
     let rs = c.in-Ok-Some.rules.items in
     let rules = rw c.in-Ok-Some.field-0-is at c.in-Ok-Some.ensures.rules in
-    let limit = c.of_rules-lines.ensures.limit ∙ c.limit_of-limit.ensures in
-    same_headroom _ _ f (rewriting (by_rules rs) c.of_rules-lines.result.limit) _ (rules_rewrite names rs _ rules ∙ ap (λ k. Some (rewriting (by_rules rs) k)) (sym limit)) (rw c.in-Some.is at is) (rw c.deref.ensures.value at c.rewrite_by.ensures.headroom)
+    let limit = c.of_rules-lines-2.ensures.limit ∙ c.limit_of-limit.ensures in
+    same_headroom _ _ f (rewriting (by_rules rs) c.of_rules-lines-2.result.limit) _ (rules_rewrite names rs _ rules ∙ ap (λ k. Some (rewriting (by_rules rs) k)) (sym limit)) (rw c.in-Some.is at is) (rw c.deref.ensures.value at c.rewrite_by-2.ensures.headroom)
