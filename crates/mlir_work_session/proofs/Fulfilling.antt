@@ -1,5 +1,5 @@
 -- Proofs about the answers to session commands.
-use Rattle.std.proofs.Common.{◌≡◌, ◌∙◌, ap, sym, subst, refl, inl, inr, ℕ, List, [], ◌++◌, Bool, Option, Some, None, false, true, Result, Ok, Err}
+use Rattle.std.proofs.Common.{◌≡◌, ◌∙◌, ap, sym, subst, refl, inl, inr, ℕ, List, [], Bool, Option, Some, None, false, true}
 use Rattle.ir_event.specs.types.declared.refusal.Refusal.{Refusal}
 use Rattle.ir_event.specs.types.declared.refusal.Refusal.TheVariants.{Memory, NoSuchKey, NoSuchKind, NoSuchOp}
 use Rattle.ir_event.specs.Modules.{Module}
@@ -10,7 +10,7 @@ use Rattle.mlir_work_transforms.specs.rewriter.Panels.{Shown}
 use Rattle.mlir_work_script.specs.SessionCommands.{Attach, CanonAt, Fired, SessionCommand, PrintIds, Rewrite, ShowAll, ShowFrom, Trace, TraceConvert, Why, ReportOf}
 use Rattle.mlir_work_session_base.specs.IdsText.{ids_text}
 use Rattle.mlir_work_session_base.specs.OperationObjects.{all_objects_text, page_text}
-use Rattle.mlir_work_session.specs.Machine.{AsksFrom, AsksWhy, AttachesKind, RunsSessionCommand, SessionCommandAsks, SessionSetting, limit_or, session_command_bytes, bytes_if, AsksAbout, session_command_shows, shows_about}
+use Rattle.mlir_work_session.specs.Machine.{AsksFrom, AsksWhy, AttachesKind, RunsSessionCommand, SessionCommandAsks, SessionSetting, limit_or, session_command_bytes, AsksAbout, session_command_shows, shows_about}
 use Rattle.mlir_work_script_base.specs.declared.subject.Subject.{Subject}
 use Rattle.mlir_work_session_base.specs.Subjects.{absent, is_there}
 use Rattle.mlir_work_transforms.specs.registry.Replies.{IsBounded}

@@ -1,5 +1,5 @@
 -- When a rewriting command is refused with 31: if the machine requires it, or if the context is full.
-use Rattle.std.proofs.Common.{◌≡◌, ◌∙◌, sym, ap, refl, ◌⊎◌, inl, inr, subst, ℕ, List, [], Some, None, Option, option_map, Result}
+use Rattle.std.proofs.Common.{◌≡◌, ◌∙◌, sym, ap, refl, ◌⊎◌, inl, inr, subst, ℕ, List, [], Some, None, option_map}
 use Rattle.ir_event.specs.types.declared.refusal.Refusal.{Refusal}
 use Rattle.ir_event.specs.types.declared.refusal.Refusal.TheVariants.{Full}
 use Rattle.mlir_work_transforms.specs.rewriter.Commands.{Command, Response, Replied, RuleName}

@@ -4,10 +4,10 @@ use Rattle.std.specs.Prelude.{is_some, option_map, OnOk}
 use Rattle.ir_event.specs.types.declared.refusal.Refusal.{Refusal}
 use Rattle.ir_event.specs.types.declared.refusal.Refusal.TheVariants.{Memory, NoSuchKey}
 use Rattle.ir_event.specs.Modules.{Module}
-use Rattle.mlir_work_transforms.specs.rewriter.Commands.{AppliesRule, Ask, Canon, Command, Follows, Misplaced, Replied, Requested, Response, RuleName, TextRefusedAt, Unparsed}
+use Rattle.mlir_work_transforms.specs.rewriter.Commands.{AppliesRule, Ask, Canon, Follows, Misplaced, Replied, Requested, Response, RuleName, TextRefusedAt, Unparsed}
 use Rattle.mlir_work_transforms.specs.rewriter.Machine as call
-use Rattle.mlir_work_transforms.specs.rewriter.Machine.{Done, DoneAs, DoneWith, Goes, Nothing, Outcome, Refused, RefusedOn, Reply, State, Transformation}
-use Rattle.mlir_work_transforms.specs.greedy.Changes.{canonical_reply, canonicalizing, rewriting}
+use Rattle.mlir_work_transforms.specs.rewriter.Machine.{Done, DoneAs, DoneWith, Goes, Nothing, Refused, RefusedOn, Reply, State, Transformation}
+use Rattle.mlir_work_transforms.specs.greedy.Changes.{canonical_reply, rewriting}
 use Rattle.mlir_work_transforms.specs.greedy.Tracing.{trace_of}
 use Rattle.mlir_work_transforms.specs.greedy.PatternSet.{by_rules}
 use Rattle.mlir_work_transforms.specs.greedy.declared.applied_rewrite.AppliedRewrite.{AppliedRewrite}
@@ -20,7 +20,7 @@ use Rattle.mlir_work_transforms.specs.TraceText.{trace_by, traced_rules, tracing
 use Rattle.mlir_work_transforms.specs.Transforming.{lines_below}
 use Rattle.mlir_work_transforms.specs.declared.trace_form.TraceForm.{TraceForm}
 use Rattle.mlir_work_transforms.specs.declared.trace_form.TraceForm.TheVariants.{Counts, EachRewrite, Off}
-use Rattle.mlir_work_script.specs.SessionCommands.{Fired, Rewrite, SessionCommand, Trace}
+use Rattle.mlir_work_script.specs.SessionCommands.{Fired, Rewrite, Trace}
 use Rattle.mlir_work_session.specs.declared.options.SessionOptions.{SessionOptions}
 use Rattle.mlir_work_session.specs.Machine.{IsContextFull, RunsCommand, RunsSessionCommand, SessionSetting, bytes_if, limit_or}
 use Rattle.mlir_work_session.specs.Rewrites.{Rewrites, RunsRewrite, rewrite_bytes}
