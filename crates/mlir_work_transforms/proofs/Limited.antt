@@ -5,7 +5,7 @@ use Rattle.ir_event.specs.types.declared.refusal.Refusal.{Refusal}
 use Rattle.ir_event.specs.types.declared.refusal.Refusal.TheVariants.{BadLimit, Full, Memory}
 use Rattle.ir_event.specs.Modules.{Module}
 use Rattle.conversion.specs.rewriter.Machine as machine
-use Rattle.conversion.specs.rewriter.Machine.{Answer, Change, DoneWith, Goes, Nothing, Refused, Reply, State, Transformation, due_change}
+use Rattle.conversion.specs.rewriter.Machine.{Answer, Change, DoneWith, Goes, Nothing, Refused, State, due_change}
 use Rattle.conversion.specs.patterns.Canonicalization.{Canonical, End, canonicalization_of, converged, ended, go_on, greedy_rules, limited, most_rewrites, aborted}
 use Rattle.conversion.specs.patterns.Rewrites.{Rewrite, none, refused, becomes}
 use Rattle.greedy.specs.Changes.{canonical_reply, canonicalizing, made_of, rewriting}
