@@ -1,6 +1,5 @@
 -- Proofs about the answers to session commands.
-use Rattle.std.proofs.Common.{◌≡◌, ◌∙◌, ap, sym, subst, refl, inl, inr, ℕ, List, [], ◌++◌, Bool, Option, Some, None, false, true, Result, Ok, Err}
-use Rattle.std.specs.Prelude.{is_some, option_map, OnOk}
+use Rattle.std.proofs.Common.{◌≡◌, ◌∙◌, ap, sym, subst, refl, inl, inr, ℕ, List, [], Bool, Option, Some, None, false, true}
 use Rattle.ir_event.specs.types.declared.refusal.Refusal.{Refusal}
 use Rattle.ir_event.specs.types.declared.refusal.Refusal.TheVariants.{Memory, NoSuchKey, NoSuchKind, NoSuchOp}
 use Rattle.ir_event.specs.Modules.{Module}
@@ -11,30 +10,21 @@ use Rattle.mlir_work_transforms.specs.rewriter.Panels.{Shown}
 use Rattle.mlir_work_script.specs.SessionCommands.{Attach, CanonAt, Fired, SessionCommand, PrintIds, Rewrite, ShowAll, ShowFrom, Trace, TraceConvert, Why, ReportOf}
 use Rattle.mlir_work_session_base.specs.IdsText.{ids_text}
 use Rattle.mlir_work_session_base.specs.OperationObjects.{all_objects_text, page_text}
-use Rattle.mlir_work_session.specs.Machine.{AsksFrom, AsksWhy, AttachesKind, RunsSessionCommand, SessionCommandAsks, SessionSetting, limit_or, session_command_bytes, bytes_if, AsksAbout, session_command_shows, shows_about}
+use Rattle.mlir_work_session.specs.Machine.{AsksFrom, AsksWhy, AttachesKind, RunsSessionCommand, SessionCommandAsks, SessionSetting, limit_or, session_command_bytes, AsksAbout, session_command_shows, shows_about}
 use Rattle.mlir_work_script_base.specs.declared.subject.Subject.{Subject}
 use Rattle.mlir_work_session_base.specs.Subjects.{absent, is_there}
-use Rattle.mlir_work_transforms.specs.registry.Replies.{IsBounded, is_accepted}
-use Rattle.mlir_work_transforms.specs.greedy.Changes.{canonical_reply, rewriting}
-use Rattle.mlir_work_transforms.specs.greedy.Tracing.{trace_of}
-use Rattle.mlir_work_transforms.specs.greedy.PatternSet.{by_rules}
-use Rattle.mlir_work_transforms.specs.greedy.declared.outcome.Outcome.{Outcome as Ended}
+use Rattle.mlir_work_transforms.specs.registry.Replies.{IsBounded}
 use Rattle.mlir_work_transforms.specs.ConvertText.{conversion_text}
 use Rattle.mlir_work_transforms.specs.Converting.{command_aim, conversion}
-use Rattle.mlir_work_transforms.specs.FiredText.{fired_below, fired_by}
-use Rattle.mlir_work_transforms.specs.Rewriting.{rewriting_named, rules_named}
-use Rattle.mlir_work_transforms.specs.TraceText.{trace_by, trace_text, traced_rules, tracing}
+use Rattle.mlir_work_transforms.specs.Rewriting.{rewriting_named}
+use Rattle.mlir_work_transforms.specs.TraceText.{tracing}
+use Rattle.mlir_work_transforms.specs.declared.trace_form.TraceForm.TheVariants.{Counts, EachRewrite, Off}
 use Rattle.mlir_work_transforms.specs.Rule.{Rule}
 use Rattle.mlir_work_transforms.specs.At.{canonicalizing_at}
 use Rattle.mlir_work_transforms.specs.WhyText.{requested_rules, why_lines, why_text}
 use Rattle.ir_event.specs.trees.Ids.{has_id}
 use Rattle.mlir_work_session.proofs.Obeying.{some_goes}
-use Rattle.mlir_work_session.proofs.Panels.{all_stay}
-
--- a refusal has no counts below it
-refused_fired : (o : Option (List Rule)) (limit : ℕ) (m : Module) (refusal : Refusal) → fired_by o limit m (Replied (Refused refusal)) ≡ []
-refused_fired None limit m refusal = refl
-refused_fired (Some rs) limit m refusal = refl
+use Rattle.mlir_work_session.proofs.Rewritten.{fulfils_fired, fulfils_rewrite, fulfils_trace, some_rules_rewrite}
 
 module _ (setting : SessionSetting) where
   -- a session command that calls the machine
@@ -101,77 +91,6 @@ module _ (setting : SessionSetting) where
       → RunsSessionCommand setting s (ReportOf kind subject) (Replied reply) (session_command_shows (shows_about subject shows)) s
   fulfils_about kind subject s reply shows there goes = fulfils_call s s (ReportOf kind subject) (call.Report kind) reply shows (asks_about kind subject s.held there) goes
 
-  -- ---- rewriting
-
-  -- `rewrite` with a name that isn't a rule's is refused
-  pub fulfils_unruled : (names : List RuleName) (proved : Bool) (limit : Option ℕ) (s : State) → rewriting_named names (limit_or setting.session_options.limit limit) ≡ None → RunsSessionCommand setting s (Rewrite names proved limit) (Replied (Refused NoSuchKey)) [] s
-  fulfils_unruled names proved limit s e =
-      record { requested = Misplaced NoSuchKey; shows = Nothing; asks = subst (λ (o : Option Transformation). AppliesRule o (Misplaced NoSuchKey)) (sym e) refl; follows = (refl, refl, refl); text = refl }
-
-  asks_ruled : (names : List RuleName) (proved : Bool) (limit : Option ℕ) (f : Transformation) (m : Module) → rewriting_named names (limit_or setting.session_options.limit limit) ≡ Some f → SessionCommandAsks setting (Rewrite names proved limit) m (Ask (call.Change f))
-  asks_ruled names proved limit f m e = subst (λ (o : Option Transformation). AppliesRule o (Ask (call.Change f))) (sym e) refl
-
-  -- `rewrite` with names of rules
-  pub fulfils_ruled : (names : List RuleName) (proved : Bool) (limit : Option ℕ) (f : Transformation) (s t : State) (reply : Reply) (response : Response) → rewriting_named names (limit_or setting.session_options.limit limit) ≡ Some f → response ≡ Replied reply → Goes s (call.Change f) reply Nothing t → RunsSessionCommand setting s (Rewrite names proved limit) response [] t
-  fulfils_ruled names proved limit f s t reply response e is goes = rw is (fulfils_call s t (Rewrite names proved limit) (call.Change f) reply Nothing (asks_ruled names proved limit f s.held e) goes)
-
-  -- `rewrite` with names of rules, refused since memory ran out
-  pub fulfils_unlisted : (names : List RuleName) (proved : Bool) (limit : Option ℕ) (s : State) (refusal : Refusal) → refusal ≡ Memory → is_some (rules_named names) ≡ true → RunsSessionCommand setting s (Rewrite names proved limit) (Replied (Refused refusal)) [] s
-  fulfils_unlisted names proved limit s refusal is there = go (rules_named names) refl
-    where
-      go : (o : Option (List Rule)) → rules_named names ≡ o → RunsSessionCommand setting s (Rewrite names proved limit) (Replied (Refused refusal)) [] s
-      go None e = absurd (let f : false ≡ true = sym (ap is_some e) ∙ there in cc)
-      go (Some rs) e =
-          rw is (fulfils_ruled names proved limit (rewriting (by_rules rs) (limit_or setting.session_options.limit limit)) s s (Refused Memory) (Replied (Refused Memory)) (ap (option_map (λ rs. rewriting (by_rules rs) (limit_or setting.session_options.limit limit))) e) refl (record { answer = inr (refl, inl refl); panel = all_stay s.panel }))
-
-  -- ---- tracing
-
-  -- `trace` with a name that isn't a rule's is refused
-  pub fulfils_untold : (names : Option (List RuleName)) (proved : Bool) (limit : Option ℕ) (s : State) → tracing names (limit_or setting.session_options.limit limit) ≡ None → RunsSessionCommand setting s (Trace names proved limit) (Replied (Refused NoSuchKey)) [] s
-  fulfils_untold names proved limit s e =
-      record { requested = Misplaced NoSuchKey; shows = Nothing; asks = subst (λ (o : Option Transformation). AppliesRule o (Misplaced NoSuchKey)) (sym e) refl; follows = (refl, refl, refl); text = refl }
-
-  asks_reported : (names : Option (List RuleName)) (proved : Bool) (limit : Option ℕ) (f : Transformation) (m : Module) → tracing names (limit_or setting.session_options.limit limit) ≡ Some f → SessionCommandAsks setting (Trace names proved limit) m (Ask (call.Change f))
-  asks_reported names proved limit f m e = subst (λ (o : Option Transformation). AppliesRule o (Ask (call.Change f))) (sym e) refl
-
-  -- a traced rewrite
-  pub fulfils_reported : (names : Option (List RuleName)) (proved : Bool) (limit : Option ℕ) (f : Transformation) (s t : State) (reply : Reply) (response : Response) (bytes : List ℕ) → tracing names (limit_or setting.session_options.limit limit) ≡ Some f → response ≡ Replied reply → Goes s (call.Change f) reply Nothing t
-      → bytes ≡ bytes_if (is_accepted (Replied reply)) (trace_by (traced_rules names) (limit_or setting.session_options.limit limit) s.held) → RunsSessionCommand setting s (Trace names proved limit) response bytes t
-  fulfils_reported names proved limit f s t reply response bytes e is goes reported = rw is (rw reported (fulfils_call s t (Trace names proved limit) (call.Change f) reply Nothing (asks_reported names proved limit f s.held e) goes))
-
-  -- a traced rewrite, refused since memory ran out
-  pub fulfils_forgot : (names : List RuleName) (proved : Bool) (limit : Option ℕ) (s : State) (refusal : Refusal) → refusal ≡ Memory → is_some (rules_named names) ≡ true → RunsSessionCommand setting s (Trace (Some names) proved limit) (Replied (Refused refusal)) [] s
-  fulfils_forgot names proved limit s refusal is there = go (rules_named names) refl
-    where
-      go : (o : Option (List Rule)) → rules_named names ≡ o → RunsSessionCommand setting s (Trace (Some names) proved limit) (Replied (Refused refusal)) [] s
-      go None e = absurd (let f : false ≡ true = sym (ap is_some e) ∙ there in cc)
-      go (Some rs) e =
-          rw is (fulfils_reported (Some names) proved limit (rewriting (by_rules rs) (limit_or setting.session_options.limit limit)) s s (Refused Memory) (Replied (Refused Memory)) [] (ap (option_map (λ rs. rewriting (by_rules rs) (limit_or setting.session_options.limit limit))) e) refl (record { answer = inr (refl, inl refl); panel = all_stay s.panel }) refl)
-
-  -- ---- counting what fired
-
-  -- `fired` with a name that isn't a rule's is refused
-  pub fulfils_unfired : (names : Option (List RuleName)) (proved : Bool) (limit : Option ℕ) (s : State) → tracing names (limit_or setting.session_options.limit limit) ≡ None → RunsSessionCommand setting s (Fired names proved limit) (Replied (Refused NoSuchKey)) [] s
-  fulfils_unfired names proved limit s e =
-      record { requested = Misplaced NoSuchKey; shows = Nothing; asks = subst (λ (o : Option Transformation). AppliesRule o (Misplaced NoSuchKey)) (sym e) refl; follows = (refl, refl, refl); text = sym (refused_fired (traced_rules names) (limit_or setting.session_options.limit limit) s.held NoSuchKey) }
-
-  asks_fired : (names : Option (List RuleName)) (proved : Bool) (limit : Option ℕ) (f : Transformation) (m : Module) → tracing names (limit_or setting.session_options.limit limit) ≡ Some f → SessionCommandAsks setting (Fired names proved limit) m (Ask (call.Change f))
-  asks_fired names proved limit f m e = subst (λ (o : Option Transformation). AppliesRule o (Ask (call.Change f))) (sym e) refl
-
-  -- a rewrite that counts
-  pub fulfils_fired : (names : Option (List RuleName)) (proved : Bool) (limit : Option ℕ) (f : Transformation) (s t : State) (reply : Reply) (response : Response) (bytes : List ℕ) → tracing names (limit_or setting.session_options.limit limit) ≡ Some f → response ≡ Replied reply → Goes s (call.Change f) reply Nothing t
-      → bytes ≡ fired_by (traced_rules names) (limit_or setting.session_options.limit limit) s.held (Replied reply) → RunsSessionCommand setting s (Fired names proved limit) response bytes t
-  fulfils_fired names proved limit f s t reply response bytes e is goes reported = rw is (rw reported (fulfils_call s t (Fired names proved limit) (call.Change f) reply Nothing (asks_fired names proved limit f s.held e) goes))
-
-  -- a rewrite that counts, refused since memory ran out
-  pub fulfils_unkept : (names : List RuleName) (proved : Bool) (limit : Option ℕ) (s : State) (refusal : Refusal) → refusal ≡ Memory → is_some (rules_named names) ≡ true → RunsSessionCommand setting s (Fired (Some names) proved limit) (Replied (Refused refusal)) [] s
-  fulfils_unkept names proved limit s refusal is there = go (rules_named names) refl
-    where
-      go : (o : Option (List Rule)) → rules_named names ≡ o → RunsSessionCommand setting s (Fired (Some names) proved limit) (Replied (Refused refusal)) [] s
-      go None e = absurd (let f : false ≡ true = sym (ap is_some e) ∙ there in cc)
-      go (Some rs) e =
-          rw is (fulfils_fired (Some names) proved limit (rewriting (by_rules rs) (limit_or setting.session_options.limit limit)) s s (Refused Memory) (Replied (Refused Memory)) [] (ap (option_map (λ rs. rewriting (by_rules rs) (limit_or setting.session_options.limit limit))) e) refl (record { answer = inr (refl, inl refl); panel = all_stay s.panel }) (sym (refused_fired (rules_named names) (limit_or setting.session_options.limit limit) s.held Memory)))
-
   -- ---- converting
 
   -- a traced conversion; a refused conversion has a trace too
@@ -220,17 +139,14 @@ module _ (setting : SessionSetting) where
   by_kind s kind None e = (Replied (Refused NoSuchKind), [], s, fulfils_unsupplied kind s e)
   by_kind s kind (Some a) e = by_call s (Attach kind) (call.Attach a) (asks_supplied kind a s.held e)
 
-  by_ruled : (s : State) (names : List RuleName) (proved : Bool) (limit : Option ℕ) (f : Option Transformation) → rewriting_named names (limit_or setting.session_options.limit limit) ≡ f → SomeFulfilled s (Rewrite names proved limit)
-  by_ruled s names proved limit None e = (Replied (Refused NoSuchKey), [], s, fulfils_unruled names proved limit s e)
-  by_ruled s names proved limit (Some f) e = by_call s (Rewrite names proved limit) (call.Change f) (asks_ruled names proved limit f s.held e)
+  by_rewrite : (s : State) (names : List RuleName) (proved : Bool) (limit : Option ℕ) → SomeFulfilled s (Rewrite names proved limit)
+  by_rewrite s names proved limit = let g = some_rules_rewrite setting.session_options Off (Some names) limit s in (g.0, g.1, g.2, fulfils_rewrite setting proved limit s g.2 g.0 g.1 names g.3)
 
-  by_trace : (s : State) (names : Option (List RuleName)) (proved : Bool) (limit : Option ℕ) (f : Option Transformation) → tracing names (limit_or setting.session_options.limit limit) ≡ f → SomeFulfilled s (Trace names proved limit)
-  by_trace s names proved limit None e = (Replied (Refused NoSuchKey), [], s, fulfils_untold names proved limit s e)
-  by_trace s names proved limit (Some f) e = by_call s (Trace names proved limit) (call.Change f) (asks_reported names proved limit f s.held e)
+  by_trace : (s : State) (names : Option (List RuleName)) (proved : Bool) (limit : Option ℕ) → SomeFulfilled s (Trace names proved limit)
+  by_trace s names proved limit = let g = some_rules_rewrite setting.session_options EachRewrite names limit s in (g.0, g.1, g.2, fulfils_trace setting proved limit s g.2 g.0 g.1 names g.3)
 
-  by_fired : (s : State) (names : Option (List RuleName)) (proved : Bool) (limit : Option ℕ) (f : Option Transformation) → tracing names (limit_or setting.session_options.limit limit) ≡ f → SomeFulfilled s (Fired names proved limit)
-  by_fired s names proved limit None e = (Replied (Refused NoSuchKey), [], s, fulfils_unfired names proved limit s e)
-  by_fired s names proved limit (Some f) e = by_call s (Fired names proved limit) (call.Change f) (asks_fired names proved limit f s.held e)
+  by_fired : (s : State) (names : Option (List RuleName)) (proved : Bool) (limit : Option ℕ) → SomeFulfilled s (Fired names proved limit)
+  by_fired s names proved limit = let g = some_rules_rewrite setting.session_options Counts names limit s in (g.0, g.1, g.2, fulfils_fired setting proved limit s g.2 g.0 g.1 names g.3)
 
   by_why : (s : State) (x : ℕ) (name : Option RuleName) (o : Option (List Rule)) (b : Bool) → requested_rules name x s.held ≡ o → has_id x s.held.tree ≡ b → SomeFulfilled s (Why x name)
   by_why s x name None b e there = (Replied (Refused NoSuchKey), [], s, fulfils_unasked x name s e)
@@ -249,40 +165,14 @@ module _ (setting : SessionSetting) where
   some_fulfilled s (Attach kind) = by_kind s kind (setting.supply kind) refl
   some_fulfilled s PrintIds = by_call s PrintIds call.Print refl
   some_fulfilled s (ReportOf kind subject) = by_subject s kind subject (is_there subject s.held.tree) refl
-  some_fulfilled s (Rewrite names proved limit) = by_ruled s names proved limit (rewriting_named names (limit_or setting.session_options.limit limit)) refl
-  some_fulfilled s (Trace names proved limit) = by_trace s names proved limit (tracing names (limit_or setting.session_options.limit limit)) refl
-  some_fulfilled s (Fired names proved limit) = by_fired s names proved limit (tracing names (limit_or setting.session_options.limit limit)) refl
+  some_fulfilled s (Rewrite names proved limit) = by_rewrite s names proved limit
+  some_fulfilled s (Trace names proved limit) = by_trace s names proved limit
+  some_fulfilled s (Fired names proved limit) = by_fired s names proved limit
   some_fulfilled s (TraceConvert target) = by_call s (TraceConvert target) (call.Change (conversion target)) refl
   some_fulfilled s (CanonAt x limit) = by_call s (CanonAt x limit) (call.Change (canonicalizing_at (limit_or setting.session_options.limit limit) x)) refl
   some_fulfilled s (Why x name) = by_why s x name (requested_rules name x s.held) (has_id x s.held.tree) refl refl
   some_fulfilled s ShowAll = by_call s ShowAll call.Print refl
   some_fulfilled s (ShowFrom x count) = by_page s x count (has_id x s.held.tree) refl
-
--- the trace of a rewrite by rules, if the list of lines was empty at first
-pub reported_trace : (rs : List Rule) (n limit : ℕ) (m : Module) (called : Result Ended Refusal) (before after bytes : List ℕ) (names : List (List ℕ)) → n ≡ limit → before ≡ [] → names ≡ [] → OnOk called (after ≡ before ++ trace_text names (trace_of (by_rules rs) n m))
-    → bytes ≡ bytes_if (is_accepted (Replied (canonical_reply called))) after → bytes ≡ bytes_if (is_accepted (Replied (canonical_reply called))) (trace_by (Some rs) limit m)
-reported_trace rs n limit m (Ok o) before after bytes names same none unnamed reported is =
-    is ∙ reported ∙ ap (λ l. l ++ trace_text names (trace_of (by_rules rs) n m)) none ∙ ap (λ ns. trace_text ns (trace_of (by_rules rs) n m)) unnamed ∙ ap (λ k. trace_text [] (trace_of (by_rules rs) k m)) same
-reported_trace rs n limit m (Err e) before after bytes names same none unnamed reported is = is
-
--- the same for rules given by name
-pub reported_named : (names : List RuleName) (rs : List Rule) (n limit : ℕ) (m : Module) (called : Result Ended Refusal) (before after bytes : List ℕ) (labels : List (List ℕ)) → Some rs ≡ rules_named names → n ≡ limit → before ≡ [] → labels ≡ [] → OnOk called (after ≡ before ++ trace_text labels (trace_of (by_rules rs) n m))
-    → bytes ≡ bytes_if (is_accepted (Replied (canonical_reply called))) after → bytes ≡ bytes_if (is_accepted (Replied (canonical_reply called))) (trace_by (traced_rules (Some names)) limit m)
-reported_named names rs n limit m called before after bytes labels rules same none unnamed reported is =
-    reported_trace rs n limit m called before after bytes labels same none unnamed reported is ∙ ap (λ o. bytes_if (is_accepted (Replied (canonical_reply called))) (trace_by o limit m)) rules
-
--- the counts of a rewrite by rules, if the list of lines was empty at first
-pub reported_fired : (rs : List Rule) (n limit : ℕ) (m : Module) (called : Result Ended Refusal) (before after bytes : List ℕ) (names : List (List ℕ)) → n ≡ limit → before ≡ [] → names ≡ [] → OnOk called (after ≡ before ++ fired_below (Replied (canonical_reply called)) names (trace_of (by_rules rs) n m))
-    → bytes ≡ bytes_if (is_accepted (Replied (canonical_reply called))) after → bytes ≡ fired_by (Some rs) limit m (Replied (canonical_reply called))
-reported_fired rs n limit m (Ok o) before after bytes names same none unnamed reported is =
-    is ∙ reported ∙ ap (λ (l : List ℕ). l ++ fired_below (Replied (canonical_reply (Ok o))) names (trace_of (by_rules rs) n m)) none ∙ ap (λ (ns : List (List ℕ)). fired_below (Replied (canonical_reply (Ok o))) ns (trace_of (by_rules rs) n m)) unnamed ∙ ap (λ (k : ℕ). fired_below (Replied (canonical_reply (Ok o))) [] (trace_of (by_rules rs) k m)) same
-reported_fired rs n limit m (Err e) before after bytes names same none unnamed reported is = is
-
--- the same for rules given by name
-pub fired_named : (names : List RuleName) (rs : List Rule) (n limit : ℕ) (m : Module) (called : Result Ended Refusal) (before after bytes : List ℕ) (labels : List (List ℕ)) → Some rs ≡ rules_named names → n ≡ limit → before ≡ [] → labels ≡ [] → OnOk called (after ≡ before ++ fired_below (Replied (canonical_reply called)) labels (trace_of (by_rules rs) n m))
-    → bytes ≡ bytes_if (is_accepted (Replied (canonical_reply called))) after → bytes ≡ fired_by (traced_rules (Some names)) limit m (Replied (canonical_reply called))
-fired_named names rs n limit m called before after bytes labels rules same none unnamed reported is =
-    reported_fired rs n limit m called before after bytes labels same none unnamed reported is ∙ ap (λ (o : Option (List Rule)). fired_by o limit m (Replied (canonical_reply called))) rules
 
 -- a session command is never refused at a byte of a text
 never_unparsed : (setting : SessionSetting) (o : SessionCommand) (m : Module) (refusal : Refusal) (offset : Option ℕ) → SessionCommandAsks setting o m (Unparsed refusal offset) → ⊥

@@ -1,18 +1,11 @@
 -- When a rewriting command is refused with 31: if the machine requires it, or if the context is full.
-use Rattle.std.proofs.Common.{◌≡◌, ◌∙◌, sym, ap, refl, ◌⊎◌, inl, inr, subst, ℕ, List, [], Some, None, Option, option_map, Result}
-use Rattle.std.specs.Prelude.{IfErr}
+use Rattle.std.proofs.Common.{◌≡◌, ◌∙◌, sym, ap, refl, ◌⊎◌, inl, inr, subst, ℕ, List, [], Some, None, option_map}
 use Rattle.ir_event.specs.types.declared.refusal.Refusal.{Refusal}
 use Rattle.ir_event.specs.types.declared.refusal.Refusal.TheVariants.{Full}
 use Rattle.mlir_work_transforms.specs.rewriter.Commands.{Command, Response, Replied, RuleName}
 use Rattle.mlir_work_transforms.specs.rewriter.Machine.{IsFullSo, Refused, Reply, State, Transformation}
 use Rattle.mlir_work_script.specs.SessionCommands.{SessionCommand}
-use Rattle.mlir_work_transforms.specs.greedy.Changes.{canonical_reply, canonicalizing, rewriting}
-use Rattle.mlir_work_transforms.specs.greedy.Outcomes.{IsReason}
-use Rattle.mlir_work_transforms.specs.greedy.PatternSet.{by_rules}
-use Rattle.mlir_work_transforms.specs.greedy.declared.outcome.Outcome.{Outcome as Ended}
-use Rattle.mlir_work_transforms.proofs.Changing.{canon_full}
 use Rattle.mlir_work_transforms.specs.Applying.{application, applying, rule_named}
-use Rattle.mlir_work_transforms.specs.Rewriting.{rewriting_named, rules_named}
 use Rattle.mlir_work_transforms.specs.Rule.{Rule}
 use Rattle.mlir_work_session.specs.declared.options.SessionOptions.{SessionOptions}
 use Rattle.mlir_work_session.specs.Machine.{AsksHeadroom, IsContextFull, RunsSessionCommand, RunsCommand, SessionCommandHeadroom, SessionSetting}
@@ -27,10 +20,6 @@ replied full s f response reply is so other e = subst (IsFullSo full s f) (same 
 pub widened : {A added full : Type 0} → (added → full) → A ⊎ added → A ⊎ full
 widened more (inl a) = inl a
 widened more (inr b) = inr (more b)
-
-pub canon_headroom : (s : State) (limit n : ℕ) (r : Result Ended Refusal) (response : Response) (added full : Type 0) → (added → full) → n ≡ limit → response ≡ Replied (canonical_reply r) → IfErr r (λ e. IsReason n s.held added e) → IsContextFull full s (canonicalizing limit) response
-canon_headroom s limit n r response added full more same is why =
-    replied full s (canonicalizing limit) response (canonical_reply r) is (λ e. widened more (subst (λ (k : ℕ). IsFullSo added s (canonicalizing k) (canonical_reply r)) same (canon_full n s r added why) e))
 
 -- a refusal with another number satisfies the room condition
 pub other_headroom : (full : Type 0) (s : State) (f : Transformation) (refusal : Refusal) → (refusal ≡ Full → ⊥) → IsContextFull full s f (Replied (Refused refusal))
@@ -52,30 +41,11 @@ rule_headroom s response name x r added full more {f} {reply} some is replies so
     same : Some (applying r x) ≡ Some f → applying r x ≡ f
     same i = cc
 
--- the transformation of a list of names is that of the rules
-pub rules_rewrite : (names : List RuleName) (rs : List Rule) (n limit : ℕ) → Some rs ≡ rules_named names → n ≡ limit → rewriting_named names limit ≡ Some (rewriting (by_rules rs) n)
-rules_rewrite names rs n limit rules same = sym (ap (option_map (λ (rs : List Rule). rewriting (by_rules rs) limit)) rules) ∙ ap (λ (k : ℕ). Some (rewriting (by_rules rs) k)) (sym same)
+-- an answer to a command is an answer to an equal command
+pub obeys_alike : (session_options : SessionOptions) (s t : State) (said spoken : Command) (r : Response) (bytes : List ℕ) → said ≡ spoken → RunsCommand session_options s spoken r bytes t → RunsCommand session_options s said r bytes t
+obeys_alike session_options s t said spoken r bytes a h = rw a h
 
-pub rules_headroom : (s : State) (names : List RuleName) (rs : List Rule) (n limit : ℕ) (f : Transformation) (response : Response) (reply : Reply) (added full : Type 0) → (added → full) → Some rs ≡ rules_named names → n ≡ limit → rewriting_named names limit ≡ Some f → response ≡ Replied reply → IsFullSo added s (rewriting (by_rules rs) n) reply → IsContextFull full s f response
-rules_headroom s names rs n limit f response reply added full more rules same is replies so =
-    subst (λ (g : Transformation). IsContextFull full s g response) (alike (sym (rules_rewrite names rs n limit rules same) ∙ is)) (replied full s (rewriting (by_rules rs) n) response reply replies (λ e. widened more (so e)))
-  where
-    alike : Some (rewriting (by_rules rs) n) ≡ Some f → rewriting (by_rules rs) n ≡ f
-    alike i = cc
-
--- a traced rewrite has the transformation of its rules
-pub traced_headroom : (s : State) (o : Option Transformation) (f g : Transformation) (response : Response) (reply : Reply) (added full : Type 0) → (added → full) → o ≡ Some g → o ≡ Some f → response ≡ Replied reply → IsFullSo added s g reply → IsContextFull full s f response
-traced_headroom s o f g response reply added full more there is replies so =
-    subst (λ (h : Transformation). IsContextFull full s h response) (alike (sym there ∙ is)) (replied full s g response reply replies (λ e. widened more (so e)))
-  where
-    alike : Some g ≡ Some f → g ≡ f
-    alike i = cc
-
--- a list with a name that isn't a rule's has no transformation
-pub untraced_headroom : {full : Type 0} (s : State) (o : Option Transformation) (f : Transformation) (response : Response) → o ≡ None → o ≡ Some f → IsContextFull full s f response
-untraced_headroom s o f response none is = absurd (let z : None ≡ Some f = sym none ∙ is in cc)
-
--- an answer to a command is an answer to an equal command with an equal reply
+-- the same with an equal reply
 pub obeys_plainly : (session_options : SessionOptions) (s t : State) (said spoken : Command) (r q : Response) (bytes : List ℕ) → said ≡ spoken → r ≡ q → bytes ≡ [] → RunsCommand session_options s spoken q [] t → RunsCommand session_options s said r bytes t
 obeys_plainly session_options s t said spoken r q bytes a b c h = rw a (rw b (rw c h))
 

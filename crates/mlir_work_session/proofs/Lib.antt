@@ -2,6 +2,7 @@ pub mod Placed
 pub mod Panels
 pub mod Reading
 pub mod Obeying
+pub mod Rewritten
 pub mod Fulfilling
 pub mod Owning
 pub mod About

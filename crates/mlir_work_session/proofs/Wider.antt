@@ -15,8 +15,8 @@ use Rattle.mlir_work_transforms.specs.registry.Replies.{is_accepted}
 use Rattle.mlir_work_transforms.specs.Unproved.{unproved_of}
 use Rattle.mlir_work_session.specs.Machine.{AsksIn, RunsSessionCommand, SessionCommandAsks, session_command_bytes, bytes_if}
 use Rattle.mlir_work_session.specs.RuleLists.{RunsListCommand, ListCommand, AnswersRuleListUnless, is_unproved, list_command_bytes, list_command_of, list_command_trace}
-use Rattle.mlir_work_session.specs.declared.trace_form.TraceForm.{TraceForm}
-use Rattle.mlir_work_session.specs.declared.trace_form.TraceForm.TheVariants.{Counts, EachRewrite, Off}
+use Rattle.mlir_work_transforms.specs.declared.trace_form.TraceForm.{TraceForm}
+use Rattle.mlir_work_transforms.specs.declared.trace_form.TraceForm.TheVariants.{Counts, EachRewrite, Off}
 use Rattle.mlir_work_session.specs.WhyPatterns.{RunsNamedCommand, asked_pattern}
 use Rattle.mlir_work_session.specs.Output.{Line, SessionSetting, Replied, Replies}
 use Rattle.mlir_work_session.specs.Sittings.{RunsPatternCommand, Sitting, registered_pattern_of}

@@ -1,5 +1,6 @@
 pub mod Texts
 pub mod Machine
+pub mod Rewrites
 pub mod RuleLists
 pub mod ListCommandViews
 pub mod WhyPatterns

@@ -4,8 +4,8 @@ use Rattle.std.specs.Prelude.{◌≡◌, ◌==◌, ◌&&◌, ◌⊎◌, is_some,
 use Rattle.ir_event.specs.types.declared.refusal.Refusal.{Refusal}
 use Rattle.ir_event.specs.types.declared.refusal.Refusal.TheVariants.{Memory, NotProved}
 use Rattle.ir_event.specs.Modules.{Module}
-use Rattle.mlir_work_transforms.specs.rewriter.Commands.{AppliesRule, Requested, Follows, Replied, Response, RuleName}
-use Rattle.mlir_work_transforms.specs.rewriter.Machine.{Nothing, Refused, State, Transformation}
+use Rattle.mlir_work_transforms.specs.rewriter.Commands.{Replied, Response, RuleName}
+use Rattle.mlir_work_transforms.specs.rewriter.Machine.{Refused, State, Transformation}
 use Rattle.mlir_work_script.specs.SessionCommands.{Fired, SessionCommand, Rewrite, Trace}
 use Rattle.mlir_work_transforms.specs.registry.Replies.{is_accepted}
 use Rattle.mlir_work_transforms.specs.registry.Registry.{RegistryModel}
@@ -13,9 +13,10 @@ use Rattle.mlir_work_transforms.specs.FiredText.{rule_list_fired}
 use Rattle.mlir_work_transforms.specs.RuleLists.{all_listed, rule_list_trace, rule_list_transformation, names_user_pattern}
 use Rattle.mlir_work_transforms.specs.Unproved.{unproved_of}
 use Rattle.mlir_work_session.specs.declared.options.SessionOptions.{SessionOptions}
-use Rattle.mlir_work_session.specs.declared.trace_form.TraceForm.{TraceForm}
-use Rattle.mlir_work_session.specs.declared.trace_form.TraceForm.TheVariants.{Counts, EachRewrite, Off}
+use Rattle.mlir_work_transforms.specs.declared.trace_form.TraceForm.{TraceForm}
+use Rattle.mlir_work_transforms.specs.declared.trace_form.TraceForm.TheVariants.{Counts, EachRewrite, Off}
 use Rattle.mlir_work_session.specs.Machine.{IsContextFull, RunsSessionCommand, SessionSetting, limit_or, bytes_if}
+use Rattle.mlir_work_session.specs.Rewrites.{Rewrites}
 
 -- a rule list that names a registered pattern, whether the command is refused if no check proves one of the patterns,
 -- its limit, and the form of its trace
@@ -54,12 +55,10 @@ abbrev pub list_command_bytes : SessionOptions → RegistryModel → ListCommand
 list_command_bytes session_options registry x m response =
     bytes_if (is_accepted response) (unproved_of registry x.names m.tree ++ list_command_trace x.trace session_options registry x m response)
 
--- from state `s` a rule list may get this response, with these bytes below the reply, and lead to state `t`
-pub record AnswersRuleList (session_options : SessionOptions) (registry : RegistryModel) (x : ListCommand) (s : State) (response : Response) (bytes : List ℕ) (t : State) : Type 0 where
-  pub requested : Requested
-  pub asks : AppliesRule (list_command_change session_options registry x) requested
-  pub follows : Follows s requested response Nothing t
-  pub text : bytes ≡ list_command_bytes session_options registry x s.held response
+-- a rewrite by a rule list
+abbrev pub AnswersRuleList : SessionOptions → RegistryModel → ListCommand → State → Response → List ℕ → State → Type 0
+AnswersRuleList session_options registry x s response bytes t =
+    Rewrites (list_command_change session_options registry x) (list_command_bytes session_options registry x s.held) s response bytes t
 
 -- whether a command that asks for proved patterns is refused: each name resolves, and a line names a pattern that no
 -- check proves for the module

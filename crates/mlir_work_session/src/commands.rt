@@ -6,11 +6,13 @@ ghost use Rattle.ir_text.specs.Public.{IsFull};
 ghost use Rattle.mlir_work_session.specs.Machine.{AsksHeadroom, RunsCommand, response_of};
 
 use crate::options::SessionOptions;
+use crate::rewriting::rewrite;
 use crate::shows::{ShownReply, reply_only, show_module, show_rows};
 use crate::{edits, marks, texts, transforming};
 use ir_event::analysis::Analysis;
 use mlir_work_script::command::Command;
 use mlir_work_transforms::rewriter::Bench;
+use mlir_work_transforms::trace_form::TraceForm;
 use std::alloc::Global;
 
 /// Runs a command and returns the reply with the bytes to show below it. A refused command doesn't change the module.
@@ -52,14 +54,19 @@ pub fn run_command<L: Analysis>(
             alloc,
             edits::drop_attr(alloc, bench, *op, key),
         ),
-        Command::Canon(limit) => {
+        Command::Canon(limit) => rewrite(
+            alloc,
+            session_options,
+            bench,
+            None,
+            *limit,
+            TraceForm::Off,
+        ),
+        Command::Convert { full, clauses } => {
             reply_only(
                 alloc,
-                transforming::canon(alloc, session_options, bench, *limit),
+                transforming::convert_plainly(alloc, bench, *full, clauses),
             )
-        }
-        Command::Convert { full, clauses } => {
-            reply_only(alloc, transforming::convert(alloc, bench, *full, clauses))
         }
         Command::Sweep => reply_only(alloc, transforming::sweep(alloc, bench)),
         Command::Apply { rule, op } => reply_only(

@@ -1,42 +1,31 @@
 //! Runs session commands on a rewriter with a pattern registry. A `rewrite`, with `trace`, `fired` or neither, whose
 //! rule list names a registered pattern rewrites by rules and patterns.
-ghost use Rattle.std.specs.Prelude.{◌≡◌, ◌==◌, ◌&&◌, ◌++◌, length, map, not, option_map};
+ghost use Rattle.std.specs.Prelude.{◌≡◌, ◌==◌, ◌&&◌, length, not, option_map};
 ghost use Rattle.ir_text.specs.Public.{IsFull};
 ghost use Rattle.mlir_work_script.specs.SessionCommands.{session_command_of};
-ghost use Rattle.mlir_work_transforms.specs.TraceText.{trace_text};
-ghost use Rattle.mlir_work_transforms.specs.greedy.Changes.{rewriting};
-ghost use Rattle.mlir_work_transforms.specs.greedy.Tracing.{trace_of};
-ghost use Rattle.mlir_work_transforms.specs.greedy.PatternSet.{MayUseAll, patterns_of, pattern_set_from};
 ghost use Rattle.mlir_work_transforms.specs.rewriter.RewriterCalls.{AgreesOrStale, state_of};
-ghost use Rattle.mlir_work_transforms.specs.rewriter.Commands.{Ask, Follows};
-ghost use Rattle.mlir_work_transforms.specs.rewriter.Machine.{Change, Nothing};
-ghost use Rattle.mlir_work_transforms.specs.registry.Replies.{is_accepted};
 ghost use Rattle.mlir_work_transforms.specs.registry.Registry.{registry_model};
-ghost use Rattle.mlir_work_session.specs.Machine.{IsContextFull, response_of, bytes_if, session_setting};
+ghost use Rattle.mlir_work_session.specs.Machine.{response_of, session_setting};
 ghost use Rattle.mlir_work_session.specs.RuleLists.{RunsListCommand, ListCommandHeadroom, AnswersRuleListUnless, is_unproved, list_command_of};
 ghost use Rattle.mlir_work_session.specs.ListCommandViews.{list_command_view};
 
-use crate::fired::rewrite_counting;
 use crate::options::SessionOptions;
 use crate::reply::Reply;
+use crate::rewriting::rewrite_by;
 use crate::session_commands::run_session_command;
 use crate::shows::{ShownReply, reply_only};
-use crate::trace_form::TraceForm;
-use crate::tracing::trace_reply;
 use crate::transforming::limit_of;
 use ir_event::analysis::Analysis;
 use ir_event::types::refusal::Refusal;
 use mlir_work_script::session_command::SessionCommand;
 use mlir_work_session_base::analysis_source::AnalysisSource;
-use mlir_work_transforms::greedy::bench::rewrite_with_patterns;
-use mlir_work_transforms::greedy::pattern_set::RuleOrPattern;
 use mlir_work_transforms::named_patterns::names_pattern;
 use mlir_work_transforms::registry::registry::PatternRegistry;
+use mlir_work_transforms::rewrite_lines::RewriteLines;
 use mlir_work_transforms::rewriter::Bench;
-use mlir_work_transforms::rewriter::laws::led_benches_are_kept;
+use mlir_work_transforms::rule_choice::RuleChoice;
 use mlir_work_transforms::rule_list::{RuleList, parse_rule_list};
-use mlir_work_transforms::trace::trace_rewrite_with_patterns;
-use mlir_work_transforms::trace_lines::TraceLines;
+use mlir_work_transforms::trace_form::TraceForm;
 use mlir_work_transforms::unproved::unproved_of;
 use std::alloc::Global;
 
@@ -97,50 +86,6 @@ fn list_rewrite<'a>(
     }
 }
 
-/// Rewrites by rules and patterns until none applies or the limit is reached. Shows `lines` below the reply.
-fn rewrite_plainly<L: Analysis>(
-    alloc: Global,
-    bench: &mut Bench<L>,
-    candidates: &[RuleOrPattern<'_>],
-    lines: TraceLines,
-    limit: u32,
-) -> ShownReply
-    requires kept { AgreesOrStale L.meaning bench.old }
-    requires may { MayUseAll (patterns_of candidates.now) }
-    ensures follows { Follows (state_of L.meaning bench.old) (Ask (Change (rewriting (pattern_set_from (patterns_of candidates.now)) limit))) (response_of result.reply) Nothing (state_of L.meaning bench.new) }
-    ensures shows { result.shows.items ≡ bytes_if (is_accepted (response_of result.reply)) lines.text.items }
-    ensures headroom { IsContextFull (IsFull bench.new.transaction.ctx) (state_of L.meaning bench.old) (rewriting (pattern_set_from (patterns_of candidates.now)) limit) (response_of result.reply) }
-    ensures kept { AgreesOrStale L.meaning bench.new }
-    ensures mode { bench.new.transaction.ctx.opaque ≡ bench.old.transaction.ctx.opaque }
-{
-    led_benches_are_kept::<L>();
-    let called = rewrite_with_patterns(alloc, bench, candidates, limit);
-    trace_reply(alloc, lines, called)
-}
-
-/// Rewrites by rules and patterns until none applies or the limit is reached. Traces each rewrite after the given
-/// lines.
-fn rewrite_and_trace<L: Analysis>(
-    alloc: Global,
-    bench: &mut Bench<L>,
-    candidates: &[RuleOrPattern<'_>],
-    lines: TraceLines,
-    limit: u32,
-) -> ShownReply
-    requires kept { AgreesOrStale L.meaning bench.old }
-    requires may { MayUseAll (patterns_of candidates.now) }
-    ensures follows { Follows (state_of L.meaning bench.old) (Ask (Change (rewriting (pattern_set_from (patterns_of candidates.now)) limit))) (response_of result.reply) Nothing (state_of L.meaning bench.new) }
-    ensures shows { result.shows.items ≡ bytes_if (is_accepted (response_of result.reply)) (lines.text.items ++ trace_text (map (λ n. n.items) lines.names.items) (trace_of (pattern_set_from (patterns_of candidates.now)) limit (state_of L.meaning bench.old).held)) }
-    ensures headroom { IsContextFull (IsFull bench.new.transaction.ctx) (state_of L.meaning bench.old) (rewriting (pattern_set_from (patterns_of candidates.now)) limit) (response_of result.reply) }
-    ensures kept { AgreesOrStale L.meaning bench.new }
-    ensures mode { bench.new.transaction.ctx.opaque ≡ bench.old.transaction.ctx.opaque }
-{
-    led_benches_are_kept::<L>();
-    let mut lines = lines;
-    let called = trace_rewrite_with_patterns(alloc, bench, candidates, limit, &mut lines);
-    trace_reply(alloc, lines, called)
-}
-
 /// Returns whether a command that asks for proved patterns is refused because of these lines.
 fn is_refused(proved: bool, lines: &[u8]) -> bool
     ensures { result ≡ (proved && not (length lines.now == 0)) }
@@ -179,13 +124,9 @@ fn rewrite_list_command<L: Analysis>(
         };
     }
     let RuleList { candidates, names } = rule_list;
-    let lines = TraceLines { text, names };
     let limit = limit_of(session_options, list_command.limit);
-    match list_command.trace {
-        TraceForm::Off => rewrite_plainly(alloc, bench, &candidates, lines, limit),
-        TraceForm::EachRewrite => rewrite_and_trace(alloc, bench, &candidates, lines, limit),
-        TraceForm::Counts => rewrite_counting(alloc, bench, &candidates, lines, limit),
-    }
+    let lines = RewriteLines::new(alloc, list_command.trace, limit, text, names);
+    rewrite_by(alloc, bench, &RuleChoice::WithPatterns(&candidates), lines)
 }
 
 /// Runs a session command; `registry` has the user patterns. A refused command doesn't change the module.

@@ -10,9 +10,11 @@ ghost use Rattle.mlir_work_session_base.specs.IdsText.{ids_text};
 
 use crate::options::SessionOptions;
 use crate::reply::Reply;
+use crate::rewriting::rewrite;
 use crate::shows::{ShownReply, reply_only};
 use crate::subjects::show_about;
-use crate::{fired, showing, tracing, transforming, why};
+use crate::transforming::trace_conversion;
+use crate::{showing, why};
 use ir_event::analysis::Analysis;
 use ir_event::types::refusal::Refusal;
 use ir_event::world::World;
@@ -21,6 +23,7 @@ use mlir_work_script_base::kind::Kind;
 use mlir_work_session_base::analysis_source::AnalysisSource;
 use mlir_work_session_base::ids::text_with_ids;
 use mlir_work_transforms::rewriter::Bench;
+use mlir_work_transforms::trace_form::TraceForm;
 use std::alloc::Global;
 
 /// Returns the reply to attaching a listener.
@@ -92,27 +95,31 @@ pub fn run_session_command<L: AnalysisSource>(
         ),
         SessionCommand::PrintIds => show_ids(alloc, bench),
         SessionCommand::ReportAbout { kind, subject } => show_about(alloc, bench, *kind, subject),
-        SessionCommand::Rewrite { rules, limit, .. } => {
-            reply_only(
-                alloc,
-                transforming::rewrite(alloc, session_options, bench, rules, *limit),
-            )
-        }
-        SessionCommand::Trace { rules, limit, .. } => tracing::trace(
+        SessionCommand::Rewrite { rules, limit, .. } => rewrite(
+            alloc,
+            session_options,
+            bench,
+            Some(*rules),
+            *limit,
+            TraceForm::Off,
+        ),
+        SessionCommand::Trace { rules, limit, .. } => rewrite(
             alloc,
             session_options,
             bench,
             *rules,
             *limit,
+            TraceForm::EachRewrite,
         ),
-        SessionCommand::Fired { rules, limit, .. } => fired::fired(
+        SessionCommand::Fired { rules, limit, .. } => rewrite(
             alloc,
             session_options,
             bench,
             *rules,
             *limit,
+            TraceForm::Counts,
         ),
-        SessionCommand::TraceConvert { full, clauses } => tracing::convert(
+        SessionCommand::TraceConvert { full, clauses } => trace_conversion(
             alloc, bench, *full, clauses,
         ),
         SessionCommand::CanonAt { op, limit } => {

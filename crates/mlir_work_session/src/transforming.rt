@@ -1,34 +1,31 @@
 //! Commands that transform the module.
-ghost use Rattle.std.specs.Prelude.{◌≡◌, [], ℕ, Bool, Option, Some};
-ghost use Rattle.mlir_work_transforms.specs.rewriter.Commands.{Apply, Canon, Convert, Sweep};
+ghost use Rattle.std.specs.Prelude.{◌≡◌, [], Some};
+ghost use Rattle.mlir_work_transforms.specs.rewriter.Commands.{Apply, Convert, Sweep};
 ghost use Rattle.mlir_work_transforms.specs.rewriter.Machine.{Transformation};
-ghost use Rattle.mlir_work_transforms.specs.rewriter.Panels.{Shown};
-ghost use Rattle.mlir_work_script.specs.SessionCommands.{Rewrite};
+ghost use Rattle.mlir_work_script.specs.SessionCommands.{TraceConvert};
 ghost use Rattle.mlir_work_script_base.specs.RuleNames.{name_of};
-ghost use Rattle.mlir_work_transforms.specs.registry.RuleLists.{names_of};
 ghost use Rattle.mlir_work_transforms.specs.Applying.{application};
 ghost use Rattle.mlir_work_transforms.specs.rewriter.RewriterCalls.{AgreesOrStale, state_of};
 ghost use Rattle.mlir_work_script_base.specs.Clauses.{clauses_of, target_of};
 ghost use Rattle.ir_text.specs.Public.{IsFull};
-ghost use Rattle.mlir_work_transforms.specs.greedy.Changes.{canonicalizing};
 ghost use Rattle.mlir_work_transforms.specs.Converting.{conversion};
-ghost use Rattle.mlir_work_transforms.specs.Rewriting.{rewriting_named};
-ghost use Rattle.mlir_work_session.specs.Machine.{RunsSessionCommand, IsContextFull, RunsCommand, limit_or, response_of, session_setting};
+ghost use Rattle.mlir_work_session.specs.Machine.{RunsSessionCommand, IsContextFull, RunsCommand, SessionSetting, limit_or, response_of};
 ghost use Rattle.mlir_work_session.specs.Output.{SessionOptions as Setting};
 
 use crate::options::SessionOptions;
 use crate::reply::Reply;
-use crate::replying::{reply_applied, reply_canonical, reply_converted, reply_swept};
+use crate::replying::{reply_applied, reply_converted, reply_swept};
+use crate::shows::ShownReply;
 use ir_event::analysis::Analysis;
 use ir_event::types::ids::OpId;
 use ir_event::types::refusal::Refusal;
 use mlir_work_script_base::clauses::Clauses;
 use mlir_work_script_base::rule_name::RuleName;
-use mlir_work_transforms::greedy::bench::{canonicalize, rewrite as rewrite_by};
-use mlir_work_transforms::rewrite::rules_in;
+use mlir_work_transforms::convert::{convert, convert_traced};
 use mlir_work_transforms::rewriter::Bench;
 use mlir_work_transforms::rewriter::laws::led_benches_are_kept;
-use mlir_work_transforms::{apply, convert, sweep};
+use mlir_work_transforms::tracer::NoTracer;
+use mlir_work_transforms::{apply, sweep};
 use std::alloc::Global;
 
 /// Returns the rewrite limit of a command: its own, or the session's default.
@@ -39,23 +36,6 @@ pub(crate) fn limit_of(session_options: &SessionOptions, limit: Option<u32>) -> 
         Some(limit) => limit,
         None => session_options.limit,
     }
-}
-
-/// Rewrites by the canonicalization rules until none applies or the limit is reached.
-pub(crate) fn canon<L: Analysis>(
-    alloc: Global,
-    session_options: &SessionOptions,
-    bench: &mut Bench<L>,
-    limit: Option<u32>,
-) -> Reply
-    requires { AgreesOrStale L.meaning bench.old }
-    ensures obeys { RunsCommand session_options.now (state_of L.meaning bench.old) (Canon limit) (response_of result) [] (state_of L.meaning bench.new) }
-    ensures headroom { IsContextFull (IsFull bench.new.transaction.ctx) (state_of L.meaning bench.old) (canonicalizing (limit_or session_options.now.limit limit)) (response_of result) }
-    ensures kept { AgreesOrStale L.meaning bench.new }
-    ensures mode { bench.new.transaction.ctx.opaque ≡ bench.old.transaction.ctx.opaque }
-{
-    led_benches_are_kept::<L>();
-    reply_canonical(canonicalize(alloc, bench, limit_of(session_options, limit)))
 }
 
 /// Erases the private symbols that nothing reaches.
@@ -70,7 +50,7 @@ pub(crate) fn sweep<L: Analysis>(alloc: Global, bench: &mut Bench<L>) -> Reply
 }
 
 /// Converts the module to the target of the clauses and reconciles type casts.
-pub(crate) fn convert<L: Analysis>(
+pub(crate) fn convert_plainly<L: Analysis>(
     alloc: Global,
     bench: &mut Bench<L>,
     full: bool,
@@ -83,7 +63,7 @@ pub(crate) fn convert<L: Analysis>(
     ensures mode { bench.new.transaction.ctx.opaque ≡ bench.old.transaction.ctx.opaque }
 {
     led_benches_are_kept::<L>();
-    reply_converted(convert::convert(alloc, bench, full, clauses))
+    reply_converted(convert(alloc, bench, full, clauses, &mut NoTracer))
 }
 
 /// Applies the named rule at an operation. Refused with `NoSuchKey` if no rule has the name.
@@ -106,26 +86,23 @@ pub(crate) fn apply_named_rule<L: Analysis>(
     reply_applied(apply::apply_rule(alloc, bench, rule, op))
 }
 
-/// Rewrites by the named rules until none applies or the limit is reached. Refused with `NoSuchKey` if a name isn't a
-/// rule's.
-pub(crate) fn rewrite<L: Analysis>(
+/// Converts the module as `convert_plainly` does, and traces each applied rule, or shows why an operation stays illegal.
+pub(crate) fn trace_conversion<L: Analysis>(
     alloc: Global,
-    session_options: &SessionOptions,
     bench: &mut Bench<L>,
-    rules: &[u8],
-    limit: Option<u32>,
-) -> Reply
+    full: bool,
+    clauses: &Clauses<'_>,
+) -> ShownReply
     requires { AgreesOrStale L.meaning bench.old }
-    ensures fulfils { (supply : Bool → ℕ → Option Shown) (proved : Bool) → RunsSessionCommand (session_setting supply session_options.now) (state_of L.meaning bench.old) (Rewrite (names_of rules.now) proved limit) (response_of result) [] (state_of L.meaning bench.new) }
-    ensures headroom { (f : Transformation) → rewriting_named (names_of rules.now) (limit_or session_options.now.limit limit) ≡ Some f → IsContextFull (IsFull bench.new.transaction.ctx) (state_of L.meaning bench.old) f (response_of result) }
+    ensures fulfils { (setting : SessionSetting) → RunsSessionCommand setting (state_of L.meaning bench.old) (TraceConvert (target_of full (clauses_of clauses.now))) (response_of result.reply) result.shows.items (state_of L.meaning bench.new) }
+    ensures headroom { IsContextFull (IsFull bench.new.transaction.ctx) (state_of L.meaning bench.old) (conversion (target_of full (clauses_of clauses.now))) (response_of result.reply) }
     ensures kept { AgreesOrStale L.meaning bench.new }
     ensures mode { bench.new.transaction.ctx.opaque ≡ bench.old.transaction.ctx.opaque }
 {
     led_benches_are_kept::<L>();
-    let rules = match rules_in(alloc, rules) {
-        Ok(Some(rules)) => rules,
-        Ok(None) => return Reply::Refused(Refusal::NoSuchKey),
-        Err(refusal) => return Reply::Refused(refusal),
-    };
-    reply_canonical(rewrite_by(alloc, bench, &rules, limit_of(session_options, limit)))
+    let traced = convert_traced(alloc, bench, full, clauses);
+    ShownReply {
+        reply: reply_converted(traced.called),
+        shows: traced.lines,
+    }
 }

@@ -9,7 +9,7 @@ use Rattle.ir_event.specs.Listener.{Listener}
 use Rattle.ir_event.specs.Modules.{Module}
 use Rattle.conversion.specs.rewriter.RewriterCalls.{Benched, Does, state_of}
 use Rattle.conversion.specs.rewriter.Held.{module_held, open_marks}
-use Rattle.conversion.specs.rewriter.Machine.{Answer, Change, IsAnswer, IsFullSo, Nothing, Outcome, Refused, Reply, State, due, due_change, Fault as Because}
+use Rattle.conversion.specs.rewriter.Machine.{Change, IsAnswer, IsFullSo, Nothing, Outcome, Refused, Reply, State, due, due_change, Fault as Because}
 use Rattle.conversion.specs.rewriter.Panels.{AllAge}
 use Rattle.conversion.specs.patterns.Applied.{RewriteOutcome, IsReason, IsRefusedSo}
 use Rattle.conversion.specs.patterns.runs.Interning.{IsFull}

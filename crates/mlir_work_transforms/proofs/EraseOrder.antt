@@ -1,11 +1,11 @@
 -- Why a sweep is refused: each operation to erase still exists and isn't the root.
-use Rattle.std.proofs.Common.{◌≡◌, refl, ap, sym, ◌∙◌, subst, inl, inr, true≢false, ℕ, eqb, eq-eqb, eqb-true, not, List, [], ◌∷◌, ◌++◌, append_assoc, reverse, filter, Bool, true, false, cond, ◌||◌, ◌⊎◌, Option, Some, None, Result, Ok, Err}
+use Rattle.std.proofs.Common.{◌≡◌, refl, ap, sym, ◌∙◌, subst, inl, inr, true≢false, ℕ, eqb, eqb-true, not, List, [], ◌∷◌, ◌++◌, append_assoc, reverse, filter, Bool, true, false, cond, ◌||◌, ◌⊎◌, Option, Some, None, Result, Ok, Err}
 use Rattle.std.specs.List.{list_any, IsDistinct}
 use mathlib.Core.List.{reverse-cons}
 use Rattle.ir_event.specs.types.Terms.{name_term, type_term, attr_term}
 use Rattle.ir_event.specs.types.declared.refusal.Refusal.{Refusal}
 use Rattle.ir_event.specs.types.declared.refusal.Refusal.TheVariants.{NoSuchOp, IsRoot, HasUses, Memory}
-use Rattle.ir_event.specs.trees.Tree.{HeadOf, OpOf, op, head, regions}
+use Rattle.ir_event.specs.trees.Tree.{HeadOf, head, regions}
 use Rattle.ir_event.specs.trees.Ids.{ids, regions_ids, HasDistinctIds, find, has_id}
 use Rattle.ir_event.specs.trees.Meaning.{Operation}
 use Rattle.ir_event.proofs.of_trees.Mapped.{map_ids}

@@ -1,5 +1,5 @@
 -- Proofs about the counts of rules and patterns that fired.
-use Rattle.std.proofs.Common.{◌≡◌, ◌∙◌, refl, ap, sym, ℕ, zero, suc, ◌+◌, ◌<◌, ◌≤◌, List, [], ◌∷◌, ◌++◌, append-nil, append_assoc, arith, Result, Ok, Err}
+use Rattle.std.proofs.Common.{◌≡◌, ◌∙◌, refl, ap, sym, ℕ, zero, suc, ◌+◌, ◌<◌, ◌≤◌, List, [], ◌∷◌, ◌++◌, append-nil, append_assoc, subst, arith, Result, Ok, Err}
 use Rattle.std.specs.Prelude.{OnOk, drop, length, take}
 use Rattle.std.proofs.lemmas.List.{drop_all, take_all, take_at}
 use Rattle.ir_event.specs.types.declared.refusal.Refusal.{Refusal}
@@ -10,8 +10,13 @@ use Rattle.greedy.specs.declared.applied_rewrite.AppliedRewrite.{AppliedRewrite}
 use Rattle.greedy.specs.declared.outcome.Outcome.{Outcome}
 use Rattle.greedy.specs.declared.outcome.Outcome.TheVariants.{Converged, Limit}
 use Rattle.mlir_work_transforms.specs.FiredText.{FirstMatching, applied_by, fired_after, fired_below, fired_line, fired_of, fired_text, first_of}
-use Rattle.mlir_work_transforms.specs.FiredLaws.{FiredTaken, IsCurrent, IsFresh, ended_text, names_of}
-use Rattle.mlir_work_transforms.specs.declared.fired_lines.FiredLines.{FiredLines}
+use Rattle.mlir_work_transforms.specs.FiredLaws.{FiredTaken, IsCurrent, IsFresh, names_of}
+use Rattle.mlir_work_transforms.specs.LineLaws.{LinesTaken, Taken, ended_text}
+use Rattle.mlir_work_transforms.specs.TraceText.{applied_line}
+use Rattle.mlir_work_transforms.specs.Transforming.{lines_below}
+use Rattle.mlir_work_transforms.specs.declared.rewrite_lines.RewriteLines.{RewriteLines}
+use Rattle.mlir_work_transforms.specs.declared.trace_form.TraceForm.{TraceForm}
+use Rattle.mlir_work_transforms.specs.declared.trace_form.TraceForm.TheVariants.{Counts, EachRewrite, Off}
 
 -- ---- the loop over a list
 
@@ -56,7 +61,7 @@ firings_end names bs i text whole l so_far =
 -- ---- the tracer
 
 -- a recorded rewrite before the last one that the limit allows
-pub fired_before_limit : (a b : FiredLines) (f : AppliedRewrite) → b.applied.items ≡ a.applied.items ++ f.by ∷ [] → names_of b ≡ names_of a → b.limit ≡ a.limit → b.shown ≡ a.shown → b.text.items ≡ a.text.items → (length b.applied.items ≡ b.limit → ⊥) → FiredTaken (f ∷ []) a b
+pub fired_before_limit : (a b : RewriteLines) (f : AppliedRewrite) → b.applied.items ≡ a.applied.items ++ f.by ∷ [] → names_of b ≡ names_of a → b.limit ≡ a.limit → b.shown ≡ a.shown → b.text.items ≡ a.text.items → (length b.applied.items ≡ b.limit → ⊥) → FiredTaken (f ∷ []) a b
 fired_before_limit a b f applied names limit shown text before = record {
   applied = applied;
   names = names;
@@ -69,7 +74,7 @@ fired_before_limit a b f applied names limit shown text before = record {
 }
 
 -- the last rewrite that the limit allows: the counts are written after the lines of others
-pub fired_at_limit : (a b : FiredLines) (f : AppliedRewrite) (cut : List ℕ) → b.applied.items ≡ a.applied.items ++ f.by ∷ [] → names_of b ≡ names_of a → b.limit ≡ a.limit → b.shown ≡ a.shown → cut ≡ take a.shown a.text.items
+pub fired_at_limit : (a b : RewriteLines) (f : AppliedRewrite) (cut : List ℕ) → b.applied.items ≡ a.applied.items ++ f.by ∷ [] → names_of b ≡ names_of a → b.limit ≡ a.limit → b.shown ≡ a.shown → cut ≡ take a.shown a.text.items
     → b.text.items ≡ cut ++ fired_text (names_of b) (fired_of b.applied.items) → FiredTaken (f ∷ []) a b
 fired_at_limit a b f cut applied names limit shown cuts text = record {
   applied = applied;
@@ -87,20 +92,20 @@ fired_at_limit a b f cut applied names limit shown cuts text = record {
 }
 
 -- a tracer without counts is current: a limit of no rewrites leaves no counts
-fresh_current : (limit : ℕ) (t : FiredLines) → IsFresh limit t → IsCurrent t.text.items t
-fresh_current limit t fresh = record {
+fresh_current : (t : RewriteLines) → IsFresh t → IsCurrent t.text.items t
+fresh_current t fresh = record {
   shown = fresh.shown;
   begins = ap (λ (n : ℕ). take n t.text.items) fresh.shown ∙ take_all (length t.text.items) t.text.items (omega arith);
   text = λ last. sym (ap (λ (bs : List AppliedPattern). t.text.items ++ fired_text (names_of t) (fired_of bs)) fresh.applied ∙ append-nil t.text.items);
 }
 
--- the text after a run from a tracer without counts
-pub fired_reported : (limit : ℕ) (called : Result Outcome Refusal) (fs : List AppliedRewrite) (a b : FiredLines) (text : List ℕ) → IsFresh limit a → ((k : ℕ) → called ≡ Ok (Limit k) → length fs ≡ limit) → OnOk called (FiredTaken fs a b) → text ≡ ended_text called b.shown b.text.items
+-- the text after a counting run from a tracer without counts
+fired_reported : (called : Result Outcome Refusal) (fs : List AppliedRewrite) (a b : RewriteLines) (text : List ℕ) → IsFresh a → ((k : ℕ) → called ≡ Ok (Limit k) → length fs ≡ a.limit) → OnOk called (FiredTaken fs a b) → text ≡ ended_text Counts called b.shown b.text.items
     → OnOk called (text ≡ a.text.items ++ fired_below (Replied (canonical_reply called)) (names_of a) fs)
-fired_reported limit (Ok (Limit k)) fs a b text fresh whole taken is =
-    let now = taken.current a.text.items (fresh_current limit a fresh) in
+fired_reported (Ok (Limit k)) fs a b text fresh whole taken is =
+    let now = taken.current a.text.items (fresh_current a fresh) in
     let recorded : b.applied.items ≡ applied_by fs = taken.applied ∙ ap (λ (bs : List AppliedPattern). bs ++ applied_by fs) fresh.applied in
-    let last : length b.applied.items ≡ b.limit = ap length recorded ∙ applied_length fs ∙ whole k refl ∙ sym (taken.limit ∙ fresh.limit) in
+    let last : length b.applied.items ≡ b.limit = ap length recorded ∙ applied_length fs ∙ whole k refl ∙ sym taken.limit in
     is ∙ now.text last
     ∙ ap (λ (ns : List (List ℕ)). a.text.items ++ fired_text ns (fired_of b.applied.items)) taken.names
     ∙ ap (λ (bs : List AppliedPattern). a.text.items ++ fired_text (names_of a) (fired_of bs)) recorded
@@ -108,6 +113,37 @@ fired_reported limit (Ok (Limit k)) fs a b text fresh whole taken is =
     applied_length : (fs : List AppliedRewrite) → length (applied_by fs) ≡ length fs
     applied_length [] = refl
     applied_length (f ∷ fs) = ap suc (applied_length fs)
-fired_reported limit (Ok (Converged k)) fs a b text fresh whole taken is =
-    is ∙ (taken.current a.text.items (fresh_current limit a fresh)).begins ∙ sym (append-nil a.text.items)
-fired_reported limit (Err e) fs a b text fresh whole taken is = taken
+fired_reported (Ok (Converged k)) fs a b text fresh whole taken is =
+    is ∙ (taken.current a.text.items (fresh_current a fresh)).begins ∙ sym (append-nil a.text.items)
+fired_reported (Err e) fs a b text fresh whole taken is = taken
+
+-- ---- all forms
+
+-- a recorded rewrite, by the form
+pub taken_off : (fs : List AppliedRewrite) (a b : RewriteLines) → a.form ≡ Off → b.form ≡ a.form → b.text.items ≡ a.text.items → Taken fs a b
+taken_off fs a b is form text = record { form = form; lines = subst (λ (f : TraceForm). LinesTaken f fs a b) (sym is) text }
+
+pub taken_each : {A E : Type 0} (r : Result A E) (f : AppliedRewrite) (a b : RewriteLines) → a.form ≡ EachRewrite → b.form ≡ a.form → names_of b ≡ names_of a → OnOk r (b.text.items ≡ a.text.items ++ applied_line (names_of a) f) → OnOk r (Taken (f ∷ []) a b)
+taken_each (Ok x) f a b is form names text = record {
+  form = form;
+  lines = subst (λ (form : TraceForm). LinesTaken form (f ∷ []) a b) (sym is) (text ∙ ap (λ (l : List ℕ). a.text.items ++ l) (sym (append-nil (applied_line (names_of a) f))), names);
+}
+taken_each (Err e) f a b is form names text = text
+
+pub taken_counts : {A E : Type 0} (r : Result A E) (fs : List AppliedRewrite) (a b : RewriteLines) → a.form ≡ Counts → b.form ≡ a.form → OnOk r (FiredTaken fs a b) → OnOk r (Taken fs a b)
+taken_counts (Ok x) fs a b is form taken = record { form = form; lines = subst (λ (f : TraceForm). LinesTaken f fs a b) (sym is) taken }
+taken_counts (Err e) fs a b is form taken = taken
+
+-- the text after a run from a tracer without counts
+pub lines_reported : (called : Result Outcome Refusal) (fs : List AppliedRewrite) (a b : RewriteLines) (text : List ℕ) → IsFresh a → ((k : ℕ) → called ≡ Ok (Limit k) → length fs ≡ a.limit) → OnOk called (Taken fs a b) → text ≡ ended_text b.form called b.shown b.text.items
+    → OnOk called (text ≡ a.text.items ++ lines_below a.form (Replied (canonical_reply called)) (names_of a) fs)
+lines_reported (Err e) fs a b text fresh whole taken is = taken
+lines_reported (Ok o) fs a b text fresh whole taken is = go a.form refl taken.lines
+  where
+    by_form : (form : TraceForm) → a.form ≡ form → text ≡ ended_text form (Ok o) b.shown b.text.items
+    by_form form e = is ∙ ap (λ (f : TraceForm). ended_text f (Ok o) b.shown b.text.items) (taken.form ∙ e)
+
+    go : (form : TraceForm) → a.form ≡ form → LinesTaken form fs a b → text ≡ a.text.items ++ lines_below form (Replied (canonical_reply (Ok o))) (names_of a) fs
+    go Off e h = by_form Off e ∙ h ∙ sym (append-nil a.text.items)
+    go EachRewrite e h = by_form EachRewrite e ∙ h.0
+    go Counts e h = fired_reported (Ok o) fs a b text fresh whole h (by_form Counts e)

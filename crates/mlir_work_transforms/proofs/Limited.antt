@@ -5,14 +5,18 @@ use Rattle.ir_event.specs.types.declared.refusal.Refusal.{Refusal}
 use Rattle.ir_event.specs.types.declared.refusal.Refusal.TheVariants.{BadLimit, Full, Memory}
 use Rattle.ir_event.specs.Modules.{Module}
 use Rattle.conversion.specs.rewriter.Machine as machine
-use Rattle.conversion.specs.rewriter.Machine.{Answer, Change, DoneWith, Goes, Nothing, Refused, Reply, State, Transformation, due_change}
+use Rattle.conversion.specs.rewriter.Machine.{Answer, Change, DoneWith, Goes, Nothing, Refused, State, due_change}
 use Rattle.conversion.specs.patterns.Canonicalization.{Canonical, End, canonicalization_of, converged, ended, go_on, greedy_rules, limited, most_rewrites, aborted}
 use Rattle.conversion.specs.patterns.Rewrites.{Rewrite, none, refused, becomes}
 use Rattle.greedy.specs.Changes.{canonical_reply, canonicalizing, made_of, rewriting}
 use Rattle.greedy.specs.Rewriting.{IsOfItsRules, next_by, rewriting_of, rewritten_from}
-use Rattle.greedy.specs.PatternSet.{PatternSetModel, by_rules}
+use Rattle.greedy.specs.PatternSet.{PatternSetModel, by_rules, patterns_of, pattern_set_from}
 use Rattle.greedy.specs.Tracing.{TraceIsCounted, trace_of}
 use Rattle.greedy.specs.Applications.{IsApplied}
+use Rattle.greedy.proofs.Applications.{entries_lawful, rules_fire}
+use Rattle.mlir_work_transforms.specs.Transforming.{MayTransform, set_of, transformation_of}
+use Rattle.mlir_work_transforms.specs.declared.rule_choice.RuleChoice.{RuleChoice}
+use Rattle.mlir_work_transforms.specs.declared.rule_choice.RuleChoice.TheVariants as choice
 use Rattle.greedy.specs.declared.outcome.Outcome.{Outcome}
 use Rattle.greedy.specs.declared.outcome.Outcome.TheVariants.{Limit}
 
@@ -78,13 +82,19 @@ goes_limited made s t k goes = elim goes.answer [
     not_full e = absurd cc
 
 -- the trace of a rewriting that stopped by its limit
-pub rewriting_length : (a : PatternSetModel) → IsApplied a → TraceIsCounted → (limit : ℕ) (s t : State) (called : Result Outcome Refusal) → Goes s (Change (rewriting a limit)) (canonical_reply called) Nothing t → (k : ℕ) → called ≡ Ok (Limit k) → length (trace_of a limit s.held) ≡ limit
+rewriting_length : (a : PatternSetModel) → IsApplied a → TraceIsCounted → (limit : ℕ) (s t : State) (called : Result Outcome Refusal) → Goes s (Change (rewriting a limit)) (canonical_reply called) Nothing t → (k : ℕ) → called ≡ Ok (Limit k) → length (trace_of a limit s.held) ≡ limit
 rewriting_length a applied counted limit s t called goes k is =
     let run = goes_limited (rewriting_of a limit) s t k (subst (λ (c : Result Outcome Refusal). Goes s (Change (rewriting a limit)) (canonical_reply c) Nothing t) is goes) in
     limited_length a applied counted limit s.held run.0 k run.1
 
 -- the same for a canonicalization
-pub canonicalization_length : IsApplied (by_rules greedy_rules) → TraceIsCounted → IsOfItsRules → (limit : ℕ) (s t : State) (called : Result Outcome Refusal) → Goes s (Change (canonicalizing limit)) (canonical_reply called) Nothing t → (k : ℕ) → called ≡ Ok (Limit k) → length (trace_of (by_rules greedy_rules) limit s.held) ≡ limit
+canonicalization_length : IsApplied (by_rules greedy_rules) → TraceIsCounted → IsOfItsRules → (limit : ℕ) (s t : State) (called : Result Outcome Refusal) → Goes s (Change (canonicalizing limit)) (canonical_reply called) Nothing t → (k : ℕ) → called ≡ Ok (Limit k) → length (trace_of (by_rules greedy_rules) limit s.held) ≡ limit
 canonicalization_length applied counted rules limit s t called goes k is =
     let run = goes_limited (canonicalization_of limit) s t k (subst (λ (c : Result Outcome Refusal). Goes s (Change (canonicalizing limit)) (canonical_reply c) Nothing t) is goes) in
     limited_length (by_rules greedy_rules) applied counted limit s.held run.0 k (rules limit s.held ∙ run.1)
+
+-- the same for a choice of rules
+pub chosen_length : (r : RuleChoice) → MayTransform r → TraceIsCounted → IsOfItsRules → (limit : ℕ) (s t : State) (called : Result Outcome Refusal) → Goes s (Change (transformation_of r limit)) (canonical_reply called) Nothing t → (k : ℕ) → called ≡ Ok (Limit k) → length (trace_of (set_of r) limit s.held) ≡ limit
+chosen_length choice.Canonical may counted rules = canonicalization_length (rules_fire greedy_rules) counted rules
+chosen_length (choice.Listed rs) may counted rules = rewriting_length (by_rules rs.now) (rules_fire rs.now) counted
+chosen_length (choice.WithPatterns list) may counted rules = rewriting_length (pattern_set_from (patterns_of list.now)) (entries_lawful (patterns_of list.now) may).applied counted

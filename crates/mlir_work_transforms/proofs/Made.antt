@@ -1,5 +1,5 @@
 -- The ids of the operations that a rewrite created, one by one.
-use Rattle.std.proofs.Common.{◌≡◌, ◌∙◌, sym, ap, ◌≤◌, ◌<◌, ◌+◌, ◌-◌, ℕ, suc, List, [], ◌++◌, append-nil, append_assoc, Bool, false, arith}
+use Rattle.std.proofs.Common.{◌≡◌, ◌∙◌, sym, ap, ◌≤◌, ◌<◌, ◌+◌, ◌-◌, ℕ, suc, List, ◌++◌, append-nil, append_assoc, Bool, false, arith}
 use Rattle.mlir_work_script_base.specs.Values.{op_text}
 use Rattle.mlir_work_transforms.specs.TraceText.{lead, made_from}
 

@@ -1,10 +1,9 @@
 -- Rules by their numbers, one by one.
-use Rattle.std.proofs.Common.{◌≡◌, refl, ap, sym, ◌∙◌, ℕ, ◌≤◌, ◌<◌, ◌-◌, List, [], ◌∷◌, ◌++◌, append-nil, append_assoc, length, take, drop, get_or, Option, Some, None, option_map, arith}
+use Rattle.std.proofs.Common.{◌≡◌, refl, ap, sym, ◌∙◌, ℕ, List, [], ◌∷◌, ◌++◌, append-nil, append_assoc, Option, Some, None, option_map}
 use Rattle.std.specs.Prelude.{option_and_then}
 use Rattle.conversion.specs.Converting.{rules_of}
 use Rattle.conversion.specs.Rule.{Rule}
 use Rattle.conversion.specs.RuleNames.{by_number}
-use Rattle.ir_event.proofs.of_types.Truths.{rest_at}
 
 -- the rules found so far, followed by those of the remaining numbers
 abbrev pub joined : List Rule → Option (List Rule) → Option (List Rule)
@@ -22,22 +21,15 @@ one_joined done r None = refl
 one_joined done r (Some rs) = ap Some (sym (append_assoc done (r ∷ []) rs))
 
 -- the first number is a rule's
-pub rules_more : (all xs : List ℕ) (n d : ℕ) (r : Rule) (done more : List Rule) → 1 ≤ length xs → n ≡ get_or xs 0 d → joined done (rules_of xs) ≡ rules_of all → Some r ≡ by_number n → more ≡ done ++ r ∷ []
-    → joined more (rules_of (take (length xs - 1) (drop 1 xs))) ≡ rules_of all
-rules_more all xs n d r done more l z h is e =
-    let rest = take (length xs - 1) (drop 1 xs) in
-    ap (λ rs. joined rs (rules_of rest)) e ∙ sym (one_joined done r (rules_of rest))
-    ∙ ap (λ o. joined done (option_and_then (λ r. option_map (λ rs. r ∷ rs) (rules_of rest)) o)) is
-    ∙ sym (ap (λ ys. joined done (rules_of ys)) (rest_at xs n d l z)) ∙ h
+pub rules_more : (all : Option (List Rule)) (n : ℕ) (left : List ℕ) (r : Rule) (done more : List Rule) → joined done (rules_of (n ∷ left)) ≡ all → Some r ≡ by_number n → more ≡ done ++ r ∷ [] → joined more (rules_of left) ≡ all
+rules_more all n left r done more h is e =
+    ap (λ rs. joined rs (rules_of left)) e ∙ sym (one_joined done r (rules_of left))
+    ∙ ap (λ o. joined done (option_and_then (λ r. option_map (λ rs. r ∷ rs) (rules_of left)) o)) is ∙ h
 
 -- the first number isn't a rule's
-pub rules_stop : (all xs : List ℕ) (n d : ℕ) (done : List Rule) → 1 ≤ length xs → n ≡ get_or xs 0 d → joined done (rules_of xs) ≡ rules_of all → None ≡ by_number n → None ≡ rules_of all
-rules_stop all xs n d done l z h is =
-    let rest = take (length xs - 1) (drop 1 xs) in
-    ap (λ o. joined done (option_and_then (λ r. option_map (λ rs. r ∷ rs) (rules_of rest)) o)) is
-    ∙ sym (ap (λ ys. joined done (rules_of ys)) (rest_at xs n d l z)) ∙ h
+pub rules_stop : (all : Option (List Rule)) (n : ℕ) (left : List ℕ) (done : List Rule) → joined done (rules_of (n ∷ left)) ≡ all → None ≡ by_number n → None ≡ all
+rules_stop all n left done h is = ap (λ o. joined done (option_and_then (λ r. option_map (λ rs. r ∷ rs) (rules_of left)) o)) is ∙ h
 
 -- no number is left
-pub rules_done : (all xs : List ℕ) (done : List Rule) → length xs < 1 → joined done (rules_of xs) ≡ rules_of all → Some done ≡ rules_of all
-rules_done all [] done l h = ap Some (sym (append-nil done)) ∙ h
-rules_done all (x ∷ xs) done l h = absurd (omega (arith, l))
+pub rules_done : (all : Option (List Rule)) (done : List Rule) → joined done (rules_of []) ≡ all → Some done ≡ all
+rules_done all done h = ap Some (sym (append-nil done)) ∙ h

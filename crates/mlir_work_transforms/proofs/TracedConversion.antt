@@ -1,5 +1,5 @@
 -- A traced conversion and the lines that show it.
-use Rattle.std.proofs.Common.{◌≡◌, refl, ap, sym, ◌∙◌, ◌⊎◌, subst, inl, inr, ℕ, ◌-◌, ◌<◌, ◌≤◌, List, [], ◌∷◌, ◌++◌, append-nil, append_assoc, length, take, drop, get_or, map, Result, Ok, Err, Option, Some, None, arith}
+use Rattle.std.proofs.Common.{◌≡◌, refl, ap, sym, ◌∙◌, ◌⊎◌, subst, inl, inr, ℕ, ◌-◌, ◌<◌, ◌≤◌, List, [], ◌∷◌, ◌++◌, append-nil, append_assoc, length, take, drop, get_or, Result, Ok, Err, Option, Some, None, arith}
 use Rattle.std.specs.Prelude.{IfErr, MatchResult, OnOk}
 use Rattle.ir_event.specs.types.declared.refusal.Refusal.{Refusal}
 use Rattle.ir_event.specs.types.declared.refusal.Refusal.TheVariants.{Memory}
@@ -8,9 +8,7 @@ use Rattle.ir_event.specs.Modules.{Module}
 use Rattle.conversion.proofs.of_rewriter.Together.{Ages}
 use Rattle.conversion.specs.rewriter.RewriterCalls.{Benched, Does, Led, state_of}
 use Rattle.conversion.specs.rewriter.Held.{module_held, open_marks}
-use Rattle.conversion.specs.rewriter.Machine.{Answer, Change, IsAnswer, Nothing, Reply, due_change, fault_reply}
-use Rattle.conversion.specs.rewriter.Moves.{Recorded}
-use Rattle.conversion.specs.Runs.{Noted}
+use Rattle.conversion.specs.rewriter.Machine.{Answer, Change, IsAnswer, Nothing, due_change, fault_reply}
 use Rattle.conversion.proofs.Replied.{converts_goes}
 use Rattle.conversion.proofs.Stops.{fault_is_for}
 use Rattle.conversion.specs.Benches.{seen}

@@ -4,7 +4,6 @@ use Rattle.ir_event.specs.types.declared.refusal.Refusal.TheVariants.{Memory}
 use Rattle.ir_event.specs.Modules.{Module}
 use Rattle.conversion.specs.reasons.Conditions.{word_of as condition_word}
 use Rattle.conversion.specs.Converting.{conversion_to, match_failure_to, applied_rules}
-use Rattle.conversion.specs.Rule.{Rule}
 use Rattle.conversion.specs.Targets.{Aim}
 use Rattle.conversion.specs.rewriter.Machine.{Reply, DoneWith, RefusedOn}
 use Rattle.conversion.specs.declared.fault.Fault.{Fault}

@@ -7,6 +7,8 @@ pub mod ConvertText
 pub mod TraceLaws
 pub mod FiredText
 pub mod FiredLaws
+pub mod LineLaws
+pub mod Transforming
 pub mod Sweep
 pub mod WhyText
 pub mod WhyPattern

@@ -1,6 +1,6 @@
 -- Sweeping erases the private symbols that nothing reaches, in reverse pre-order (Symbols and Symbol Tables, "Symbol
 -- Visibility").
-use Rattle.std.specs.Prelude.{ℕ, List, [], ◌∷◌, length, reverse, Bool, false, Option, Some, None, Result, Ok, Err}
+use Rattle.std.specs.Prelude.{ℕ, List, [], ◌∷◌, length, reverse, false, Option, Some, None, Result, Ok, Err}
 use Rattle.ir_event.specs.types.declared.refusal.Refusal.{Refusal}
 use Rattle.ir_event.specs.Modules.{Module}
 use Rattle.listeners.specs.Unreached.{unreached_of}

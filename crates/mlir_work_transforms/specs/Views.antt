@@ -11,9 +11,6 @@ use Rattle.mlir_work_transforms.specs.declared.unproved.Noted.{Noted as NotedCod
 abbrev pub listed_view : Coded → Listed
 listed_view l = record { rule_or_pattern = rule_or_pattern_of l.candidate; name = l.name.now }
 
-abbrev pub listed_views : List Coded → List Listed
-listed_views ls = map listed_view ls
-
 -- the rules and patterns of a list, and their names
 pub record IsRuleListOf (m : RuleList) (ls : List Listed) : Type 0 where
   pub rules_and_patterns : patterns_of m.candidates.items ≡ rules_and_patterns_in ls

@@ -21,7 +21,7 @@ use conversion::fault::Fault;
 use conversion::match_failure::MatchFailure;
 use conversion::rewriter::Bench;
 use conversion::rewriter::laws::led_benches_are_kept;
-use conversion::tracer::{NoTracer, Tracer};
+use conversion::tracer::Tracer;
 use ir_event::analysis::Analysis;
 use ir_event::types::ids::OpId;
 use ir_event::types::refusal::Refusal;
@@ -34,7 +34,7 @@ use std::alloc::{AllocError, Global};
 ///
 /// Errors: those of `conversion::convert::convert_traced`; before them `Full` or `Memory` if there is no room for a
 /// listed name.
-fn convert_and_trace<L: Analysis, T: Tracer>(
+pub fn convert<L: Analysis, T: Tracer>(
     alloc: Global,
     bench: &mut Bench<L>,
     full: bool,
@@ -73,31 +73,6 @@ fn convert_and_trace<L: Analysis, T: Tracer>(
         });
     };
     conversion::convert::convert_traced(alloc, bench, &target, tracer)
-}
-
-/// Converts the module to the target of the clauses. First interns the names of the clauses' lists. Returns the
-/// number of applied rules. Atomic: a refused call changes nothing.
-///
-/// Errors: those of `conversion::convert::convert`; before them `Full` or `Memory` if there is no room for a listed
-/// name.
-pub fn convert<L: Analysis>(
-    alloc: Global,
-    bench: &mut Bench<L>,
-    full: bool,
-    clauses: &Clauses<'_>,
-) -> Result<u32, Fault>
-    ensures does { Does L.meaning (Change (conversion (said_target full (clauses_of clauses.now))))
-        (conversion_reply result) bench.old bench.new }
-    ensures converts { Converts
-        (conversion_to (command_aim (said_target full (clauses_of clauses.now))) (module_held bench.old.transaction)) result
-        (seen bench.old) (seen bench.new) }
-    ensures none { OnOk result (has_no_cast (module_held bench.new.transaction).tree ≡ true) }
-    ensures grows { IsExtendedBy bench.old.transaction.ctx bench.new.transaction.ctx }
-    ensures led { Led L.meaning bench.old bench.new }
-    ensures journal { MatchResult result (λ _. Noted bench.old.transaction bench.new.transaction)
-        (λ _. Recorded [] bench.old.transaction bench.new.transaction) }
-{
-    convert_and_trace(alloc, bench, full, clauses, &mut NoTracer)
 }
 
 /// The result of a traced conversion, with the lines to show below the reply.
@@ -192,7 +167,7 @@ pub fn convert_traced<L: Analysis>(
 {
     led_benches_are_kept::<L>();
     let mut lines = ConvertLines::new(alloc);
-    let called = convert_and_trace(alloc, bench, full, clauses, &mut lines);
+    let called = convert(alloc, bench, full, clauses, &mut lines);
     let ConvertLines { text, failure } = lines;
     traced_conversion(alloc, text, failure, called)
 }

@@ -1,39 +1,16 @@
-//! The lines that count which rules and patterns fired.
-ghost use Rattle.std.specs.Prelude.{◌≡◌, ◌++◌, ◌∷◌, [], OnOk, map};
-ghost use Rattle.std.specs.Fmt.{decimal};
+//! The lines that count which rules and patterns fired: `fired 4 drop-zero 37`. A line shows a user pattern by its name:
+//! `names` has the name of each rule and pattern of the list, at the same index.
+ghost use Rattle.std.specs.Prelude.{◌≡◌, ◌++◌, [], OnOk, map};
 ghost use Rattle.greedy.specs.declared.applied_rewrite.AppliedPattern.TheVariants as by;
-ghost use Rattle.mlir_work_transforms.specs.FiredLaws.{FiredTaken, IsFresh, ended_text};
 ghost use Rattle.mlir_work_transforms.specs.FiredText.{fired_after, fired_line, fired_of, fired_text, first_of, is_in, is_same, last_hundred, times_in};
 
-use crate::trace_lines::write_pattern;
-use greedy::applied_rewrite::{AppliedPattern, AppliedRewrite};
-use greedy::outcome::Outcome;
+use crate::trace_lines::{write_number, write_pattern};
+use greedy::applied_rewrite::AppliedPattern;
 use greedy::patterns::rule::Rule;
-use greedy::tracer::Tracer;
-use ir_event::types::refusal::Refusal;
-use mlir_work_script_base::cells;
-use std::alloc::{AllocError, Global};
+use std::alloc::AllocError;
 
 /// How many of the last rewrites are counted.
 const MOST_COUNTED: usize = 100;
-
-/// The tracer that counts the rules and patterns of the last hundred rewrites: `fired 4 drop-zero 37`. A line shows a
-/// user pattern by its name: `names` has the name of each rule and pattern of the list, at the same index.
-///
-/// Each rewrite adds 16 bytes to `applied`. The lines are written with the last rewrite that the limit allows. So the
-/// end of a run needs no memory, and a run without memory for the lines is refused as a whole.
-#[derive(Drop)]
-pub struct FiredLines {
-    /// The lines of others, and then the lines of this tracer.
-    pub text: Vec<u8>,
-    /// The length of the lines of others.
-    pub shown: usize,
-    pub names: Vec<Vec<u8>>,
-    /// What each rewrite applied, in order.
-    pub applied: Vec<AppliedPattern>,
-    /// The limit of the run.
-    pub limit: u32,
-}
 
 /// Returns whether `applied` is this rule.
 fn is_rule(rule: Rule, applied: &AppliedPattern) -> bool
@@ -94,13 +71,6 @@ fn times_in(one: &AppliedPattern, list: &[AppliedPattern]) -> usize
     count
 }
 
-/// Appends a count.
-fn write_count(text: &mut Vec<u8>, count: usize) -> Result<(), AllocError>
-    ensures { OnOk result (text.new.items ≡ text.old.items ++ decimal count) }
-{
-    cells::write_number(text, count as u64).map_err(|_| AllocError)
-}
-
 /// Appends the line of a rule or pattern that fired so many times.
 fn write_firing(
     text: &mut Vec<u8>,
@@ -114,7 +84,7 @@ fn write_firing(
     text.extend_from_slice(b"fired ")?;
     write_pattern(text, names, applied)?;
     text.extend_from_slice(b" ")?;
-    write_count(text, times)?;
+    write_number(text, times as u64)?;
     text.extend_from_slice(b"\n")
 }
 
@@ -164,7 +134,7 @@ fn last_hundred(list: &[AppliedPattern]) -> &[AppliedPattern]
 }
 
 /// Appends a line for each rule and pattern of the last hundred entries of a list.
-fn write_last(
+pub(crate) fn write_last(
     text: &mut Vec<u8>,
     names: &[Vec<u8>],
     list: &[AppliedPattern],
@@ -172,78 +142,4 @@ fn write_last(
     ensures { OnOk result (text.new.items ≡ text.old.items ++ fired_text (map (λ n. n.items) names.now) (fired_of list.now)) }
 {
     write_firings(text, names, last_hundred(list))
-}
-
-impl FiredLines {
-    /// Returns a tracer without counts for a run with this limit, with the lines above the counts and the names of the
-    /// rules and patterns of the list.
-    pub fn new(alloc: Global, limit: u32, text: Vec<u8>, names: Vec<Vec<u8>>) -> FiredLines
-        ensures text { result.text ≡ text }
-        ensures names { result.names ≡ names }
-        ensures fresh { IsFresh limit result }
-    {
-        FiredLines {
-            shown: text.len(),
-            text,
-            names,
-            applied: Vec::new(alloc),
-            limit,
-        }
-    }
-
-    /// Returns a tracer without counts and lines above them for a run with this limit, for rules only.
-    pub fn of_rules(alloc: Global, limit: u32) -> FiredLines
-        ensures text { result.text.items ≡ [] }
-        ensures names { result.names.items ≡ [] }
-        ensures fresh { IsFresh limit result }
-    {
-        FiredLines {
-            text: Vec::new(alloc),
-            shown: 0,
-            names: Vec::new(alloc),
-            applied: Vec::new(alloc),
-            limit,
-        }
-    }
-
-    /// Records a rewrite, and writes the lines if it is the last one that the limit allows.
-    fn record(&mut self, applied: &AppliedRewrite) -> Result<(), AllocError>
-        ensures { OnOk result (FiredTaken (applied.now ∷ []) self.old self.new) }
-    {
-        self.applied.push(applied.by)?;
-        if self.applied.len() != self.limit as usize {
-            return Ok(());
-        }
-        self.text.truncate(self.shown);
-        write_last(&mut self.text, &self.names, &self.applied)?;
-        Ok(())
-    }
-
-    /// Removes the counts at the end of a run, unless the run stopped by its limit.
-    pub(crate) fn end(&mut self, called: &Result<Outcome, Refusal>)
-        ensures { self.new.text.items ≡ ended_text called.now self.old.shown self.old.text.items }
-    {
-        match called {
-            Ok(Outcome::Limit(_)) => {}
-            Ok(Outcome::Converged(_)) => self.text.truncate(self.shown),
-            Err(_) => {}
-        }
-    }
-}
-
-impl Tracer for FiredLines {
-    ghost use Rattle.mlir_work_transforms.specs.FiredLaws.{FiredTaken, joined_fired, untouched_fired};
-
-    ghost traced = { FiredTaken };
-
-    ghost untouched = { untouched_fired };
-
-    ghost joined = { joined_fired };
-
-    fn record_rewrite(&mut self, applied: AppliedRewrite) -> Result<(), Refusal> {
-        match self.record(&applied) {
-            Ok(()) => Ok(()),
-            Err(_) => Err(Refusal::Memory),
-        }
-    }
 }

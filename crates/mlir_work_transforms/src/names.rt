@@ -1,14 +1,12 @@
-//! The lists of a command: names, which are interned, and numbers.
+//! The lists of names of a command. The names are interned.
 ghost use Rattle.std.specs.Prelude.{◌≡◌, ◌∷◌, [], ◌++◌, List, ℕ, Result as Named, Err, IfOk, IfErr, OnOk};
 ghost use Rattle.std.specs.Option.{option_copied};
 ghost use Rattle.ir_event.specs.types.Reasons.{IsRefusedFor, name_reason};
 ghost use Rattle.ir_event.specs.types.Things.{ContextModel};
 ghost use Rattle.ir_event.specs.types.declared.refusal.Refusal.{Refusal as Reason};
-ghost use Rattle.ir_event.specs.types.declared.refusal.Refusal.TheVariants.{Memory as NoMemory};
-ghost use Rattle.mlir_work_script_base.specs.Items.{items_after, number_or_zero};
-ghost use Rattle.mlir_work_script_base.specs.Numbers.{number_of};
+ghost use Rattle.mlir_work_script_base.specs.Items.{items_after};
 ghost use Rattle.conversion.specs.States.{IsOutOfCapacity};
-ghost use Rattle.mlir_work_transforms.specs.Interned.{AreNumbers, Interned, numbers_after};
+ghost use Rattle.mlir_work_transforms.specs.Interned.{AreNumbers, Interned};
 
 use conversion::names::Names;
 use conversion::rewriter::Bench;
@@ -16,7 +14,6 @@ use ir_event::analysis::Analysis;
 use ir_event::types::ids::NameId;
 use ir_event::types::refusal::Refusal;
 use mlir_work_script_base::items::split_item;
-use mlir_work_script_base::numbers::parse_number;
 use std::alloc::Global;
 
 /// Returns the refusal of a conversion if a name can't be interned: `Full` if the context is full, or `Memory`.
@@ -81,35 +78,6 @@ pub(crate) fn names_in<L: Analysis>(
     'items: while let Some(items) = rest {
         let (item, trailing) = split_item(items);
         match intern_onto(bench, &mut numbers, item) {
-            Ok(()) => {}
-            Err(refusal) => return Err(refusal),
-        }
-        rest = trailing;
-    }
-    Ok(numbers)
-}
-
-/// Parses an item of a list as a number and appends it. Appends 0 if the item isn't a number.
-fn number_onto(numbers: &mut Vec<u32>, item: &[u8]) -> Result<(), Refusal>
-    ensures number { OnOk result (numbers.new.items ≡ numbers.old.items ++ number_or_zero (number_of item.now) ∷ []) }
-    ensures want { IfErr result (λ refusal. refusal ≡ NoMemory) }
-{
-    match numbers.push(parse_number(item).unwrap_or(0)) {
-        Ok(()) => Ok(()),
-        Err(_) => Err(Refusal::Memory),
-    }
-}
-
-/// Returns the numbers of a list. An absent list has none.
-pub(crate) fn numbers_in(alloc: Global, list: Option<&[u8]>) -> Result<Vec<u32>, Refusal>
-    ensures numbers { IfOk result (λ v. v.items ≡ numbers_after (option_copied list.entry)) }
-    ensures want { IfErr result (λ refusal. refusal ≡ NoMemory) }
-{
-    let mut numbers = Vec::new(alloc);
-    let mut rest = list;
-    'items: while let Some(items) = rest {
-        let (item, trailing) = split_item(items);
-        match number_onto(&mut numbers, item) {
             Ok(()) => {}
             Err(refusal) => return Err(refusal),
         }

@@ -6,8 +6,8 @@ ghost use Rattle.conversion.specs.States.{IsOutOfCapacity};
 ghost use Rattle.conversion.specs.Targets.{IsNamedIn, target_model};
 ghost use Rattle.mlir_work_transforms.specs.Interned.{Interned};
 
-use crate::names::{names_in, numbers_in};
-use crate::rules::rules_of;
+use crate::names::names_in;
+use crate::rules::rules_in;
 use conversion::rewriter::Bench;
 use conversion::target::Target;
 use ir_event::analysis::Analysis;
@@ -45,16 +45,10 @@ pub(crate) fn target_of<L: Analysis>(
         Ok(dynamic) => dynamic,
         Err(refusal) => return Err(refusal),
     };
-    let numbers = match numbers_in(alloc, clauses.rules) {
-        Ok(numbers) => numbers,
+    let rules = match rules_in(alloc, clauses.rules) {
+        Ok(Some(rules)) => rules,
+        Ok(None) => return Ok(None),
         Err(refusal) => return Err(refusal),
-    };
-    let rules = match rules_of(alloc, &numbers) {
-        Ok(rules) => rules,
-        Err(refusal) => return Err(refusal),
-    };
-    let Some(rules) = rules else {
-        return Ok(None);
     };
     Ok(Some(Target {
         full,

@@ -1,24 +1,15 @@
-//! The lines that trace rewrites.
-ghost use Rattle.std.specs.Prelude.{◌≡◌, ◌++◌, ◌-◌, [], OnOk, codes, map, true};
+//! The lines that trace rewrites: `rewrote 4 drop-zero #7 erased #7`. A line shows a user pattern by its name: `names`
+//! has the name of each rule and pattern of the list, at the same index.
+ghost use Rattle.std.specs.Prelude.{◌≡◌, ◌++◌, ◌-◌, OnOk, codes, map, true};
 ghost use Rattle.std.specs.Fmt.{decimal};
 ghost use Rattle.mlir_work_script_base.specs.Values.{op_text};
 ghost use Rattle.mlir_work_transforms.specs.TraceText.{by_text, applied_line, gone_text, lead, made_from, rule_text};
 
 use greedy::applied_rewrite::{AppliedPattern, AppliedRewrite};
 use greedy::patterns::rule::Rule;
-use greedy::tracer::Tracer;
 use ir_event::types::ids::OpId;
-use ir_event::types::refusal::Refusal;
 use mlir_work_script_base::cells;
-use std::alloc::{AllocError, Global};
-
-/// The tracer of rewrites: collects a line for each, such as `rewrote 4 drop-zero #7 erased #7`. A line shows a user
-/// pattern by its name: `names` has the name of each rule and pattern of the list, at the same index.
-#[derive(Drop)]
-pub struct TraceLines {
-    pub text: Vec<u8>,
-    pub names: Vec<Vec<u8>>,
-}
+use std::alloc::AllocError;
 
 /// Appends a number.
 pub(crate) fn write_number(text: &mut Vec<u8>, number: u64) -> Result<(), AllocError>
@@ -130,46 +121,4 @@ pub(crate) fn write_applied_rewrite(
     write_made(text, applied.from, applied.until)?;
     write_gone(text, applied.stays, applied.op)?;
     text.extend_from_slice(b"\n")
-}
-
-impl TraceLines {
-    /// Returns a tracer without lines, for rules only.
-    pub fn new(alloc: Global) -> TraceLines
-        ensures text { result.text.items ≡ [] }
-        ensures names { result.names.items ≡ [] }
-    {
-        TraceLines {
-            text: Vec::new(alloc),
-            names: Vec::new(alloc),
-        }
-    }
-
-    /// Returns a tracer without lines, with the names of the rules and patterns of the list.
-    pub fn naming(alloc: Global, names: Vec<Vec<u8>>) -> TraceLines
-        ensures text { result.text.items ≡ [] }
-        ensures names { result.names ≡ names }
-    {
-        TraceLines {
-            text: Vec::new(alloc),
-            names,
-        }
-    }
-}
-
-impl Tracer for TraceLines {
-    ghost use Rattle.std.specs.Prelude.{map};
-    ghost use Rattle.mlir_work_transforms.specs.TraceLaws.{TakenDown, joined_lines, untouched_lines};
-
-    ghost traced = { λ fs a b. TakenDown fs a.text.items (map (λ n. n.items) a.names.items) b.text.items (map (λ n. n.items) b.names.items) };
-
-    ghost untouched = { λ t. untouched_lines t.text.items (map (λ n. n.items) t.names.items) };
-
-    ghost joined = { λ fs gs a b d f g. joined_lines fs gs a.text.items b.text.items d.text.items (map (λ n. n.items) a.names.items) (map (λ n. n.items) b.names.items) (map (λ n. n.items) d.names.items) f g };
-
-    fn record_rewrite(&mut self, applied: AppliedRewrite) -> Result<(), Refusal> {
-        match write_applied_rewrite(&mut self.text, &self.names, &applied) {
-            Ok(()) => Ok(()),
-            Err(_) => Err(Refusal::Memory),
-        }
-    }
 }

@@ -8,7 +8,7 @@ ghost use Rattle.user_patterns_data.specs.Shapes.{pattern_model};
 ghost use Rattle.greedy.specs.own.Numbers.{numbers_in};
 ghost use Rattle.mlir_work_registry.specs.Registry.{kept_view};
 ghost use Rattle.mlir_work_script_base.specs.Values.{value_text};
-ghost use Rattle.mlir_work_transforms.specs.WhyPattern.{subject_text, computed_at, condition_text, counts_text, definition_text, expected_predicate, expected_text, matched_value, mismatch_text, numbers_text, numbers_view, op_name, op_operands_text, operand_pair_text, operands_at, operands_text, path, pattern_op_at, predicates_text, types_text, unexpected_text, value_or_nothing, why_pattern};
+ghost use Rattle.mlir_work_transforms.specs.WhyPattern.{subject_text, computed_at, condition_text, counts_text, definition_text, expected_predicate, expected_text, matched_value, mismatch_text, numbers_text, numbers_view, op_name, op_operands_text, operand_pair_text, operands_at, operands_text, path, pattern_op_at, predicates_text, unexpected_text, value_or_nothing, why_pattern};
 
 use crate::pattern_sites::{
     Match, computed_at, matched_value, op_at, operand_count, operand_of, operand_place,
@@ -218,32 +218,7 @@ fn write_operand_mismatch(
     }
 }
 
-/// Appends that the value at a place has another type.
-fn write_type_mismatch(text: &mut Vec<u8>, at: &Match<'_>, place: u128) -> Result<(), AllocError>
-    ensures { OnOk result (text.new.items ≡ text.old.items ++ (path (pattern_model at.now.pattern.now) place
-        ++ types_text (pattern_model at.now.pattern.now) (module_in at.now.world.now) at.now.op place)) }
-{
-    write_path(text, at.pattern, place)?;
-    write_types(text, at, place)
-}
-
-fn write_numbers(
-    text: &mut Vec<u8>,
-    alloc: Global,
-    at: &Match<'_>,
-    numbers: &[Option<Bits>],
-    place: u128,
-) -> Result<(), AllocError>
-    ensures { OnOk result (text.new.items ≡ text.old.items
-        ++ numbers_text (pattern_model at.now.pattern.now) (module_in at.now.world.now) at.now.op (numbers_view numbers.now) place) }
-{
-    text.extend_from_slice(b"expected ")?;
-    write_number_at(text, numbers, place)?;
-    text.extend_from_slice(b" found ")?;
-    write_found(text, alloc, at.world, &matched_value(at, place))
-}
-
-/// Appends the path to a value, and what `write_numbers` appends.
+/// Appends the path to a value, the number that the pattern expects there, and what is found.
 fn write_placed_numbers(
     text: &mut Vec<u8>,
     alloc: Global,
@@ -255,7 +230,10 @@ fn write_placed_numbers(
         ++ numbers_text (pattern_model at.now.pattern.now) (module_in at.now.world.now) at.now.op (numbers_view numbers.now) place)) }
 {
     write_path(text, at.pattern, place)?;
-    write_numbers(text, alloc, at, numbers, place)
+    text.extend_from_slice(b"expected ")?;
+    write_number_at(text, numbers, place)?;
+    text.extend_from_slice(b" found ")?;
+    write_found(text, alloc, at.world, &matched_value(at, place))
 }
 
 /// Appends that the value at a place isn't the number that the pattern expects.
@@ -327,7 +305,7 @@ fn write_mismatch(
         }
         Some(Mismatch::NotVerified(place)) => write_unexpected(text, at, place, b"verified"),
         Some(Mismatch::Unknown(place)) => write_unexpected(text, at, place as u128, b"verified"),
-        Some(Mismatch::Type(place)) => write_type_mismatch(text, at, place),
+        Some(Mismatch::Type(place)) => write_types(text, at, place),
         Some(Mismatch::NotNumeric) => text.extend_from_slice(b"expected integer or index"),
         Some(Mismatch::Types) => text.extend_from_slice(b"other-type"),
         Some(Mismatch::Number(place)) => write_number_mismatch(text, alloc, at, place),

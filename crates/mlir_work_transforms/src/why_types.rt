@@ -4,9 +4,9 @@ ghost use Rattle.ir_event.specs.Modules.{module_in};
 ghost use Rattle.user_patterns_data.specs.Planning.{old_place};
 ghost use Rattle.user_patterns_data.specs.Shapes.{pattern_model};
 ghost use Rattle.greedy.specs.own.Numbers.{kind_at};
-ghost use Rattle.mlir_work_transforms.specs.WhyPattern.{expected_type_text, first_place, first_with, index_with, kind_or_another, type_number, type_text, types_text};
+ghost use Rattle.mlir_work_transforms.specs.WhyPattern.{expected_type_text, first_place, first_with, index_with, kind_or_another, path, type_number, type_text, types_text};
 
-use crate::pattern_sites::{Match, index_in, item_at, matched_value, op_at};
+use crate::pattern_sites::{Match, index_in, item_at, matched_value, op_at, write_path};
 use crate::trace_lines::write_number;
 use greedy::own::match_ops::old_begins;
 use greedy::own::types::kind_of;
@@ -118,11 +118,12 @@ fn write_expected_type(text: &mut Vec<u8>, at: &Match<'_>, place: u128) -> Resul
     }
 }
 
-/// Appends the type that the pattern expects at a place, and the type of the value there.
+/// Appends the path to a value, the type that the pattern expects there, and the type of the value.
 pub(crate) fn write_types(text: &mut Vec<u8>, at: &Match<'_>, place: u128) -> Result<(), AllocError>
-    ensures { OnOk result (text.new.items ≡ text.old.items
-        ++ types_text (pattern_model at.now.pattern.now) (module_in at.now.world.now) at.now.op place) }
+    ensures { OnOk result (text.new.items ≡ text.old.items ++ (path (pattern_model at.now.pattern.now) place
+        ++ types_text (pattern_model at.now.pattern.now) (module_in at.now.world.now) at.now.op place)) }
 {
+    write_path(text, at.pattern, place)?;
     text.extend_from_slice(b"expected ")?;
     write_expected_type(text, at, place)?;
     text.extend_from_slice(b" found ")?;
