@@ -40,7 +40,6 @@ use std::alloc::{AllocError, Global};
 use std::marker::Model;
 
 /// A module under edits: its operations are in slots, linked in lists.
-#[derive(Drop)]
 pub struct Store {
     pub(crate) alloc: Global,
     pub(crate) slots: Slots,
@@ -60,6 +59,25 @@ pub struct Store {
     ghost represented: { Represented slots sibs.lists root } by { Represented-prop slots sibs.lists root },
     ghost holds: { HoldsOf slots (finmap.get keys) } by { HoldsOf-prop slots (finmap.get keys) },
     ghost lacks: { GoneOf slots (finmap.get keys) } by { GoneOf-prop slots (finmap.get keys) },
+}
+
+impl Drop for Store {
+    /// Frees the store. It is written out, so that the crates above call one function.
+    fn drop(self) {
+        let Store {
+            alloc: _,
+            slots: _,
+            keys: _,
+            sibs: _,
+            uses: _,
+            cells: _,
+            marks: _,
+            spare: _,
+            root: _,
+            next: _,
+            count: _,
+        } = self;
+    }
 }
 
 impl Model for Store {

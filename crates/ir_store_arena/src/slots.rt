@@ -22,10 +22,19 @@ use std::alloc::{AllocError, Global};
 use std::marker::Model;
 
 /// Slots: operations of the module, held operations, heads of blocks, and free slots.
-#[derive(Drop)]
 pub struct Slots {
     slots: Vec<Slot>,
     registry: OpArena,
+}
+
+impl Drop for Slots {
+    /// Frees the slots. It is written out, so that the crates above call one function.
+    fn drop(self) {
+        let Slots {
+            slots: _,
+            registry: _,
+        } = self;
+    }
 }
 
 impl Model for Slots {

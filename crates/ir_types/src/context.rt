@@ -24,7 +24,6 @@ use std::alloc::Global;
 use std::marker::Model;
 
 /// Names, types and attributes, each with an id.
-#[derive(Drop)]
 pub struct Context {
     alloc: Global,
     keyed: Keyed,
@@ -34,6 +33,21 @@ pub struct Context {
     opaque: bool,
     /// The numbers of recent names, each at the index that `recent_index` returns for it.
     recent: [u32; 16],
+}
+
+impl Drop for Context {
+    /// Frees the context. It is written out, so that the crates above call one function.
+    fn drop(self) {
+        let Context {
+            alloc: _,
+            keyed: _,
+            names: _,
+            types: _,
+            attrs: _,
+            opaque: _,
+            recent: _,
+        } = self;
+    }
 }
 
 /// Returns the index of a name among the recent names. Names of one text often differ in their last two bytes.

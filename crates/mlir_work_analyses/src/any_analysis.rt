@@ -20,7 +20,6 @@ use mlir_work_session_base::analysis_source::AnalysisSource;
 use std::alloc::{AllocError, Global};
 
 /// One of the seven analyses.
-#[derive(Drop)]
 pub enum AnyAnalysis {
     Uses(Uses),
     Symbols(Symbols),
@@ -29,6 +28,21 @@ pub enum AnyAnalysis {
     Dead(Dead),
     Constants(Constants),
     Unreached(Unreached),
+}
+
+impl Drop for AnyAnalysis {
+    /// Frees the analysis. It is written out, so that the crates above call one function.
+    fn drop(self) {
+        match self {
+            AnyAnalysis::Uses(listener) => drop(listener),
+            AnyAnalysis::Symbols(listener) => drop(listener),
+            AnyAnalysis::Diagnostics(listener) => drop(listener),
+            AnyAnalysis::Effects(listener) => drop(listener),
+            AnyAnalysis::Dead(listener) => drop(listener),
+            AnyAnalysis::Constants(listener) => drop(listener),
+            AnyAnalysis::Unreached(listener) => drop(listener),
+        }
+    }
 }
 
 impl Analysis for AnyAnalysis {

@@ -17,11 +17,21 @@ use std::alloc::Global;
 use std::marker::Model;
 
 /// The IR state, the events since the oldest open mark, and the open marks, the newest last.
-#[derive(Drop)]
 pub struct Transaction {
     pub(crate) world: World,
     pub(crate) journal: Vec<Event>,
     pub(crate) marks: Vec<JournalMark>,
+}
+
+impl Drop for Transaction {
+    /// Frees the transaction. It is written out, so that the crates above call one function.
+    fn drop(self) {
+        let Transaction {
+            world: _,
+            journal: _,
+            marks: _,
+        } = self;
+    }
 }
 
 impl Model for Transaction {

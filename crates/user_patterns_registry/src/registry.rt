@@ -9,13 +9,25 @@ use user_patterns_data::pattern::Pattern;
 
 /// A pattern that can be applied: its name, its printed text, the variables of its left side in their order, and the
 /// summary of its last check.
-#[derive(Drop)]
 pub struct RegisteredPattern {
     pub name: Vec<u8>,
     pub text: Vec<u8>,
     pub variables: Vec<NamedVariable>,
     pub pattern: Pattern,
     pub said: Option<CheckSummary>,
+}
+
+impl Drop for RegisteredPattern {
+    /// Frees the pattern. It is written out, so that the crates above call one function.
+    fn drop(self) {
+        let RegisteredPattern {
+            name: _,
+            text: _,
+            variables: _,
+            pattern: _,
+            said: _,
+        } = self;
+    }
 }
 
 /// The defined patterns, in the order of their definitions.
