@@ -32,12 +32,9 @@ refused refusal = of_numbers 7 (number_of refusal) 0 0
 abbrev pub opened : Answer
 opened = of_numbers 1 0 0 0
 
--- the answer to an accepted call with a number, and to one that made an operation
+-- the answer to an accepted call with a number
 abbrev pub counted : ℕ → Answer
 counted number = of_numbers 1 0 number 0
-
-abbrev pub made : ℕ → Answer
-made op = of_numbers 2 0 op 0
 
 -- the answer to a text that isn't read
 abbrev pub parse_error_answer : ReadError → Answer

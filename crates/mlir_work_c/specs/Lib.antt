@@ -1,4 +1,5 @@
 pub mod Slots
+pub mod Lending
 pub mod Calls
 pub mod Numbers
 pub mod Edits

@@ -3,7 +3,7 @@ ghost use Rattle.std.specs.Prelude.{◌≡◌, ℕ};
 ghost use Rattle.mlir_work_script.specs.Outcomes.{outcome_of};
 ghost use Rattle.mlir_work_run.specs.session.Machine.{response_of};
 ghost use Rattle.mlir_work_run.specs.session.Notices.{notice_of};
-ghost use Rattle.mlir_work_c.specs.Answers.{answer_of, came_of, closed as no_session, nothing as no_command, refused as refused_for, opened as a_session, not_opened as not_opened_for, counted, made, parse_error_answer};
+ghost use Rattle.mlir_work_c.specs.Answers.{answer_of, came_of, closed as no_session, nothing as no_command, refused as refused_for, opened as a_session, not_opened as not_opened_for, counted, parse_error_answer};
 ghost use Rattle.rewriter.specs.Commands.{Replied};
 ghost use Rattle.rewriter.specs.RewriterCalls.{id_reply_of, reply_of};
 ghost use Rattle.mlir_work_c.specs.Answers.{replied_of, said_as};
@@ -81,13 +81,6 @@ pub fn counted(number: u64) -> Answer
     of_numbers(1, 0, number, 0)
 }
 
-/// Returns the answer to an accepted call that made an operation.
-pub fn made(op: OpId) -> Answer
-    ensures { result ≡ made op }
-{
-    of_numbers(2, 0, op.number() as u64, 0)
-}
-
 /// Returns the answer to an edit.
 pub fn edited(reported: Result<(), Refusal>) -> Answer
     ensures { result ≡ replied_of (Replied (reply_of reported)) 0 }
@@ -103,7 +96,7 @@ pub fn inserted(op: Result<OpId, Refusal>) -> Answer
     ensures { result ≡ replied_of (Replied (id_reply_of op)) 0 }
 {
     match op {
-        Ok(op) => made(op),
+        Ok(op) => of_numbers(2, 0, op.number() as u64, 0),
         Err(refusal) => refused(refusal),
     }
 }

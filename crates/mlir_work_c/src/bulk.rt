@@ -15,32 +15,24 @@ use mlir_work_c_read::bulk::{write_heads, write_operands, write_types, write_val
 use mlir_work_c_read::numbers::{CellNumbers, Head, RecordItem, ValueNumbers, ValueUse};
 use mlir_work_c_read::records::write_records;
 use mlir_work_c_read::rows::{count_cells, write_rows};
-use std::alloc::Global;
 
 /// Writes the names and the counts of operations.
 #[unsafe(no_mangle)]
-pub extern "C" fn mlir_work_heads(
-    alloc: Global,
-    held: &mut Handle,
-    operations: &[u32],
-    into: &mut [Head],
-) -> usize
+pub extern "C" fn mlir_work_heads(held: &mut Handle, operations: &[u32], into: &mut [Head]) -> usize
     requires kept { IsHeld held.old.slot.value }
     ensures same { held.new.slot.value ≡ held.old.slot.value }
     ensures reported { WritesHeadsOf operations.now held.old.slot.value into.old into.new result }
 {
-    let Some(found) = held.take(alloc) else {
+    if !held.is_open() {
         return 0;
-    };
-    let count = write_heads(found.bench.world(), operations, into);
-    held.open_with(found);
-    count
+    }
+    let found = held.slot.as_mut();
+    write_heads(found.bench.world(), operations, into)
 }
 
 /// Writes the operands of operations, one operation after the other.
 #[unsafe(no_mangle)]
 pub extern "C" fn mlir_work_operands(
-    alloc: Global,
     held: &mut Handle,
     operations: &[u32],
     into: &mut [ValueNumbers],
@@ -49,18 +41,16 @@ pub extern "C" fn mlir_work_operands(
     ensures same { held.new.slot.value ≡ held.old.slot.value }
     ensures reported { WritesOperandsOf operations.now held.old.slot.value into.old into.new result }
 {
-    let Some(found) = held.take(alloc) else {
+    if !held.is_open() {
         return 0;
-    };
-    let count = write_operands(found.bench.world(), operations, into);
-    held.open_with(found);
-    count
+    }
+    let found = held.slot.as_mut();
+    write_operands(found.bench.world(), operations, into)
 }
 
 /// Writes the types of values.
 #[unsafe(no_mangle)]
 pub extern "C" fn mlir_work_types(
-    alloc: Global,
     held: &mut Handle,
     values: &[ValueNumbers],
     into: &mut [u64],
@@ -69,18 +59,16 @@ pub extern "C" fn mlir_work_types(
     ensures same { held.new.slot.value ≡ held.old.slot.value }
     ensures reported { WritesTypesOf values.now held.old.slot.value into.old into.new result }
 {
-    let Some(found) = held.take(alloc) else {
+    if !held.is_open() {
         return 0;
-    };
-    let count = write_types(found.bench.world(), values, into);
-    held.open_with(found);
-    count
+    }
+    let found = held.slot.as_mut();
+    write_types(found.bench.world(), values, into)
 }
 
 /// Writes the uses of values, one value after the other.
 #[unsafe(no_mangle)]
 pub extern "C" fn mlir_work_value_uses(
-    alloc: Global,
     held: &mut Handle,
     values: &[ValueNumbers],
     into: &mut [ValueUse],
@@ -89,18 +77,16 @@ pub extern "C" fn mlir_work_value_uses(
     ensures same { held.new.slot.value ≡ held.old.slot.value }
     ensures reported { WritesValueUsesOf values.now held.old.slot.value into.old into.new result }
 {
-    let Some(found) = held.take(alloc) else {
+    if !held.is_open() {
         return 0;
-    };
-    let count = write_value_uses(found.bench.world(), values, into);
-    held.open_with(found);
-    count
+    }
+    let found = held.slot.as_mut();
+    write_value_uses(found.bench.world(), values, into)
 }
 
 /// Writes the records of operations, one operation after the other.
 #[unsafe(no_mangle)]
 pub extern "C" fn mlir_work_records(
-    alloc: Global,
     held: &mut Handle,
     operations: &[u32],
     into: &mut [RecordItem],
@@ -109,12 +95,11 @@ pub extern "C" fn mlir_work_records(
     ensures same { held.new.slot.value ≡ held.old.slot.value }
     ensures reported { WritesRecordsOf operations.now held.old.slot.value into.old into.new result }
 {
-    let Some(found) = held.take(alloc) else {
+    if !held.is_open() {
         return 0;
-    };
-    let count = write_records(found.bench.world(), operations, into);
-    held.open_with(found);
-    count
+    }
+    let found = held.slot.as_mut();
+    write_records(found.bench.world(), operations, into)
 }
 
 /// Writes the cells of the report of a kind, and returns the answer with the number of cells.
@@ -136,7 +121,6 @@ fn report_into(session: &Session, kind: u32, into: &mut [CellNumbers]) -> Answer
 /// Writes the cells of the report of a kind, as many as there is space for. The answer has the number of cells.
 #[unsafe(no_mangle)]
 pub extern "C" fn mlir_work_report(
-    alloc: Global,
     held: &mut Handle,
     kind: u32,
     into: &mut [CellNumbers],
@@ -146,10 +130,10 @@ pub extern "C" fn mlir_work_report(
     ensures same { held.new.slot.value ≡ held.old.slot.value }
     ensures reported { ReportGoes kind held.old.slot.value into.old into.new answer.new }
 {
-    let Some(found) = held.take(alloc) else {
+    if !held.is_open() {
         *answer = closed();
         return;
-    };
-    *answer = report_into(&found, kind, into);
-    held.open_with(found);
+    }
+    let found = held.slot.as_mut();
+    *answer = report_into(found, kind, into);
 }

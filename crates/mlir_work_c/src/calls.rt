@@ -61,8 +61,7 @@ fn open_into(
     ensures goes { OpenGoes opaque text.now limit held.new.slot.value answer.new }
     ensures kept { IsHeld held.new.slot.value }
 {
-    let old = held.take(alloc);
-    drop(old);
+    held.close(alloc);
     match open_box(alloc, key, limit, opaque, text) {
         Err(why) => *answer = open_failed(why.refusal, why.offset),
         Ok(session) => {
@@ -120,32 +119,26 @@ pub extern "C" fn mlir_work_command(
     ensures goes { CommandGoes held.old.slot.value line.now answer.new held.new.slot.value }
     ensures kept { IsHeld held.new.slot.value }
 {
-    let Some(mut found) = held.take(alloc) else {
+    if !held.is_open() {
         *answer = closed();
         return;
-    };
-    *answer = send_line(alloc, &mut found, line);
-    held.open_with(found);
+    }
+    let found = held.slot.as_mut();
+    *answer = send_line(alloc, found, line);
 }
 
 /// Copies the bytes that the last line showed, starting at `from`, and returns the number of copied bytes.
 #[unsafe(no_mangle)]
-pub extern "C" fn mlir_work_read(
-    alloc: Global,
-    held: &mut Handle,
-    from: usize,
-    into: &mut [u8],
-) -> usize
+pub extern "C" fn mlir_work_read(held: &mut Handle, from: usize, into: &mut [u8]) -> usize
     requires kept { IsHeld held.old.slot.value }
     ensures same { held.new.slot.value ≡ held.old.slot.value }
     ensures copied { into.new ≡ take result (drop from (ShownOf held.old.slot.value)) ++ drop result into.old }
 {
-    let Some(found) = held.take(alloc) else {
+    if !held.is_open() {
         return 0;
-    };
-    let count = read_shown(&found, from, into);
-    held.open_with(found);
-    count
+    }
+    let found = held.slot.as_mut();
+    read_shown(found, from, into)
 }
 
 /// Closes the handle. A closed handle stays closed.
@@ -154,6 +147,5 @@ pub extern "C" fn mlir_work_close(alloc: Global, held: &mut Handle)
     requires kept { IsHeld held.old.slot.value }
     ensures { held.new.slot.value ≡ None }
 {
-    let old = held.take(alloc);
-    drop(old);
+    held.close(alloc);
 }

@@ -29,13 +29,13 @@ pub extern "C" fn mlir_work_set_operand(
     ensures goes { EditGoes held.old.slot.value (SetOperand operation operand (show_value value.now)) answer.new held.new.slot.value }
     ensures kept { IsHeld held.new.slot.value }
 {
-    let Some(mut found) = held.take(alloc) else {
+    if !held.is_open() {
         *answer = closed();
         return;
-    };
+    }
+    let found = held.slot.as_mut();
     let op = OpId::new(operation);
-    *answer = edits::set_operand(alloc, &mut found, op, operand, value_of(value));
-    held.open_with(found);
+    *answer = edits::set_operand(alloc, found, op, operand, value_of(value));
 }
 
 /// `replace`: replaces all uses of `old` by `new`.
@@ -51,12 +51,12 @@ pub extern "C" fn mlir_work_replace(
     ensures goes { EditGoes held.old.slot.value (Replace (show_value old.now) (show_value new.now)) answer.new held.new.slot.value }
     ensures kept { IsHeld held.new.slot.value }
 {
-    let Some(mut found) = held.take(alloc) else {
+    if !held.is_open() {
         *answer = closed();
         return;
-    };
-    *answer = edits::replace(alloc, &mut found, value_of(old), value_of(new));
-    held.open_with(found);
+    }
+    let found = held.slot.as_mut();
+    *answer = edits::replace(alloc, found, value_of(old), value_of(new));
 }
 
 /// `erase`: erases an operation and everything inside it.
@@ -71,12 +71,12 @@ pub extern "C" fn mlir_work_erase(
     ensures goes { EditGoes held.old.slot.value (Erase operation) answer.new held.new.slot.value }
     ensures kept { IsHeld held.new.slot.value }
 {
-    let Some(mut found) = held.take(alloc) else {
+    if !held.is_open() {
         *answer = closed();
         return;
-    };
-    *answer = edits::erase(alloc, &mut found, OpId::new(operation));
-    held.open_with(found);
+    }
+    let found = held.slot.as_mut();
+    *answer = edits::erase(alloc, found, OpId::new(operation));
 }
 
 /// `move`: moves an operation and everything inside it. An insertion point of unknown kind is refused as a bad
@@ -93,15 +93,14 @@ pub extern "C" fn mlir_work_move(
     ensures goes { MoveGoes held.old.slot.value operation (point_of_numbers point.now) answer.new held.new.slot.value }
     ensures kept { IsHeld held.new.slot.value }
 {
-    let Some(mut found) = held.take(alloc) else {
+    if !held.is_open() {
         *answer = closed();
         return;
-    };
+    }
+    let found = held.slot.as_mut();
     let Some(point) = point_of(point) else {
-        held.open_with(found);
         *answer = refused(Refusal::BadCommand);
         return;
     };
-    *answer = edits::move_op(alloc, &mut found, OpId::new(operation), point);
-    held.open_with(found);
+    *answer = edits::move_op(alloc, found, OpId::new(operation), point);
 }

@@ -23,6 +23,9 @@ impl Model for HandleSlot {
 }
 
 impl HandleSlot {
+    ghost use Rattle.std.specs.Borrow.{sem};
+    ghost use Rattle.mlir_work_c.specs.Lending.{LendsSession};
+
     /// Returns an empty slot.
     pub fn empty() -> HandleSlot
         ensures { result.value ≡ None }
@@ -31,7 +34,7 @@ impl HandleSlot {
     }
 
     /// Returns a slot with a box.
-    fn of(raw_box: RawBox<Session, Global>) -> HandleSlot
+    pub fn of(raw_box: RawBox<Session, Global>) -> HandleSlot
         ensures { result.value ≡ Some raw_box.value }
     {
         let RawBox { at, alloc: _ } = raw_box;
@@ -39,7 +42,7 @@ impl HandleSlot {
     }
 
     /// Takes the raw box out of a full slot.
-    fn into_raw_box(self, alloc: Global) -> RawBox<Session, Global>
+    pub fn into_raw_box(self, alloc: Global) -> RawBox<Session, Global>
         requires { IsFull self.value }
         ensures { Some result.value ≡ self.value }
     {
@@ -57,18 +60,12 @@ impl HandleSlot {
         let HandleSlot { at: _ } = self;
     }
 
-    /// Returns a slot with this box.
-    pub fn holding(value: Box<Session>) -> HandleSlot
-        ensures { result.value ≡ Some value.value }
+    /// Returns the session in a full slot.
+    pub fn as_mut(&mut self) -> &mut Session
+        requires { IsFull self.old.value }
+        ensures* writes_back { sem 𝓛 (LendsSession self.entry result) }
+        ensures value { Some result.now ≡ self.old.value }
     {
-        HandleSlot::of(RawBox::from_box(value))
-    }
-
-    /// Takes the box out of a full slot.
-    pub fn into_box(self, alloc: Global) -> Box<Session>
-        requires { IsFull self.value }
-        ensures { Some result.value ≡ self.value }
-    {
-        self.into_raw_box(alloc).into_box()
+        unsafe { &mut *(self.at as *mut Session) }
     }
 }

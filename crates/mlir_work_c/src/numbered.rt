@@ -58,12 +58,12 @@ pub extern "C" fn mlir_work_insert(
     ensures goes { InsertGoes (point_of_numbers new.now.point) new.now.name operands.now results.now entries.now held.old.slot.value answer.new held.new.slot.value }
     ensures kept { IsHeld held.new.slot.value }
 {
-    let Some(mut found) = held.take(alloc) else {
+    if !held.is_open() {
         *answer = closed();
         return;
-    };
-    *answer = insert_in(alloc, &mut found, new, operands, results, entries);
-    held.open_with(found);
+    }
+    let found = held.slot.as_mut();
+    *answer = insert_in(alloc, found, new, operands, results, entries);
 }
 
 /// Sets the entry of an operation at a key.
@@ -78,7 +78,6 @@ fn set_in(session: &mut Session, op: OpId, key: NameId, attribute: AttrId) -> An
 /// Sets the entry of an operation at a key, as `set-attr` does.
 #[unsafe(no_mangle)]
 pub extern "C" fn mlir_work_set_attribute(
-    alloc: Global,
     held: &mut Handle,
     operation: u32,
     key: u32,
@@ -89,17 +88,17 @@ pub extern "C" fn mlir_work_set_attribute(
     ensures goes { SetGoes operation key attribute held.old.slot.value answer.new held.new.slot.value }
     ensures kept { IsHeld held.new.slot.value }
 {
-    let Some(mut found) = held.take(alloc) else {
+    if !held.is_open() {
         *answer = closed();
         return;
-    };
+    }
+    let found = held.slot.as_mut();
     *answer = set_in(
-        &mut found,
+        found,
         OpId::new(operation),
         NameId::new(key),
         AttrId::new(attribute),
     );
-    held.open_with(found);
 }
 
 /// Removes the entry of an operation at a key.
@@ -114,7 +113,6 @@ fn drop_in(session: &mut Session, op: OpId, key: NameId) -> Answer
 /// Removes the entry of an operation at a key, as `drop-attr` does.
 #[unsafe(no_mangle)]
 pub extern "C" fn mlir_work_drop_attribute(
-    alloc: Global,
     held: &mut Handle,
     operation: u32,
     key: u32,
@@ -124,12 +122,12 @@ pub extern "C" fn mlir_work_drop_attribute(
     ensures goes { DropGoes operation key held.old.slot.value answer.new held.new.slot.value }
     ensures kept { IsHeld held.new.slot.value }
 {
-    let Some(mut found) = held.take(alloc) else {
+    if !held.is_open() {
         *answer = closed();
         return;
-    };
-    *answer = drop_in(&mut found, OpId::new(operation), NameId::new(key));
-    held.open_with(found);
+    }
+    let found = held.slot.as_mut();
+    *answer = drop_in(found, OpId::new(operation), NameId::new(key));
 }
 
 /// Returns the answer with the number of a name.
@@ -146,17 +144,17 @@ fn name_in(session: &mut Session, text: &[u8]) -> Answer
 
 /// Gets the number of a name. A new name is interned.
 #[unsafe(no_mangle)]
-pub extern "C" fn mlir_work_name(alloc: Global, held: &mut Handle, text: &[u8], answer: &mut Answer)
+pub extern "C" fn mlir_work_name(held: &mut Handle, text: &[u8], answer: &mut Answer)
     requires kept { IsHeld held.old.slot.value }
     ensures goes { NameGoes text.now held.old.slot.value answer.new held.new.slot.value }
     ensures kept { IsHeld held.new.slot.value }
 {
-    let Some(mut found) = held.take(alloc) else {
+    if !held.is_open() {
         *answer = closed();
         return;
-    };
-    *answer = name_in(&mut found, text);
-    held.open_with(found);
+    }
+    let found = held.slot.as_mut();
+    *answer = name_in(found, text);
 }
 
 /// Returns the answer with the number of a type.
@@ -173,17 +171,17 @@ fn type_in(session: &mut Session, text: &[u8]) -> Answer
 
 /// Gets the number of a type. A new type is interned.
 #[unsafe(no_mangle)]
-pub extern "C" fn mlir_work_type(alloc: Global, held: &mut Handle, text: &[u8], answer: &mut Answer)
+pub extern "C" fn mlir_work_type(held: &mut Handle, text: &[u8], answer: &mut Answer)
     requires kept { IsHeld held.old.slot.value }
     ensures goes { TypeGoes text.now held.old.slot.value answer.new held.new.slot.value }
     ensures kept { IsHeld held.new.slot.value }
 {
-    let Some(mut found) = held.take(alloc) else {
+    if !held.is_open() {
         *answer = closed();
         return;
-    };
-    *answer = type_in(&mut found, text);
-    held.open_with(found);
+    }
+    let found = held.slot.as_mut();
+    *answer = type_in(found, text);
 }
 
 /// Returns the answer with the number of an attribute.
@@ -200,20 +198,15 @@ fn attribute_in(session: &mut Session, text: &[u8]) -> Answer
 
 /// Gets the number of an attribute. A new attribute is interned.
 #[unsafe(no_mangle)]
-pub extern "C" fn mlir_work_attribute(
-    alloc: Global,
-    held: &mut Handle,
-    text: &[u8],
-    answer: &mut Answer,
-)
+pub extern "C" fn mlir_work_attribute(held: &mut Handle, text: &[u8], answer: &mut Answer)
     requires kept { IsHeld held.old.slot.value }
     ensures goes { AttributeGoes text.now held.old.slot.value answer.new held.new.slot.value }
     ensures kept { IsHeld held.new.slot.value }
 {
-    let Some(mut found) = held.take(alloc) else {
+    if !held.is_open() {
         *answer = closed();
         return;
-    };
-    *answer = attribute_in(&mut found, text);
-    held.open_with(found);
+    }
+    let found = held.slot.as_mut();
+    *answer = attribute_in(found, text);
 }

@@ -2,10 +2,13 @@
 ghost use Rattle.std.specs.Prelude.{◌≡◌};
 ghost use Rattle.std.specs.Option.{option_map};
 ghost use Rattle.mlir_work_script_base.specs.InsertionPoints.{insertion_point_of};
-ghost use Rattle.mlir_work_c.specs.Numbers.{no_memory, point_of_numbers};
+ghost use Rattle.mlir_work_c.specs.Numbers.{point_of_numbers};
 
 use ir_event::types::ids::OpId;
 use mlir_work_script_base::insertion_points::InsertionPoint;
+
+/// The number for memory that ran out.
+pub(crate) const NO_MEMORY: u64 = 18_446_744_073_709_551_614;
 
 /// An insertion point: directly before (0) or after (1) an operation, or at the start (2) or the end (3) of the block
 /// of its region.
@@ -37,11 +40,4 @@ pub(crate) fn point_of(numbers: &InsertionPointNumbers) -> Option<InsertionPoint
         3 => Some(InsertionPoint::End(op, numbers.region)),
         _ => None,
     }
-}
-
-/// Returns the number for memory that ran out.
-pub(crate) fn no_memory() -> u64
-    ensures { result ≡ no_memory }
-{
-    18446744073709551614
 }

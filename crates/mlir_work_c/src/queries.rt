@@ -10,127 +10,109 @@ use mlir_work_c_read::numbers::{
     UseNumbers, ValueNumbers, no_number, number_of, numbers_of, value_of,
 };
 use mlir_work_c_read::queries;
-use std::alloc::Global;
 
 /// Returns whether an operation is in the module.
 #[unsafe(no_mangle)]
-pub extern "C" fn mlir_work_has(alloc: Global, held: &mut Handle, operation: u32) -> bool
+pub extern "C" fn mlir_work_has(held: &mut Handle, operation: u32) -> bool
     requires kept { IsHeld held.old.slot.value }
     ensures same { held.new.slot.value ≡ held.old.slot.value }
     ensures reported { result ≡ is_requested (has_in operation) held.old.slot.value }
 {
-    let Some(found) = held.take(alloc) else {
+    if !held.is_open() {
         return false;
-    };
-    let there = queries::has(found.bench.world(), OpId::new(operation));
-    held.open_with(found);
-    there
+    }
+    let found = held.slot.as_mut();
+    queries::has(found.bench.world(), OpId::new(operation))
 }
 
 /// Returns the root operation of the module.
 #[unsafe(no_mangle)]
-pub extern "C" fn mlir_work_root(alloc: Global, held: &mut Handle) -> u64
+pub extern "C" fn mlir_work_root(held: &mut Handle) -> u64
     requires kept { IsHeld held.old.slot.value }
     ensures same { held.new.slot.value ≡ held.old.slot.value }
     ensures reported { result ≡ reported (requested root_in held.old.slot.value) }
 {
-    let Some(found) = held.take(alloc) else {
+    if !held.is_open() {
         return no_number();
-    };
+    }
+    let found = held.slot.as_mut();
     let op = queries::root(found.bench.world());
-    held.open_with(found);
     number_of(Some(op))
 }
 
 /// Returns the parent of an operation.
 #[unsafe(no_mangle)]
-pub extern "C" fn mlir_work_parent(alloc: Global, held: &mut Handle, operation: u32) -> u64
+pub extern "C" fn mlir_work_parent(held: &mut Handle, operation: u32) -> u64
     requires kept { IsHeld held.old.slot.value }
     ensures same { held.new.slot.value ≡ held.old.slot.value }
     ensures reported { result ≡ reported (requested (parent_in operation) held.old.slot.value) }
 {
-    let Some(found) = held.take(alloc) else {
+    if !held.is_open() {
         return no_number();
-    };
-    let op = queries::parent(found.bench.world(), OpId::new(operation));
-    held.open_with(found);
-    number_of(op)
+    }
+    let found = held.slot.as_mut();
+    number_of(queries::parent(found.bench.world(), OpId::new(operation)))
 }
 
 /// Returns the next operation in the block.
 #[unsafe(no_mangle)]
-pub extern "C" fn mlir_work_next(alloc: Global, held: &mut Handle, operation: u32) -> u64
+pub extern "C" fn mlir_work_next(held: &mut Handle, operation: u32) -> u64
     requires kept { IsHeld held.old.slot.value }
     ensures same { held.new.slot.value ≡ held.old.slot.value }
     ensures reported { result ≡ reported (requested (next_in operation) held.old.slot.value) }
 {
-    let Some(found) = held.take(alloc) else {
+    if !held.is_open() {
         return no_number();
-    };
-    let op = queries::next(found.bench.world(), OpId::new(operation));
-    held.open_with(found);
-    number_of(op)
+    }
+    let found = held.slot.as_mut();
+    number_of(queries::next(found.bench.world(), OpId::new(operation)))
 }
 
 /// Returns the previous operation in the block.
 #[unsafe(no_mangle)]
-pub extern "C" fn mlir_work_previous(alloc: Global, held: &mut Handle, operation: u32) -> u64
+pub extern "C" fn mlir_work_previous(held: &mut Handle, operation: u32) -> u64
     requires kept { IsHeld held.old.slot.value }
     ensures same { held.new.slot.value ≡ held.old.slot.value }
     ensures reported { result ≡ reported (requested (prev_in operation) held.old.slot.value) }
 {
-    let Some(found) = held.take(alloc) else {
+    if !held.is_open() {
         return no_number();
-    };
-    let op = queries::previous(found.bench.world(), OpId::new(operation));
-    held.open_with(found);
-    number_of(op)
+    }
+    let found = held.slot.as_mut();
+    number_of(queries::previous(found.bench.world(), OpId::new(operation)))
 }
 
 /// Returns the first operation of the block of a region.
 #[unsafe(no_mangle)]
-pub extern "C" fn mlir_work_first(
-    alloc: Global,
-    held: &mut Handle,
-    operation: u32,
-    region: u32,
-) -> u64
+pub extern "C" fn mlir_work_first(held: &mut Handle, operation: u32, region: u32) -> u64
     requires kept { IsHeld held.old.slot.value }
     ensures same { held.new.slot.value ≡ held.old.slot.value }
     ensures reported { result ≡ reported (requested (first_in operation region) held.old.slot.value) }
 {
-    let Some(found) = held.take(alloc) else {
+    if !held.is_open() {
         return no_number();
-    };
-    let op = queries::first(found.bench.world(), OpId::new(operation), region);
-    held.open_with(found);
-    number_of(op)
+    }
+    let found = held.slot.as_mut();
+    number_of(queries::first(found.bench.world(), OpId::new(operation), region))
 }
 
 /// Returns the last operation of the block of a region.
 #[unsafe(no_mangle)]
-pub extern "C" fn mlir_work_last(
-    alloc: Global,
-    held: &mut Handle,
-    operation: u32,
-    region: u32,
-) -> u64
+pub extern "C" fn mlir_work_last(held: &mut Handle, operation: u32, region: u32) -> u64
     requires kept { IsHeld held.old.slot.value }
     ensures same { held.new.slot.value ≡ held.old.slot.value }
     ensures reported { result ≡ reported (requested (last_in operation region) held.old.slot.value) }
 {
-    let Some(found) = held.take(alloc) else {
+    if !held.is_open() {
         return no_number();
-    };
-    let op = queries::last(found.bench.world(), OpId::new(operation), region);
-    held.open_with(found);
-    number_of(op)
+    }
+    let found = held.slot.as_mut();
+    number_of(queries::last(found.bench.world(), OpId::new(operation), region))
 }
 
 /// Gets an operand of an operation. Returns whether the operand exists.
 #[unsafe(no_mangle)]
 pub extern "C" fn mlir_work_operand(
-    alloc: Global,
     held: &mut Handle,
     operation: u32,
     operand: usize,
@@ -140,11 +122,11 @@ pub extern "C" fn mlir_work_operand(
     ensures same { held.new.slot.value ≡ held.old.slot.value }
     ensures reported { IsOptionalValue (requested (operand_in operation operand) held.old.slot.value) value.old value.new result }
 {
-    let Some(found) = held.take(alloc) else {
+    if !held.is_open() {
         return false;
-    };
+    }
+    let found = held.slot.as_mut();
     let operand = queries::operand(found.bench.world(), OpId::new(operation), operand);
-    held.open_with(found);
     let Some(operand) = operand else {
         return false;
     };
@@ -155,7 +137,6 @@ pub extern "C" fn mlir_work_operand(
 /// Gets one of the uses of a value. Returns whether there is one.
 #[unsafe(no_mangle)]
 pub extern "C" fn mlir_work_first_use(
-    alloc: Global,
     held: &mut Handle,
     value: &ValueNumbers,
     user: &mut UseNumbers,
@@ -164,11 +145,11 @@ pub extern "C" fn mlir_work_first_use(
     ensures same { held.new.slot.value ≡ held.old.slot.value }
     ensures reported { WritesUse (uses_in (show_value value.now) held.old.slot.value) user.old user.new result }
 {
-    let Some(found) = held.take(alloc) else {
+    if !held.is_open() {
         return false;
-    };
+    }
+    let found = held.slot.as_mut();
     let reported = queries::first_use(found.bench.world(), value_of(value));
-    held.open_with(found);
     let Some((op, operand)) = reported else {
         return false;
     };

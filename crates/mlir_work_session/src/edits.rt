@@ -22,12 +22,7 @@ use mlir_work_transforms::rewriter::laws::led_benches_are_kept;
 use std::alloc::Global;
 
 /// Sets an operand of an operation.
-pub(crate) fn set_operand<L: Analysis>(
-    bench: &mut Bench<L>,
-    op: OpId,
-    operand: u32,
-    value: Value,
-) -> Reply
+pub fn set_operand<L: Analysis>(bench: &mut Bench<L>, op: OpId, operand: u32, value: Value) -> Reply
     requires { AgreesOrStale L.meaning bench.old }
     ensures obeys { (session_options : SessionOptions) → RunsCommand session_options (state_of L.meaning bench.old) (SetOperand op operand value) (response_of result) [] (state_of L.meaning bench.new) }
     ensures kept { AgreesOrStale L.meaning bench.new }
@@ -38,7 +33,7 @@ pub(crate) fn set_operand<L: Analysis>(
 }
 
 /// Replaces all uses of one value by another value.
-pub(crate) fn replace<L: Analysis>(bench: &mut Bench<L>, old: Value, new: Value) -> Reply
+pub fn replace<L: Analysis>(bench: &mut Bench<L>, old: Value, new: Value) -> Reply
     requires { AgreesOrStale L.meaning bench.old }
     ensures obeys { (session_options : SessionOptions) → RunsCommand session_options (state_of L.meaning bench.old) (Replace old new) (response_of result) [] (state_of L.meaning bench.new) }
     ensures kept { AgreesOrStale L.meaning bench.new }
@@ -49,7 +44,7 @@ pub(crate) fn replace<L: Analysis>(bench: &mut Bench<L>, old: Value, new: Value)
 }
 
 /// Erases an operation and everything inside it.
-pub(crate) fn erase<L: Analysis>(bench: &mut Bench<L>, op: OpId) -> Reply
+pub fn erase<L: Analysis>(bench: &mut Bench<L>, op: OpId) -> Reply
     requires { AgreesOrStale L.meaning bench.old }
     ensures obeys { (session_options : SessionOptions) → RunsCommand session_options (state_of L.meaning bench.old) (Erase op) (response_of result) [] (state_of L.meaning bench.new) }
     ensures kept { AgreesOrStale L.meaning bench.new }
@@ -60,7 +55,7 @@ pub(crate) fn erase<L: Analysis>(bench: &mut Bench<L>, op: OpId) -> Reply
 }
 
 /// Moves an operation to an insertion point.
-pub(crate) fn move_op<L: Analysis>(bench: &mut Bench<L>, op: OpId, point: &InsertionPoint) -> Reply
+pub fn move_op<L: Analysis>(bench: &mut Bench<L>, op: OpId, point: &InsertionPoint) -> Reply
     requires { AgreesOrStale L.meaning bench.old }
     ensures obeys { (session_options : SessionOptions) → RunsCommand session_options (state_of L.meaning bench.old) (Move op (insertion_point_of point.now)) (response_of result) [] (state_of L.meaning bench.new) }
     ensures kept { AgreesOrStale L.meaning bench.new }

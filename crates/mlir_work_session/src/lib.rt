@@ -5,7 +5,7 @@
 pub mod attach;
 mod attributes;
 pub mod commands;
-mod edits;
+pub mod edits;
 pub mod listing;
 mod marks;
 mod notes;
