@@ -6,7 +6,7 @@ use Rattle.conversion_base.specs.Legalization.{Outcome, legalised, failed, abort
 use Rattle.conversion_base.specs.Rule.{Rule}
 use Rattle.conversion_base.specs.Targets.{Aim, is_accepted}
 use Rattle.patterns_reasons.specs.Reasons.{reason_of}
-use Rattle.patterns_reasons.specs.declared.reason.Reason.{Reason}
+use Rattle.patterns_reasons.specs.Reason.{Reason}
 use Rattle.conversion.specs.declared.match_failure.MatchFailure.{MatchFailure}
 use Rattle.conversion.specs.declared.match_failure.MatchFailure.TheVariants.{NoRule, ConditionFails, MakesIllegal}
 

@@ -6,7 +6,7 @@ use Rattle.conversion.specs.rewriter.Commands.{RuleName}
 use Rattle.conversion.specs.patterns.Rule.{Rule}
 use Rattle.conversion.specs.reasons.Conditions.{word_of}
 use Rattle.conversion.specs.reasons.Reasons.{reason_of, rules_for_op}
-use Rattle.conversion.specs.reasons.declared.reason.Reason.{Reason}
+use Rattle.conversion.specs.reasons.Reason.{Reason}
 use Rattle.mlir_work_script_base.specs.Values.{op_text}
 use Rattle.mlir_work_transforms.specs.Applying.{rule_named}
 use Rattle.mlir_work_transforms.specs.TraceText.{rule_text}

@@ -1,13 +1,12 @@
 -- Blocks whose last operation is verified, as read from the tree of interned numbers.
-use Rattle.std.proofs.Common.{◌≡◌, refl, ap, sym, ◌∙◌, ℕ, zero, suc, List, [], ◌∷◌, Bool, true, false, Option, Some, None}
+use Rattle.std.proofs.Common.{◌≡◌, refl, ap, sym, ◌∙◌, ℕ, List, [], ◌∷◌, Bool, true, false, Option, Some, None}
 use Rattle.std.specs.Prelude.{option_map, option_and_then}
 use Rattle.ir_event.specs.types.Things.{ContextModel}
 use Rattle.ir_event.specs.types.Terms.{TypeTerm, AttrTerm, name_term, type_term, attr_term}
-use Rattle.ir_event.specs.trees.Tree.{OpOf, op, Op, RegionsOf, no_regions, region, RegionOf, empty, block, OpsOf, no_ops, next, Ops, head, regions}
+use Rattle.ir_event.specs.trees.Tree.{OpOf, op, Op, RegionOf, empty, block, OpsOf, no_ops, next, Ops, head, regions}
 use Rattle.ir_event.specs.trees.Ids.{HasDistinctIds, find, first_of}
-use Rattle.ir_event.specs.trees.Maps.{map_head, map_tree, map_regions, map_region, map_ops}
+use Rattle.ir_event.specs.trees.Maps.{map_head, map_tree, map_ops}
 use Rattle.ir_event.specs.trees.Meaning.{Operation, meaning}
-use Rattle.ir_event.proofs.of_trees.Mapped.{map_find}
 use Rattle.ir_event.specs.tree_laws.Reads.{ops_in, ops_at, last_id, last_at}
 use Rattle.ir_event.specs.tree_laws.Values.{region_at}
 use Rattle.ir_event.proofs.of_tree_laws.Members.{joined_ops}
@@ -17,7 +16,7 @@ use Rattle.patterns_matchers.specs.Reads.{head_at}
 use Rattle.patterns_matchers.proofs.Meant.{head_meaning}
 use Rattle.patterns_plans.specs.Blocks.{but_last, before_in, before_at, body_at}
 use Rattle.patterns_plans.proofs.Walking.{found_read}
-use Rattle.ir_event.proofs.of_tree_laws.Contents.{map_ops_at, map_region_at}
+use Rattle.ir_event.proofs.of_tree_laws.Contents.{map_ops_at}
 
 module _ {N T A : Type 0} where
   -- the last operation of a list that isn't empty

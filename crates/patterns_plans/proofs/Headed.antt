@@ -34,7 +34,7 @@ same_head x t h o e f =
     λ i. record (one i) { id = id i }
 
 -- a rule makes these edits, and reads only the head of an operation
-abbrev LooksAtHead : Making → Rule → Type 0
+abbrev pub LooksAtHead : Making → Rule → Type 0
 LooksAtHead makes r = (t : Operation) (n : ℕ) (insertion : Place) (h : Header) (o : Operation) → h ≡ head o → makes t n insertion (op h no_regions) ≡ rule r t n insertion o
 
 -- a plan for the head is a plan for the operation

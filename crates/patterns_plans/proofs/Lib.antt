@@ -12,3 +12,6 @@ pub mod Ruled
 pub mod Needed
 pub mod Slices
 pub mod Held
+pub mod Parts
+pub mod Passing
+pub mod Answered

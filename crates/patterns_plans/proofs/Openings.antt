@@ -1,13 +1,12 @@
 -- The meaning of the edits that inline a block.
 use Rattle.std.proofs.Common.{◌≡◌, refl, ap, ◌∙◌, ℕ, ◌+◌, List, [], ◌∷◌, ◌++◌, map, append_assoc}
-use Rattle.std.proofs.lemmas.List.{map-append}
 use Rattle.ir_event.specs.types.Things.{ContextModel}
 use Rattle.ir_event.specs.trees.declared.value.Value.{Value}
 use Rattle.ir_event.specs.trees.declared.value.Value.TheVariants.{Result, Arg}
 use Rattle.ir_event.specs.trees.declared.place.Place.{Place}
-use Rattle.patterns_base.specs.Contents.{Edit, edit_meaning}
+use Rattle.patterns_base.specs.Contents.{Edit}
 use Rattle.patterns_base.specs.Edits.{Erase, Replace, Move}
-use Rattle.patterns_base.specs.Lists.{numbered, AllFit, edits_meaning}
+use Rattle.patterns_base.specs.Lists.{AllFit, edits_meaning}
 use Rattle.patterns_base.specs.declared.edit.Edit.{Edit as Coded}
 use Rattle.patterns_base.specs.declared.edit.Edit.TheVariants as coded
 use Rattle.patterns_matchers.specs.Makes.{arguments_from, results_from, replacing, moving}

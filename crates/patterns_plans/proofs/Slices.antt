@@ -1,7 +1,6 @@
 -- Slices by their first items.
 use Rattle.std.proofs.Common.{◌≡◌, ap, sym, ◌-◌, ◌<◌, ◌≤◌, List, [], ◌∷◌, length, get_or, take, drop, arith}
 use Rattle.std.proofs.lemmas.List.{take_all}
-use Rattle.ir_event.proofs.of_types.Truths.{rest_at}
 
 pub one_item : {X : Type 0} (xs : List X) (a d : X) → 1 ≤ length xs → length xs < 2 → a ≡ get_or xs 0 d → xs ≡ a ∷ []
 one_item [] a d h k e = absurd (omega (arith, h))

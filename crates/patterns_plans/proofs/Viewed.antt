@@ -1,21 +1,19 @@
 -- Nodes, and the operations that they show.
-use Rattle.std.proofs.Common.{Bor, ◌≡◌, refl, ap, sym, ◌∙◌, subst, ℕ, zero, suc, ◌≤◌, ◌<◌, List, [], ◌∷◌, length, map, Bool, true, Option, Some, None, arith}
+use Rattle.std.proofs.Common.{Bor, ◌≡◌, refl, ap, sym, ◌∙◌, subst, ℕ, zero, suc, ◌≤◌, ◌<◌, List, length, map, Bool, Option, Some, None}
 use Rattle.std.specs.Prelude.{is_some, slice_get, option_map, option_and_then}
 use Rattle.std.proofs.lemmas.Option.{slice_get-map, slice_get_past}
 use Rattle.ir_event.specs.types.Things.{ContextModel}
 use Rattle.ir_event.specs.types.Terms.{TypeTerm, AttrTerm, name_term, type_term, attr_term}
-use Rattle.ir_event.specs.trees.Tree.{op, Op, RegionsOf, no_regions, region, RegionOf, empty, block, head, regions}
+use Rattle.ir_event.specs.trees.Tree.{op, Op, RegionsOf, no_regions, region, RegionOf, empty, block, regions}
 use Rattle.ir_event.specs.trees.Ids.{find}
 use Rattle.ir_event.specs.trees.Meaning.{Operation, meaning}
 use Rattle.ir_event.proofs.of_trees.Mapped.{map_find}
 use Rattle.ir_event.specs.tree_laws.Values.{region_at, arguments_of, arguments_at}
-use Rattle.ir_event.proofs.of_tree_laws.Members.{found_stands}
 use Rattle.ir_event.specs.store.Nodes.{NodeOf, Node, node_of, regions_arguments}
 use Rattle.ir_event.specs.Modules.{node_meaning}
 use Rattle.ir_event.proofs.Nodes.{node_shown}
 use Rattle.patterns_matchers.specs.Reads.{header_of_node}
 use Rattle.patterns_plans.specs.Blocks.{Shows, is_block}
-use Rattle.ir_event.proofs.Facts.{found_id}
 use Rattle.ir_event.proofs.of_types.Truths.{get_within}
 
 -- what a world shows of an operation

@@ -2,17 +2,16 @@
 use Rattle.std.proofs.Common.{◌≡◌, refl, ap, sym, ◌∙◌, subst, ℕ, ◌<◌, List, [], ◌∷◌, ◌++◌, length, map, Option, Some, None, arith}
 use Rattle.std.specs.Prelude.{option_and_then}
 use Rattle.std.proofs.lemmas.List.{map-append, length-map}
-use Rattle.ir_event.specs.trees.Tree.{OpOf, OpsOf, no_ops, next, RegionOf, empty, block, head, regions, op_list}
+use Rattle.ir_event.specs.trees.Tree.{OpOf, OpsOf, no_ops, next, head, op_list}
 use Rattle.ir_event.specs.trees.Ids.{HasDistinctIds, find}
 use Rattle.ir_event.specs.trees.Places.{first_id}
-use Rattle.ir_event.specs.tree_laws.Reads.{ops_in, ops_at, first_at, next_of}
+use Rattle.ir_event.specs.tree_laws.Reads.{ops_at, first_at, next_of}
 use Rattle.ir_event.specs.tree_laws.Stands.{StepOf, stands}
 use Rattle.ir_event.specs.tree_laws.Members.{In}
-use Rattle.ir_event.specs.tree_laws.Values.{region_at}
 use Rattle.ir_event.proofs.of_tree_laws.Readings.{step}
 use Rattle.ir_event.proofs.of_tree_laws.Members.{stand, within, joined_ops, ops_child, found_stands, stand_found}
 use Rattle.ir_event.proofs.of_tree_laws.Put.{child}
-use Rattle.ir_event.proofs.of_tree_laws.Neighbours.{next_there, block_at, block_of}
+use Rattle.ir_event.proofs.of_tree_laws.Neighbours.{next_there, block_of}
 use Rattle.patterns_plans.specs.Blocks.{before_in, before_at}
 use Rattle.ir_event.proofs.of_tree_laws.Values.{joined_more}
 

@@ -1,7 +1,9 @@
 pub mod Casts
+pub mod Conditions
 pub mod May
 pub mod Numbers
 pub mod Planned
+pub mod RuleTests
 pub use Rattle.patterns_matchers.specs.Keeps
 pub use Rattle.patterns_matchers.specs.Looks
 pub use Rattle.patterns_matchers.specs.Makes

@@ -1,5 +1,7 @@
 -- Correct plans of a rule at an operation that the store shows.
-use Rattle.std.specs.Prelude.{◌≡◌, ℕ, List, Bool, true, false, ◌||◌, Option, Some, option_map, IfSome}
+use Rattle.std.specs.Prelude.{◌≡◌, ℕ, List, Bool, true, false, not, ◌||◌, Option, Some, option_map, IfSome}
+use Rattle.std.specs.Prelude.{Result, IfOk, is_ok}
+use Rattle.std.specs.Result.{result_err, result_ok}
 use Rattle.ir_event.specs.types.Things.{ContextModel}
 use Rattle.ir_event.specs.trees.declared.place.Place.{Place}
 use Rattle.ir_event.specs.trees.Ids.{find}
@@ -10,12 +12,16 @@ use Rattle.ir_event.specs.Modules.{module_in}
 use Rattle.effects.specs.Dead.{dead_at}
 use Rattle.patterns_matchers.specs.Contents.{Edit}
 use Rattle.patterns_matchers.specs.Plans.{plan_meaning, PlanIsOf}
-use Rattle.patterns_matchers.specs.Reads.{bare_in}
+use Rattle.patterns_matchers.specs.Looks.{Header}
+use Rattle.patterns_matchers.specs.Reads.{bare_in, header_of_node}
 use Rattle.patterns_matchers.specs.Rule.{Rule}
-use Rattle.patterns_matchers.specs.Rule.TheVariants.{OpenBranch, OpenLoop, StopLoop}
+use Rattle.patterns_matchers.specs.Rule.TheVariants.{EraseDead, OpenBranch, OpenLoop, StopLoop}
 use Rattle.patterns_matchers.specs.RuleNames.{is_lowering}
 use Rattle.patterns_matchers.specs.Rules.{rule}
 use Rattle.patterns_matchers.specs.declared.plan.RewritePlan.{RewritePlan}
+use Rattle.patterns_plans.specs.declared.reason.Reason.{Reason}
+use Rattle.patterns_plans.specs.Conditions.{Test, first_failed_test}
+use Rattle.patterns_plans.specs.RuleTests.{fold_to_constant, header_tests, regroup_constants}
 
 -- a rule: its edits at an operation of a tree, for a next free id and the place before the operation, if it applies
 abbrev pub Making : Type 0
@@ -50,3 +56,29 @@ IsPlannedRule r = (is_opening r || is_lowering r) ≡ false
 -- the numbers of a plan, if there is one, are interned in a context
 abbrev pub FitsIn : ContextModel → Option RewritePlan → Type 0
 FitsIn c p = IfSome p (PlanIsOf c)
+
+-- the plan of an answer, if it has one, is that of a rule at operation x, which this node shows
+abbrev pub HasPlan : Making → World → ℕ → Node → Result RewritePlan Reason → Type 0
+HasPlan makes w x node a = IfOk a (λ p. IsPlanned makes w x node (Some p))
+
+-- the reason of an answer is the first test of a rule that fails at a node; it has none if all hold
+abbrev pub HasReason : (Operation → Header → List Test) → World → Node → Result RewritePlan Reason → Type 0
+HasReason tests w node a = result_err a ≡ first_failed_test (tests (module_in w).tree (header_of_node w.ctx node))
+
+-- the same for the two rules whose last test is whether they apply
+abbrev pub HasFoldReason : World → Node → Result RewritePlan Reason → Type 0
+HasFoldReason w node a = HasReason (λ t h. fold_to_constant t h (is_ok a)) w node a
+
+abbrev pub HasRegroupReason : World → Node → Result RewritePlan Reason → Type 0
+HasRegroupReason w node a = HasReason (λ t h. regroup_constants t h (is_ok a)) w node a
+
+-- whether a rule reads nothing of its operation but the head
+abbrev pub reads_head : Rule → Bool
+reads_head EraseDead = false
+reads_head r = not (is_opening r || is_lowering r)
+
+-- an answer to rule r at operation x, which this node shows: its plan is that of the rule, and its reason is the first
+-- test of the rule that fails
+abbrev pub IsAnswerAt : Rule → World → ℕ → Node → Result RewritePlan Reason → Type 0
+IsAnswerAt r w x node a = IsPlanAt r w x (result_ok a)
+    × HasReason (λ t h. header_tests r t h (is_ok a)) w node a

@@ -3,9 +3,13 @@ ghost use Rattle.std.specs.Prelude.{◌≡◌, IfOk, ℕ};
 ghost use Rattle.ir_event.specs.types.Things.{IsName, IsType};
 ghost use Rattle.ir_event.specs.Modules.{NodeIsOf};
 ghost use Rattle.patterns_matchers.specs.Casting.{extend_extension, cut_cast, cast_back, through_index, unrealized};
-ghost use Rattle.patterns_plans.specs.Planned.{FitsIn, IsPlanned};
-ghost use Rattle.patterns_plans.specs.Casts.{IsPlannedOne};
+ghost use Rattle.patterns_matchers.specs.Plans.{PlanIsOf};
+ghost use Rattle.patterns_plans.specs.Planned.{HasPlan, HasReason};
+ghost use Rattle.patterns_plans.specs.Casts.{HasPlanOne, HasReasonOne};
+ghost use Rattle.patterns_plans.specs.RuleTests.{index_tests, unrealized_tests};
+ghost use Rattle.patterns_plans.specs.RuleTests as tests;
 
+use crate::reason::Reason;
 use ir_event::store::node::Node;
 use ir_event::types::ids::OpId;
 use ir_event::types::word::Word;
@@ -26,27 +30,28 @@ pub(crate) fn plan_extend_extension(
     alloc: Global,
     world: &World,
     node: &Node<'_>,
-) -> Result<Option<RewritePlan>, AllocError>
+) -> Result<Result<RewritePlan, Reason>, AllocError>
     requires of { NodeIsOf world.now.ctx node.now }
-    ensures edits { (x : ℕ) → IfOk result (IsPlanned extend_extension world.now x node.now) }
-    ensures fits_in { IfOk result (FitsIn world.now.ctx) }
+    ensures edits { (x : ℕ) → IfOk result (HasPlan extend_extension world.now x node.now) }
+    ensures reason { IfOk result (HasReason tests.extend_extension world.now node.now) }
+    ensures fits_in { IfOk result (λ a. IfOk a (PlanIsOf world.now.ctx)) }
 {
     let Some(p) = unary_op(node) else {
-        return Ok(None);
+        return Ok(Err(Reason::WrongOperation));
     };
     if !is_extension(&world.ctx, p.name) {
-        return Ok(None);
+        return Ok(Err(Reason::WrongOperation));
     }
     let Some(inside) = defining_extension(alloc, world, &p.first)? else {
-        return Ok(None);
+        return Ok(Err(Reason::NoDefiningOp));
     };
     let Some(q) = unary_op(&inside) else {
-        return Ok(None);
+        return Ok(Err(Reason::NoDefiningOp));
     };
     if !is_same_name(&world.ctx, q.name, p.name) && !world.ctx.is_word(p.name, Word::ArithExtsi) {
-        return Ok(None);
+        return Ok(Err(Reason::NoDefiningOp));
     }
-    Ok(Some(RewritePlan::Cast {
+    Ok(Ok(RewritePlan::Cast {
         name: q.name,
         ty: p.ty,
         value: q.first,
@@ -61,34 +66,35 @@ pub(crate) fn plan_cut_cast(
     world: &World,
     op: OpId,
     node: &Node<'_>,
-) -> Result<Option<RewritePlan>, AllocError>
+) -> Result<Result<RewritePlan, Reason>, AllocError>
     requires of { NodeIsOf world.now.ctx node.now }
-    ensures edits { IfOk result (IsPlanned cut_cast world.now op node.now) }
-    ensures fits_in { IfOk result (FitsIn world.now.ctx) }
+    ensures edits { IfOk result (HasPlan cut_cast world.now op node.now) }
+    ensures reason { IfOk result (HasReason tests.cut_cast world.now node.now) }
+    ensures fits_in { IfOk result (λ a. IfOk a (PlanIsOf world.now.ctx)) }
 {
     let Some(p) = unary_op(node) else {
-        return Ok(None);
+        return Ok(Err(Reason::WrongOperation));
     };
     if !world.ctx.is_word(p.name, Word::ArithTrunci) {
-        return Ok(None);
+        return Ok(Err(Reason::WrongOperation));
     }
     let Some(inside) = defining_integer_cast(alloc, world, &p.first)? else {
-        return Ok(None);
+        return Ok(Err(Reason::NoDefiningOp));
     };
     let Some(q) = unary_op(&inside) else {
-        return Ok(None);
+        return Ok(Err(Reason::NoDefiningOp));
     };
     if world.ctx.is_word(q.name, Word::ArithTrunci) {
-        return Ok(Some(RewritePlan::Cast {
+        return Ok(Ok(RewritePlan::Cast {
             name: q.name,
             ty: p.ty,
             value: q.first,
         }));
     }
     if !is_of_type(world, p.ty, q.first) {
-        return Ok(None);
+        return Ok(Err(Reason::OtherType));
     }
-    Ok(Some(RewritePlan::Give { value: q.first }))
+    Ok(Ok(RewritePlan::Give { value: q.first }))
 }
 
 /// Plans a rewrite of an unrealized cast: a cast to its operand's type becomes the operand; a cast of such a cast,
@@ -98,25 +104,26 @@ fn unrealized(
     world: &World,
     op: OpId,
     p: &UnaryOp,
-) -> Result<Option<RewritePlan>, AllocError>
+) -> Result<Result<RewritePlan, Reason>, AllocError>
     requires name { IsName world.now.ctx p.now.name }
     requires ty { IsType world.now.ctx p.now.ty }
-    ensures edits { IfOk result (IsPlannedOne unrealized world.now op p.now) }
-    ensures fits_in { IfOk result (FitsIn world.now.ctx) }
+    ensures edits { IfOk result (HasPlanOne unrealized world.now op p.now) }
+    ensures reason { IfOk result (HasReasonOne unrealized_tests world.now p.now) }
+    ensures fits_in { IfOk result (λ a. IfOk a (PlanIsOf world.now.ctx)) }
 {
     if is_of_type(world, p.ty, p.first) {
-        return Ok(Some(RewritePlan::Give { value: p.first }));
+        return Ok(Ok(RewritePlan::Give { value: p.first }));
     }
     let Some(inside) = defining_op_named(alloc, world, p.name, &p.first)? else {
-        return Ok(None);
+        return Ok(Err(Reason::NoDefiningOp));
     };
     let Some(q) = unary_op(&inside) else {
-        return Ok(None);
+        return Ok(Err(Reason::NoDefiningOp));
     };
     if !is_of_type(world, p.ty, q.first) {
-        return Ok(None);
+        return Ok(Err(Reason::OtherType));
     }
-    Ok(Some(RewritePlan::Give { value: q.first }))
+    Ok(Ok(RewritePlan::Give { value: q.first }))
 }
 
 /// Plans a rewrite of a cast between an integer and index, and back, to its source. The type in the middle must have
@@ -126,25 +133,26 @@ fn through_index(
     world: &World,
     op: OpId,
     p: &UnaryOp,
-) -> Result<Option<RewritePlan>, AllocError>
+) -> Result<Result<RewritePlan, Reason>, AllocError>
     requires name { IsName world.now.ctx p.now.name }
     requires ty { IsType world.now.ctx p.now.ty }
-    ensures edits { IfOk result (IsPlannedOne through_index world.now op p.now) }
-    ensures fits_in { IfOk result (FitsIn world.now.ctx) }
+    ensures edits { IfOk result (HasPlanOne through_index world.now op p.now) }
+    ensures reason { IfOk result (HasReasonOne index_tests world.now p.now) }
+    ensures fits_in { IfOk result (λ a. IfOk a (PlanIsOf world.now.ctx)) }
 {
     let Some(inside) = defining_op_named(alloc, world, p.name, &p.first)? else {
-        return Ok(None);
+        return Ok(Err(Reason::NoDefiningOp));
     };
     let Some(q) = unary_op(&inside) else {
-        return Ok(None);
+        return Ok(Err(Reason::NoDefiningOp));
     };
     if type_width(&world.ctx, p.ty) > type_width(&world.ctx, q.ty) {
-        return Ok(None);
+        return Ok(Err(Reason::FewerBits));
     }
     if !is_of_type(world, p.ty, q.first) {
-        return Ok(None);
+        return Ok(Err(Reason::OtherType));
     }
-    Ok(Some(RewritePlan::Give { value: q.first }))
+    Ok(Ok(RewritePlan::Give { value: q.first }))
 }
 
 /// Plans `cast-back`: a cast back to the original type becomes the original value.
@@ -154,13 +162,14 @@ pub(crate) fn plan_cast_back(
     world: &World,
     op: OpId,
     node: &Node<'_>,
-) -> Result<Option<RewritePlan>, AllocError>
+) -> Result<Result<RewritePlan, Reason>, AllocError>
     requires of { NodeIsOf world.now.ctx node.now }
-    ensures edits { IfOk result (IsPlanned cast_back world.now op node.now) }
-    ensures fits_in { IfOk result (FitsIn world.now.ctx) }
+    ensures edits { IfOk result (HasPlan cast_back world.now op node.now) }
+    ensures reason { IfOk result (HasReason tests.cast_back world.now node.now) }
+    ensures fits_in { IfOk result (λ a. IfOk a (PlanIsOf world.now.ctx)) }
 {
     let Some(p) = unary_op(node) else {
-        return Ok(None);
+        return Ok(Err(Reason::WrongOperation));
     };
     if world
         .ctx
@@ -169,7 +178,7 @@ pub(crate) fn plan_cast_back(
         return unrealized(alloc, world, op, &p);
     }
     if !is_index_cast(&world.ctx, p.name) {
-        return Ok(None);
+        return Ok(Err(Reason::WrongOperation));
     }
     through_index(alloc, world, op, &p)
 }

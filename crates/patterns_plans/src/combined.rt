@@ -1,9 +1,13 @@
 //! Plans of the rules that make a constant and an operation on it.
 ghost use Rattle.std.specs.Prelude.{◌≡◌, IfOk, ℕ};
+ghost use Rattle.std.specs.Result.{result_ok};
 ghost use Rattle.ir_event.specs.Modules.{NodeIsOf};
 ghost use Rattle.patterns_matchers.specs.Folding.{regroup_constants, add_negative};
-ghost use Rattle.patterns_plans.specs.Planned.{FitsIn, IsPlanned};
+ghost use Rattle.patterns_matchers.specs.Plans.{PlanIsOf};
+ghost use Rattle.patterns_plans.specs.Planned.{HasPlan, HasReason, IsPlanned, HasRegroupReason};
+ghost use Rattle.patterns_plans.specs.RuleTests as tests;
 
+use crate::reason::Reason;
 use dialects_int::fold::fold;
 use ir_event::store::node::Node;
 use ir_event::types::word::Word;
@@ -22,28 +26,29 @@ pub(crate) fn plan_regroup_constants(
     alloc: Global,
     world: &World,
     node: &Node<'_>,
-) -> Result<Option<RewritePlan>, AllocError>
+) -> Result<Result<RewritePlan, Reason>, AllocError>
     requires of { NodeIsOf world.now.ctx node.now }
-    ensures edits { (x : ℕ) → IfOk result (IsPlanned regroup_constants world.now x node.now) }
-    ensures fits_in { IfOk result (FitsIn world.now.ctx) }
+    ensures edits { (x : ℕ) → IfOk result (λ a. IsPlanned regroup_constants world.now x node.now (result_ok a)) }
+    ensures reason { IfOk result (HasRegroupReason world.now node.now) }
+    ensures fits_in { IfOk result (λ a. IfOk a (PlanIsOf world.now.ctx)) }
 {
     let Some(p) = binary_op(node) else {
-        return Ok(None);
+        return Ok(Err(Reason::WrongOperation));
     };
     if !is_associative(&world.ctx, p.name) {
-        return Ok(None);
+        return Ok(Err(Reason::WrongOperation));
     }
     let Some(outer) = constant_value(alloc, world, &p.second)? else {
-        return Ok(None);
+        return Ok(Err(Reason::SecondNotConstant));
     };
     let Some(inside) = defining_op_named(alloc, world, p.name, &p.first)? else {
-        return Ok(None);
+        return Ok(Err(Reason::NoDefiningOp));
     };
     let Some(q) = binary_op(&inside) else {
-        return Ok(None);
+        return Ok(Err(Reason::NoDefiningOp));
     };
     let Some(inner) = constant_value(alloc, world, &q.second)? else {
-        return Ok(None);
+        return Ok(Err(Reason::InnerNotConstant));
     };
     match fold(
         &world.ctx,
@@ -59,9 +64,9 @@ pub(crate) fn plan_regroup_constants(
                 value: q.first,
                 bits: bits.value,
             };
-            Ok(Some(RewritePlan::Large(Box::new(alloc, plan)?)))
+            Ok(Ok(RewritePlan::Large(Box::new(alloc, plan)?)))
         }
-        None => Ok(None),
+        None => Ok(Err(Reason::DoesNotFold)),
     }
 }
 
@@ -71,19 +76,20 @@ pub(crate) fn plan_add_negative(
     alloc: Global,
     world: &World,
     node: &Node<'_>,
-) -> Result<Option<RewritePlan>, AllocError>
+) -> Result<Result<RewritePlan, Reason>, AllocError>
     requires of { NodeIsOf world.now.ctx node.now }
-    ensures edits { (x : ℕ) → IfOk result (IsPlanned add_negative world.now x node.now) }
-    ensures fits_in { IfOk result (FitsIn world.now.ctx) }
+    ensures edits { (x : ℕ) → IfOk result (HasPlan add_negative world.now x node.now) }
+    ensures reason { IfOk result (HasReason tests.add_negative world.now node.now) }
+    ensures fits_in { IfOk result (λ a. IfOk a (PlanIsOf world.now.ctx)) }
 {
     let Some(p) = binary_op(node) else {
-        return Ok(None);
+        return Ok(Err(Reason::WrongOperation));
     };
     if !world.ctx.is_word(p.name, Word::ArithSubi) {
-        return Ok(None);
+        return Ok(Err(Reason::WrongOperation));
     }
     let Some(bits) = constant_value(alloc, world, &p.second)? else {
-        return Ok(None);
+        return Ok(Err(Reason::SecondNotConstant));
     };
     let plan = LargePlan::CombinedConstant {
         name: word_name(&world.ctx, Word::ArithAddi),
@@ -91,5 +97,5 @@ pub(crate) fn plan_add_negative(
         value: p.first,
         bits: negated_bits(type_width(&world.ctx, p.ty), bits.value),
     };
-    Ok(Some(RewritePlan::Large(Box::new(alloc, plan)?)))
+    Ok(Ok(RewritePlan::Large(Box::new(alloc, plan)?)))
 }

@@ -2,8 +2,11 @@
 ghost use Rattle.std.specs.Prelude.{◌≡◌, IfOk, ℕ};
 ghost use Rattle.ir_event.specs.Modules.{NodeIsOf};
 ghost use Rattle.patterns_matchers.specs.Folding.{expand_min_max, expand_difference, expand_remainder};
-ghost use Rattle.patterns_plans.specs.Planned.{FitsIn, IsPlanned};
+ghost use Rattle.patterns_matchers.specs.Plans.{PlanIsOf};
+ghost use Rattle.patterns_plans.specs.Planned.{HasPlan, HasReason};
+ghost use Rattle.patterns_plans.specs.RuleTests as tests;
 
+use crate::reason::Reason;
 use ir_event::store::node::Node;
 use ir_event::types::word::Word;
 use ir_event::world::World;
@@ -19,16 +22,17 @@ pub(crate) fn plan_expand_min_max(
     alloc: Global,
     world: &World,
     node: &Node<'_>,
-) -> Result<Option<RewritePlan>, AllocError>
+) -> Result<Result<RewritePlan, Reason>, AllocError>
     requires of { NodeIsOf world.now.ctx node.now }
-    ensures edits { (x : ℕ) → IfOk result (IsPlanned expand_min_max world.now x node.now) }
-    ensures fits_in { IfOk result (FitsIn world.now.ctx) }
+    ensures edits { (x : ℕ) → IfOk result (HasPlan expand_min_max world.now x node.now) }
+    ensures reason { IfOk result (HasReason tests.expand_min_max world.now node.now) }
+    ensures fits_in { IfOk result (λ a. IfOk a (PlanIsOf world.now.ctx)) }
 {
     let Some(p) = binary_op(node) else {
-        return Ok(None);
+        return Ok(Err(Reason::WrongOperation));
     };
     let Some(predicate) = predicate_of_min_max(&world.ctx, p.name) else {
-        return Ok(None);
+        return Ok(Err(Reason::WrongOperation));
     };
     let plan = LargePlan::CompareAndSelect {
         predicate,
@@ -36,7 +40,7 @@ pub(crate) fn plan_expand_min_max(
         first: p.first,
         second: p.second,
     };
-    Ok(Some(RewritePlan::Large(Box::new(alloc, plan)?)))
+    Ok(Ok(RewritePlan::Large(Box::new(alloc, plan)?)))
 }
 
 /// Plans `expand-difference`: a difference becomes a sum with the complement, plus 1.
@@ -45,16 +49,17 @@ pub(crate) fn plan_expand_difference(
     alloc: Global,
     world: &World,
     node: &Node<'_>,
-) -> Result<Option<RewritePlan>, AllocError>
+) -> Result<Result<RewritePlan, Reason>, AllocError>
     requires of { NodeIsOf world.now.ctx node.now }
-    ensures edits { (x : ℕ) → IfOk result (IsPlanned expand_difference world.now x node.now) }
-    ensures fits_in { IfOk result (FitsIn world.now.ctx) }
+    ensures edits { (x : ℕ) → IfOk result (HasPlan expand_difference world.now x node.now) }
+    ensures reason { IfOk result (HasReason tests.expand_difference world.now node.now) }
+    ensures fits_in { IfOk result (λ a. IfOk a (PlanIsOf world.now.ctx)) }
 {
     let Some(p) = binary_op(node) else {
-        return Ok(None);
+        return Ok(Err(Reason::WrongOperation));
     };
     if !world.ctx.is_word(p.name, Word::ArithSubi) {
-        return Ok(None);
+        return Ok(Err(Reason::WrongOperation));
     }
     let plan = LargePlan::Difference {
         ty: p.ty,
@@ -62,7 +67,7 @@ pub(crate) fn plan_expand_difference(
         second: p.second,
         ones: all_ones(&world.ctx, p.ty),
     };
-    Ok(Some(RewritePlan::Large(Box::new(alloc, plan)?)))
+    Ok(Ok(RewritePlan::Large(Box::new(alloc, plan)?)))
 }
 
 /// Plans `expand-remainder`: a remainder becomes a difference with the product of the quotient.
@@ -71,16 +76,17 @@ pub(crate) fn plan_expand_remainder(
     alloc: Global,
     world: &World,
     node: &Node<'_>,
-) -> Result<Option<RewritePlan>, AllocError>
+) -> Result<Result<RewritePlan, Reason>, AllocError>
     requires of { NodeIsOf world.now.ctx node.now }
-    ensures edits { (x : ℕ) → IfOk result (IsPlanned expand_remainder world.now x node.now) }
-    ensures fits_in { IfOk result (FitsIn world.now.ctx) }
+    ensures edits { (x : ℕ) → IfOk result (HasPlan expand_remainder world.now x node.now) }
+    ensures reason { IfOk result (HasReason tests.expand_remainder world.now node.now) }
+    ensures fits_in { IfOk result (λ a. IfOk a (PlanIsOf world.now.ctx)) }
 {
     let Some(p) = binary_op(node) else {
-        return Ok(None);
+        return Ok(Err(Reason::WrongOperation));
     };
     let Some(division) = division_of_remainder(&world.ctx, p.name) else {
-        return Ok(None);
+        return Ok(Err(Reason::WrongOperation));
     };
     let plan = LargePlan::Remainder {
         division,
@@ -88,5 +94,5 @@ pub(crate) fn plan_expand_remainder(
         first: p.first,
         second: p.second,
     };
-    Ok(Some(RewritePlan::Large(Box::new(alloc, plan)?)))
+    Ok(Ok(RewritePlan::Large(Box::new(alloc, plan)?)))
 }

@@ -3,8 +3,11 @@ ghost use Rattle.std.specs.Prelude.{◌≡◌, IfOk, ℕ};
 ghost use Rattle.ir_event.specs.Modules.{NodeIsOf};
 ghost use Rattle.patterns_matchers.specs.Folding.{drop_zero, drop_one, drop_all_ones, keep_itself, choose_same};
 ghost use Rattle.patterns_matchers.specs.Folding.{choose_known, choose_truth};
-ghost use Rattle.patterns_plans.specs.Planned.{FitsIn, IsPlanned};
+ghost use Rattle.patterns_matchers.specs.Plans.{PlanIsOf};
+ghost use Rattle.patterns_plans.specs.Planned.{HasPlan, HasReason};
+ghost use Rattle.patterns_plans.specs.RuleTests as tests;
 
+use crate::reason::Reason;
 use ir_event::store::node::Node;
 use ir_event::trees::uses::is_same;
 use ir_event::types::ids::OpId;
@@ -26,20 +29,24 @@ pub(crate) fn plan_drop_zero(
     world: &World,
     op: OpId,
     node: &Node<'_>,
-) -> Result<Option<RewritePlan>, AllocError>
-    ensures edits { IfOk result (IsPlanned drop_zero world.now op node.now) }
-    ensures fits_in { IfOk result (FitsIn world.now.ctx) }
+) -> Result<Result<RewritePlan, Reason>, AllocError>
+    ensures edits { IfOk result (HasPlan drop_zero world.now op node.now) }
+    ensures reason { IfOk result (HasReason tests.drop_zero world.now node.now) }
+    ensures fits_in { IfOk result (λ a. IfOk a (PlanIsOf world.now.ctx)) }
 {
     let Some(p) = binary_op(node) else {
-        return Ok(None);
+        return Ok(Err(Reason::WrongOperation));
     };
     if !has_zero_as_right_identity(&world.ctx, p.name) {
-        return Ok(None);
+        return Ok(Err(Reason::WrongOperation));
     }
-    if !is_number(alloc, world, 0, &p.second)? {
-        return Ok(None);
+    let Some(bits) = constant_value(alloc, world, &p.second)? else {
+        return Ok(Err(Reason::SecondNotConstant));
+    };
+    if bits.value != 0 {
+        return Ok(Err(Reason::SecondNotZero));
     }
-    Ok(Some(RewritePlan::Give { value: p.first }))
+    Ok(Ok(RewritePlan::Give { value: p.first }))
 }
 
 /// Plans `drop-one`: a second operand 1 leaves the first operand.
@@ -49,20 +56,24 @@ pub(crate) fn plan_drop_one(
     world: &World,
     op: OpId,
     node: &Node<'_>,
-) -> Result<Option<RewritePlan>, AllocError>
-    ensures edits { IfOk result (IsPlanned drop_one world.now op node.now) }
-    ensures fits_in { IfOk result (FitsIn world.now.ctx) }
+) -> Result<Result<RewritePlan, Reason>, AllocError>
+    ensures edits { IfOk result (HasPlan drop_one world.now op node.now) }
+    ensures reason { IfOk result (HasReason tests.drop_one world.now node.now) }
+    ensures fits_in { IfOk result (λ a. IfOk a (PlanIsOf world.now.ctx)) }
 {
     let Some(p) = binary_op(node) else {
-        return Ok(None);
+        return Ok(Err(Reason::WrongOperation));
     };
     if !has_one_as_right_identity(&world.ctx, p.name) {
-        return Ok(None);
+        return Ok(Err(Reason::WrongOperation));
     }
-    if !is_number(alloc, world, 1, &p.second)? {
-        return Ok(None);
+    let Some(bits) = constant_value(alloc, world, &p.second)? else {
+        return Ok(Err(Reason::SecondNotConstant));
+    };
+    if bits.value != 1 {
+        return Ok(Err(Reason::SecondNotOne));
     }
-    Ok(Some(RewritePlan::Give { value: p.first }))
+    Ok(Ok(RewritePlan::Give { value: p.first }))
 }
 
 /// Plans `drop-all-ones`: a second operand with all bits set leaves the first operand.
@@ -72,60 +83,71 @@ pub(crate) fn plan_drop_all_ones(
     world: &World,
     op: OpId,
     node: &Node<'_>,
-) -> Result<Option<RewritePlan>, AllocError>
+) -> Result<Result<RewritePlan, Reason>, AllocError>
     requires of { NodeIsOf world.now.ctx node.now }
-    ensures edits { IfOk result (IsPlanned drop_all_ones world.now op node.now) }
-    ensures fits_in { IfOk result (FitsIn world.now.ctx) }
+    ensures edits { IfOk result (HasPlan drop_all_ones world.now op node.now) }
+    ensures reason { IfOk result (HasReason tests.drop_all_ones world.now node.now) }
+    ensures fits_in { IfOk result (λ a. IfOk a (PlanIsOf world.now.ctx)) }
 {
     let Some(p) = binary_op(node) else {
-        return Ok(None);
+        return Ok(Err(Reason::WrongOperation));
     };
     if !world.ctx.is_word(p.name, Word::ArithAndi) {
-        return Ok(None);
+        return Ok(Err(Reason::WrongOperation));
     }
     let Some(bits) = constant_value(alloc, world, &p.second)? else {
-        return Ok(None);
+        return Ok(Err(Reason::SecondNotConstant));
     };
     if bits.value != all_ones(&world.ctx, p.ty) {
-        return Ok(None);
+        return Ok(Err(Reason::SecondNotAllOnes));
     }
-    Ok(Some(RewritePlan::Give { value: p.first }))
+    Ok(Ok(RewritePlan::Give { value: p.first }))
 }
 
 /// Plans `keep-itself`: an operation on a value and itself becomes the value.
 #[inline(never)]
-pub(crate) fn plan_keep_itself(world: &World, op: OpId, node: &Node<'_>) -> Option<RewritePlan>
-    ensures edits { IsPlanned keep_itself world.now op node.now result }
-    ensures fits_in { FitsIn world.now.ctx result }
+pub(crate) fn plan_keep_itself(
+    world: &World,
+    op: OpId,
+    node: &Node<'_>,
+) -> Result<RewritePlan, Reason>
+    ensures edits { HasPlan keep_itself world.now op node.now result }
+    ensures reason { HasReason tests.keep_itself world.now node.now result }
+    ensures fits_in { IfOk result (PlanIsOf world.now.ctx) }
 {
     let Some(p) = binary_op(node) else {
-        return None;
+        return Err(Reason::WrongOperation);
     };
     if !is_idempotent(&world.ctx, p.name) {
-        return None;
+        return Err(Reason::WrongOperation);
     }
     if !is_same(&p.first, &p.second) {
-        return None;
+        return Err(Reason::OperandsDiffer);
     }
-    Some(RewritePlan::Give { value: p.first })
+    Ok(RewritePlan::Give { value: p.first })
 }
 
 /// Plans `choose-same`: a select between a value and itself becomes the value.
 #[inline(never)]
-pub(crate) fn plan_choose_same(world: &World, op: OpId, node: &Node<'_>) -> Option<RewritePlan>
-    ensures edits { IsPlanned choose_same world.now op node.now result }
-    ensures fits_in { FitsIn world.now.ctx result }
+pub(crate) fn plan_choose_same(
+    world: &World,
+    op: OpId,
+    node: &Node<'_>,
+) -> Result<RewritePlan, Reason>
+    ensures edits { HasPlan choose_same world.now op node.now result }
+    ensures reason { HasReason tests.choose_same world.now node.now result }
+    ensures fits_in { IfOk result (PlanIsOf world.now.ctx) }
 {
     let Some(p) = ternary_op(node) else {
-        return None;
+        return Err(Reason::WrongOperation);
     };
     if !world.ctx.is_word(p.name, Word::ArithSelect) {
-        return None;
+        return Err(Reason::WrongOperation);
     }
     if !is_same(&p.second, &p.third) {
-        return None;
+        return Err(Reason::OperandsDiffer);
     }
-    Some(RewritePlan::Give { value: p.second })
+    Ok(RewritePlan::Give { value: p.second })
 }
 
 /// Plans `choose-known`: a select with a constant condition becomes the selected value.
@@ -135,21 +157,22 @@ pub(crate) fn plan_choose_known(
     world: &World,
     op: OpId,
     node: &Node<'_>,
-) -> Result<Option<RewritePlan>, AllocError>
-    ensures edits { IfOk result (IsPlanned choose_known world.now op node.now) }
-    ensures fits_in { IfOk result (FitsIn world.now.ctx) }
+) -> Result<Result<RewritePlan, Reason>, AllocError>
+    ensures edits { IfOk result (HasPlan choose_known world.now op node.now) }
+    ensures reason { IfOk result (HasReason tests.choose_known world.now node.now) }
+    ensures fits_in { IfOk result (λ a. IfOk a (PlanIsOf world.now.ctx)) }
 {
     let Some(p) = ternary_op(node) else {
-        return Ok(None);
+        return Ok(Err(Reason::WrongOperation));
     };
     if !world.ctx.is_word(p.name, Word::ArithSelect) {
-        return Ok(None);
+        return Ok(Err(Reason::WrongOperation));
     }
     let Some(bits) = constant_value(alloc, world, &p.first)? else {
-        return Ok(None);
+        return Ok(Err(Reason::FirstNotConstant));
     };
     let chosen = if bits.value == 0 { p.third } else { p.second };
-    Ok(Some(RewritePlan::Give { value: chosen }))
+    Ok(Ok(RewritePlan::Give { value: chosen }))
 }
 
 /// Plans `choose-truth`: a select between true and false becomes the condition.
@@ -159,25 +182,29 @@ pub(crate) fn plan_choose_truth(
     world: &World,
     op: OpId,
     node: &Node<'_>,
-) -> Result<Option<RewritePlan>, AllocError>
+) -> Result<Result<RewritePlan, Reason>, AllocError>
     requires of { NodeIsOf world.now.ctx node.now }
-    ensures edits { IfOk result (IsPlanned choose_truth world.now op node.now) }
-    ensures fits_in { IfOk result (FitsIn world.now.ctx) }
+    ensures edits { IfOk result (HasPlan choose_truth world.now op node.now) }
+    ensures reason { IfOk result (HasReason tests.choose_truth world.now node.now) }
+    ensures fits_in { IfOk result (λ a. IfOk a (PlanIsOf world.now.ctx)) }
 {
     let Some(p) = ternary_op(node) else {
-        return Ok(None);
+        return Ok(Err(Reason::WrongOperation));
     };
     if !world.ctx.is_word(p.name, Word::ArithSelect) {
-        return Ok(None);
+        return Ok(Err(Reason::WrongOperation));
     }
     if !is_boolean(&world.ctx, p.ty) {
-        return Ok(None);
+        return Ok(Err(Reason::OtherType));
     }
-    if !is_number(alloc, world, 1, &p.second)? {
-        return Ok(None);
+    let Some(bits) = constant_value(alloc, world, &p.second)? else {
+        return Ok(Err(Reason::SecondNotConstant));
+    };
+    if bits.value != 1 {
+        return Ok(Err(Reason::SecondNotOne));
     }
     if !is_number(alloc, world, 0, &p.third)? {
-        return Ok(None);
+        return Ok(Err(Reason::ThirdNotZero));
     }
-    Ok(Some(RewritePlan::Give { value: p.first }))
+    Ok(Ok(RewritePlan::Give { value: p.first }))
 }

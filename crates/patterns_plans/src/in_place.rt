@@ -2,8 +2,11 @@
 ghost use Rattle.std.specs.Prelude.{◌≡◌, IfOk, ℕ};
 ghost use Rattle.ir_event.specs.Modules.{NodeIsOf};
 ghost use Rattle.patterns_matchers.specs.Folding.{swap_constant, mirror_comparison, choose_opposite};
-ghost use Rattle.patterns_plans.specs.Planned.{FitsIn, IsPlanned};
+ghost use Rattle.patterns_matchers.specs.Plans.{PlanIsOf};
+ghost use Rattle.patterns_plans.specs.Planned.{HasPlan, HasReason};
+ghost use Rattle.patterns_plans.specs.RuleTests as tests;
 
+use crate::reason::Reason;
 use ir_event::store::node::Node;
 use ir_event::types::ids::OpId;
 use ir_event::types::word::Word;
@@ -24,21 +27,22 @@ pub(crate) fn plan_swap_constant(
     world: &World,
     op: OpId,
     node: &Node<'_>,
-) -> Result<Option<RewritePlan>, AllocError>
-    ensures edits { IfOk result (IsPlanned swap_constant world.now op node.now) }
-    ensures fits_in { IfOk result (FitsIn world.now.ctx) }
+) -> Result<Result<RewritePlan, Reason>, AllocError>
+    ensures edits { IfOk result (HasPlan swap_constant world.now op node.now) }
+    ensures reason { IfOk result (HasReason tests.swap_constant world.now node.now) }
+    ensures fits_in { IfOk result (λ a. IfOk a (PlanIsOf world.now.ctx)) }
 {
     let Some(p) = binary_op(node) else {
-        return Ok(None);
+        return Ok(Err(Reason::WrongOperation));
     };
     if !is_commutative(&world.ctx, p.name) {
-        return Ok(None);
+        return Ok(Err(Reason::WrongOperation));
     }
     if !is_known(alloc, world, &p.first)? {
-        return Ok(None);
+        return Ok(Err(Reason::FirstNotConstant));
     }
     if is_constant(world, &p.second) {
-        return Ok(None);
+        return Ok(Err(Reason::SecondConstant));
     }
     let mut edits = Vec::new(alloc);
     edits.push(Edit::SetOperand {
@@ -51,7 +55,7 @@ pub(crate) fn plan_swap_constant(
         operand: 1,
         value: p.first,
     })?;
-    Ok(Some(RewritePlan::Edits(edits)))
+    Ok(Ok(RewritePlan::Edits(edits)))
 }
 
 /// Plans `mirror-comparison`: the operands of a comparison are swapped, and its predicate is mirrored, if the first is
@@ -61,32 +65,33 @@ pub(crate) fn plan_mirror_comparison(
     alloc: Global,
     world: &World,
     node: &Node<'_>,
-) -> Result<Option<RewritePlan>, AllocError>
+) -> Result<Result<RewritePlan, Reason>, AllocError>
     requires of { NodeIsOf world.now.ctx node.now }
-    ensures edits { (x : ℕ) → IfOk result (IsPlanned mirror_comparison world.now x node.now) }
-    ensures fits_in { IfOk result (FitsIn world.now.ctx) }
+    ensures edits { (x : ℕ) → IfOk result (HasPlan mirror_comparison world.now x node.now) }
+    ensures reason { IfOk result (HasReason tests.mirror_comparison world.now node.now) }
+    ensures fits_in { IfOk result (λ a. IfOk a (PlanIsOf world.now.ctx)) }
 {
     let Some(p) = binary_op(node) else {
-        return Ok(None);
+        return Ok(Err(Reason::WrongOperation));
     };
     if !world.ctx.is_word(p.name, Word::ArithCmpi) {
-        return Ok(None);
+        return Ok(Err(Reason::WrongOperation));
     }
     let Some(asks) = predicate(&world.ctx, node) else {
-        return Ok(None);
+        return Ok(Err(Reason::WrongOperation));
     };
     if !is_known(alloc, world, &p.first)? {
-        return Ok(None);
+        return Ok(Err(Reason::FirstNotConstant));
     }
     if is_constant(world, &p.second) {
-        return Ok(None);
+        return Ok(Err(Reason::SecondConstant));
     }
     let plan = LargePlan::SwapComparison {
         predicate: swapped_predicate(asks),
         first: p.second,
         second: p.first,
     };
-    Ok(Some(RewritePlan::Large(Box::new(alloc, plan)?)))
+    Ok(Ok(RewritePlan::Large(Box::new(alloc, plan)?)))
 }
 
 /// Plans `choose-opposite`: a select on a negated condition becomes one on the condition, with both values swapped.
@@ -96,24 +101,25 @@ pub(crate) fn plan_choose_opposite(
     world: &World,
     op: OpId,
     node: &Node<'_>,
-) -> Result<Option<RewritePlan>, AllocError>
-    ensures edits { IfOk result (IsPlanned choose_opposite world.now op node.now) }
-    ensures fits_in { IfOk result (FitsIn world.now.ctx) }
+) -> Result<Result<RewritePlan, Reason>, AllocError>
+    ensures edits { IfOk result (HasPlan choose_opposite world.now op node.now) }
+    ensures reason { IfOk result (HasReason tests.choose_opposite world.now node.now) }
+    ensures fits_in { IfOk result (λ a. IfOk a (PlanIsOf world.now.ctx)) }
 {
     let Some(p) = ternary_op(node) else {
-        return Ok(None);
+        return Ok(Err(Reason::WrongOperation));
     };
     if !world.ctx.is_word(p.name, Word::ArithSelect) {
-        return Ok(None);
+        return Ok(Err(Reason::WrongOperation));
     }
     let Some(opposite) = named_defining_op(alloc, world, Word::ArithXori, &p.first)? else {
-        return Ok(None);
+        return Ok(Err(Reason::NoDefiningOp));
     };
     let Some(q) = binary_op(&opposite) else {
-        return Ok(None);
+        return Ok(Err(Reason::NoDefiningOp));
     };
     if !is_number(alloc, world, 1, &q.second)? {
-        return Ok(None);
+        return Ok(Err(Reason::InnerNotOne));
     }
     let mut edits = Vec::new(alloc);
     edits.push(Edit::SetOperand {
@@ -131,5 +137,5 @@ pub(crate) fn plan_choose_opposite(
         operand: 2,
         value: p.second,
     })?;
-    Ok(Some(RewritePlan::Edits(edits)))
+    Ok(Ok(RewritePlan::Edits(edits)))
 }

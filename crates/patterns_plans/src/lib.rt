@@ -14,6 +14,7 @@ pub mod inlined;
 pub mod plan_rule;
 pub mod plans;
 pub mod quick_checks;
+pub mod reason;
 pub mod tests;
 mod trip_count;
 

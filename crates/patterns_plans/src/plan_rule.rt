@@ -1,8 +1,9 @@
 //! Plans each rule that reads only what the store shows of its operation.
-ghost use Rattle.std.specs.Prelude.{◌≡◌, IfOk, Some};
+ghost use Rattle.std.specs.Prelude.{◌≡◌, IfOk, Some, true};
 ghost use Rattle.ir_event.specs.Modules.{NodeIsOf, module_in};
 ghost use Rattle.patterns_matchers.specs.Reads.{head_at, header_of_node};
-ghost use Rattle.patterns_plans.specs.Planned.{FitsIn, IsPlanAt, IsPlannedRule};
+ghost use Rattle.patterns_matchers.specs.Plans.{PlanIsOf};
+ghost use Rattle.patterns_plans.specs.Planned.{FitsIn, IsAnswerAt, IsPlanAt, IsPlannedRule, reads_head};
 
 use crate::casts::{plan_cast_back, plan_cut_cast, plan_extend_extension};
 use crate::combined::{plan_add_negative, plan_regroup_constants};
@@ -17,6 +18,7 @@ use crate::fold_to_operand::{
     plan_drop_zero, plan_keep_itself,
 };
 use crate::in_place::{plan_choose_opposite, plan_mirror_comparison, plan_swap_constant};
+use crate::reason::Reason;
 use ir_event::store::node::Node;
 use ir_event::types::ids::OpId;
 use ir_event::world::World;
@@ -24,24 +26,26 @@ use patterns_matchers::plan::RewritePlan;
 use patterns_matchers::rule::Rule;
 use std::alloc::{AllocError, Global};
 
-/// Plans a rule at an operation, or returns `None` if the rule doesn't apply. `node` is what the store shows of the
-/// operation. The caller has checked that the operation is verified and has a place.
+/// Plans a rule that reads only the head of its operation, or returns the first of the rule's conditions that doesn't
+/// hold. `node` is what the store shows of the operation. The caller has checked that the operation is verified and has
+/// a place.
+///
+/// Errors: `AllocError` if memory runs out.
 #[inline(always)]
-pub fn plan(
+pub fn plan_or_reason(
     alloc: Global,
     world: &World,
     rule: Rule,
     op: OpId,
     node: &Node<'_>,
-) -> Result<Option<RewritePlan>, AllocError>
-    requires rule { IsPlannedRule rule }
+) -> Result<Result<RewritePlan, Reason>, AllocError>
+    requires rule { reads_head rule ≡ true }
     requires shown { Some (header_of_node world.now.ctx node.now) ≡ head_at op (module_in world.now).tree }
     requires of { NodeIsOf world.now.ctx node.now }
-    ensures edits { IfOk result (IsPlanAt rule world.now op) }
-    ensures fits_in { IfOk result (FitsIn world.now.ctx) }
+    ensures answer { IfOk result (IsAnswerAt rule world.now op node.now) }
+    ensures fits_in { IfOk result (λ a. IfOk a (PlanIsOf world.now.ctx)) }
 {
     match rule {
-        Rule::EraseDead => Ok(plan_erase_dead(world, op)),
         Rule::FoldToConstant => plan_fold_to_constant(alloc, world, node),
         Rule::SwapConstant => plan_swap_constant(alloc, world, op, node),
         Rule::DropZero => plan_drop_zero(alloc, world, op, node),
@@ -65,11 +69,37 @@ pub fn plan(
         Rule::ExpandMinMax => plan_expand_min_max(alloc, world, node),
         Rule::ExpandDifference => plan_expand_difference(alloc, world, node),
         Rule::ExpandRemainder => plan_expand_remainder(alloc, world, node),
-        Rule::OpenBranch
+        Rule::EraseDead
+        | Rule::OpenBranch
         | Rule::OpenLoop
         | Rule::StopLoop
         | Rule::LowerIndex
         | Rule::LowerLoop
-        | Rule::LowerChoice => Ok(None),
+        | Rule::LowerChoice => Ok(Err(Reason::WrongOperation)),
+    }
+}
+
+/// Plans a rule at an operation, or returns `None` if the rule doesn't apply. `node` is what the store shows of the
+/// operation. The caller has checked that the operation is verified and has a place.
+#[inline(always)]
+pub fn plan(
+    alloc: Global,
+    world: &World,
+    rule: Rule,
+    op: OpId,
+    node: &Node<'_>,
+) -> Result<Option<RewritePlan>, AllocError>
+    requires rule { IsPlannedRule rule }
+    requires shown { Some (header_of_node world.now.ctx node.now) ≡ head_at op (module_in world.now).tree }
+    requires of { NodeIsOf world.now.ctx node.now }
+    ensures edits { IfOk result (IsPlanAt rule world.now op) }
+    ensures fits_in { IfOk result (FitsIn world.now.ctx) }
+{
+    match rule {
+        Rule::EraseDead => Ok(plan_erase_dead(world, op)),
+        _ => {
+            let answer = plan_or_reason(alloc, world, rule, op, node)?;
+            Ok(answer.ok())
+        }
     }
 }

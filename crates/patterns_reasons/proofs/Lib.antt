@@ -1,5 +1,3 @@
 pub mod Making
-pub mod Parts
-pub mod Passing
 pub mod Reasoned
 pub mod ReportedReasons

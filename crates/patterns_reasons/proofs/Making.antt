@@ -9,18 +9,18 @@ use Rattle.ir_event.specs.trees.Meaning.{Operation}
 use Rattle.ir_event.proofs.of_tree_laws.Members.{found_stands}
 use Rattle.effects.specs.Dead.{is_unused}
 use Rattle.patterns_base.specs.Keeps.{given}
-use Rattle.patterns_base.specs.Looks.{Header, One, is_of_type, one, source}
+use Rattle.patterns_base.specs.Looks.{Header}
 use Rattle.patterns_base.specs.Opening.{open_branch, open_loop, stop_loop}
 use Rattle.patterns_base.specs.Rules.{rule}
 use Rattle.patterns_base.specs.declared.rule.Rule.{Rule}
 use Rattle.patterns_base.specs.declared.rule.Rule.TheVariants.{OpenBranch, OpenLoop, StopLoop}
 use Rattle.patterns_matchers.specs.Reads.{head_at}
 use Rattle.patterns_plans.specs.RegionRules.{open_branch_at, open_loop_at, stop_loop_at}
-use Rattle.patterns_reasons.specs.declared.reason.Reason.TheVariants.{HasEffects, NoDefiningOp, Used}
-use Rattle.patterns_reasons.specs.Conditions.{first_failed_test}
-use Rattle.patterns_reasons.specs.Tests.{erase_dead, index_tests, unrealized_tests}
+use Rattle.patterns_plans.specs.declared.reason.Reason.TheVariants.{HasEffects, Used}
+use Rattle.patterns_plans.specs.Conditions.{first_failed_test}
+use Rattle.patterns_plans.specs.RuleTests.{erase_dead}
 
-mapped_some : {X Y : Type 0} (f : X → Y) (p : Option X) → is_some p ≡ is_some (option_map f p)
+pub mapped_some : {X Y : Type 0} (f : X → Y) (p : Option X) → is_some p ≡ is_some (option_map f p)
 mapped_some f None = refl
 mapped_some f (Some x) = refl
 
@@ -66,14 +66,3 @@ module _ (t : Operation) (h : Header) where
 
   pub dead_reported : (a : Bool) → is_unused h.id t ≡ true → a ≡ true → None ≡ first_failed_test (erase_dead t h a)
   dead_reported a u f = rw (u, f) refl
-
--- ---- casts whose operand isn't a cast's result
-module _ (t : Operation) (p : One) (s : Option Header) (h : Header) (e : s ≡ source t p.name p.first) (is : s ≡ Some h) (none : None ≡ one h) where
-  none_inside : given (source t p.name p.first) one ≡ None
-  none_inside = ap (λ q. given q one) (sym e ∙ is) ∙ sym none
-
-  pub no_index_cast : Some NoDefiningOp ≡ first_failed_test (index_tests t p)
-  no_index_cast = rw none_inside refl
-
-  pub no_unrealized_cast : (b : Bool) → b ≡ is_of_type t p.ty p.first → b ≡ false → Some NoDefiningOp ≡ first_failed_test (unrealized_tests t p)
-  no_unrealized_cast b i f = rw (none_inside, sym i ∙ f) refl

@@ -1,23 +1,30 @@
 -- The reason why a rule doesn't apply at an operation that the store shows.
-use Rattle.std.proofs.Common.{◌≡◌, ◌∙◌, ap, sym, refl, ℕ, List, Bool, true, false, Option, Some, None}
-use Rattle.std.specs.Prelude.{if◌then◌else◌, is_some, option_map}
+use Rattle.std.proofs.Common.{◌≡◌, ◌∙◌, ap, sym, refl, ℕ, List, Bool, true, false, true≢false, Option, Some, None}
+use Rattle.std.proofs.lemmas.Option.{same_Some}
+use Rattle.std.specs.Prelude.{if◌then◌else◌, is_ok, is_some, option_map, Result, Ok, Err}
+use Rattle.std.specs.Result.{result_err, result_ok}
 use Rattle.ir_event.specs.trees.declared.place.Place.{Place}
 use Rattle.ir_event.specs.trees.Tree.{head}
 use Rattle.ir_event.specs.trees.Ids.{find}
 use Rattle.ir_event.specs.trees.Meaning.{Operation}
-use Rattle.ir_event.specs.Modules.{Module}
+use Rattle.ir_event.specs.Modules.{Module, module_in}
+use Rattle.ir_event.specs.store.Nodes.{Node}
+use Rattle.ir_event.specs.declared.world.World.{World}
 use Rattle.patterns_base.specs.Keeps.{given}
 use Rattle.patterns_base.specs.Looks.{Header, insertion_of, when}
 use Rattle.patterns_base.specs.Rewrites.{edits_of, eligible}
 use Rattle.patterns_base.specs.Rules.{has_rule, rule}
 use Rattle.patterns_base.specs.declared.rule.Rule.{Rule}
-use Rattle.patterns_matchers.specs.Reads.{head_at}
-use Rattle.patterns_reasons.specs.declared.reason.Reason.{Reason}
-use Rattle.patterns_reasons.specs.declared.reason.Reason.TheVariants.{NotVerified, WrongOperation, IsRoot}
-use Rattle.patterns_reasons.specs.Conditions.{first_failed_test, unless_holds}
-use Rattle.patterns_reasons.specs.Tests.{asks_block, block_tests, header_tests, tests}
-use Rattle.patterns_reasons.specs.Reasons.{Makes, applies, conditions, reason_of}
-use Rattle.patterns_reasons.proofs.Making.{shown_of}
+use Rattle.patterns_base.specs.declared.rule.Rule.TheVariants as rules
+use Rattle.patterns_matchers.specs.Reads.{head_at, header_of_node}
+use Rattle.patterns_matchers.specs.declared.plan.RewritePlan.{RewritePlan}
+use Rattle.patterns_plans.specs.declared.reason.Reason.{Reason}
+use Rattle.patterns_plans.specs.declared.reason.Reason.TheVariants.{NotVerified, WrongOperation, IsRoot}
+use Rattle.patterns_plans.specs.Conditions.{first_failed_test, unless_holds}
+use Rattle.patterns_plans.specs.Planned.{IsAnswerAt, reads_head}
+use Rattle.patterns_plans.specs.RuleTests.{asks_block, block_tests, header_tests, tests}
+use Rattle.patterns_reasons.specs.Reasons.{IsReasonAt, applies, conditions, reason_of}
+use Rattle.patterns_reasons.proofs.Making.{mapped_some, shown_of}
 
 -- ---- the conditions of a rule itself
 module _ (r : Rule) (t : Operation) (o : Operation) (a : Bool) (k : Option Reason) where
@@ -28,6 +35,57 @@ module _ (r : Rule) (t : Operation) (o : Operation) (a : Bool) (k : Option Reaso
   by_header h b s e =
       e ∙ ap (λ (h : Header). first_failed_test (header_tests r t h a)) (sym s)
       ∙ sym (ap (λ b. first_failed_test (if b then block_tests r t o a else header_tests r t (head o) a)) b)
+
+-- a rule that reads only the head of its operation
+head_only : (r : Rule) → reads_head r ≡ true → asks_block r ≡ false
+head_only rules.OpenLoop e = absurd (true≢false (sym e))
+head_only rules.StopLoop e = absurd (true≢false (sym e))
+head_only rules.EraseDead e = refl
+head_only rules.FoldToConstant e = refl
+head_only rules.SwapConstant e = refl
+head_only rules.DropZero e = refl
+head_only rules.DropOne e = refl
+head_only rules.DropAllOnes e = refl
+head_only rules.CancelItself e = refl
+head_only rules.KeepItself e = refl
+head_only rules.ZeroRemainder e = refl
+head_only rules.RegroupConstants e = refl
+head_only rules.AddNegative e = refl
+head_only rules.CompareItself e = refl
+head_only rules.MirrorComparison e = refl
+head_only rules.CompareZero e = refl
+head_only rules.ChooseSame e = refl
+head_only rules.ChooseKnown e = refl
+head_only rules.ChooseTruth e = refl
+head_only rules.ChooseOpposite e = refl
+head_only rules.ExtendExtension e = refl
+head_only rules.CutCast e = refl
+head_only rules.CastBack e = refl
+head_only rules.OpenBranch e = refl
+head_only rules.ExpandMinMax e = refl
+head_only rules.ExpandDifference e = refl
+head_only rules.ExpandRemainder e = refl
+head_only rules.LowerIndex e = refl
+head_only rules.LowerLoop e = refl
+head_only rules.LowerChoice e = refl
+
+-- the reason of its answer
+pub answered : (r : Rule) (w : World) (x : ℕ) (node : Node) (point : Place) (a : Result RewritePlan Reason) → reads_head r ≡ true
+    → Some (header_of_node w.ctx node) ≡ head_at x (module_in w).tree → IsAnswerAt r w x node a → IsReasonAt r (module_in w) x point (result_err a)
+answered r w x node point a e shown answer o f =
+    by_header r t o (is_some (rule r t n point o)) (result_err a) (header_of_node w.ctx node) (head_only r e)
+    (sym (same_Some (header_of_node w.ctx node) (head o) (shown ∙ ap (option_map (λ o. head o)) f)))
+    (answer.1 ∙ ap (λ b. first_failed_test (header_tests r t (header_of_node w.ctx node) b)) (one a ∙ mapped_some _ (result_ok a) ∙ ap is_some (answer.0 o f n point)))
+  where
+    t : Operation
+    t = (module_in w).tree
+
+    n : ℕ
+    n = (module_in w).next
+
+    one : (a : Result RewritePlan Reason) → is_ok a ≡ is_some (result_ok a)
+    one (Ok p) = refl
+    one (Err c) = refl
 
 -- ---- the conditions of all rules
 reason_there : (r : Rule) (m : Module) (x : ℕ) (o : Operation) → find x m.tree ≡ Some o → reason_of r m x ≡ first_failed_test (conditions r m x o)
@@ -87,16 +145,14 @@ module _ (r : Rule) (m : Module) (x : ℕ) (h : Header) (e : Some h ≡ head_at 
       other d l n =
           sym (after_fit ∙ ap (λ c. unless_holds c WrongOperation (first_failed_test (tests r m.tree o (applies r m x)))) (ap (λ (j : Header). has_rule r j.name) same ∙ sym l ∙ n))
 
-      made : (a : Bool) → Makes r m x insertion a → a ≡ applies r m x
+      made : is_some (rule r m.tree m.next insertion o) ≡ applies r m x
       unfolding edits_of
-      made a k =
-          k o is
-          ∙ sym (ap (λ c. is_some (when c (rule r m.tree m.next insertion o))) eligible_it)
+      made =
+          sym (ap (λ c. is_some (when c (rule r m.tree m.next insertion o))) eligible_it)
           ∙ ap (λ (p : Option Place). is_some (given p (λ insertion. when (eligible r m.tree (head o)) (rule r m.tree m.next insertion o)))) f
           ∙ sym (ap (λ (q : Option Operation). is_some (given q (λ o. given (insertion_of x m.tree) (λ insertion. when (eligible r m.tree (head o)) (rule r m.tree m.next insertion o))))) is)
 
-      pub requested : (d : Bool) (a : Bool) (k : Option Reason) → d ≡ has_rule r h.name → d ≡ true → Makes r m x insertion a
-          → ((o : Operation) → find x m.tree ≡ Some o → k ≡ first_failed_test (tests r m.tree o a)) → k ≡ reason_of r m x
-      requested d a k l listed makes t =
-          t o is ∙ ap (λ a. first_failed_test (tests r m.tree o a)) (made a makes)
+      pub requested : (d : Bool) (k : Option Reason) → d ≡ has_rule r h.name → d ≡ true → IsReasonAt r m x insertion k → k ≡ reason_of r m x
+      requested d k l listed t =
+          t o is ∙ ap (λ a. first_failed_test (tests r m.tree o a)) made
           ∙ sym (after_fit ∙ ap (λ c. unless_holds c WrongOperation (first_failed_test (tests r m.tree o (applies r m x)))) (ap (λ (j : Header). has_rule r j.name) same ∙ sym l ∙ listed))

@@ -15,21 +15,13 @@ use Rattle.patterns_base.specs.Rewrites.{edits_of, eligible}
 use Rattle.patterns_base.specs.Rules.{has_rule, rule}
 use Rattle.patterns_base.proofs.Dispatch.{only_listed}
 use Rattle.patterns_base.specs.declared.rule.Rule.{Rule}
-use Rattle.patterns_reasons.specs.declared.reason.Reason.{Reason}
-use Rattle.patterns_reasons.specs.declared.reason.Reason.TheVariants.{IsRoot, NotVerified, WrongOperation}
-use Rattle.patterns_reasons.specs.Conditions.{Test, all_hold, asks, first_failed_test, unless_holds}
-use Rattle.patterns_reasons.specs.Tests.{tests}
+use Rattle.patterns_plans.specs.declared.reason.Reason.{Reason}
+use Rattle.patterns_plans.specs.declared.reason.Reason.TheVariants.{IsRoot, NotVerified, WrongOperation}
+use Rattle.patterns_plans.specs.Conditions.{Test, all_hold, asks, first_failed_test, unless_holds}
+use Rattle.patterns_plans.specs.RuleTests.{tests}
 use Rattle.patterns_reasons.specs.Reasons.{applies, conditions, reason_of, ReportedReasonsHold, NoReasonWhereRulesApply}
-use Rattle.patterns_reasons.proofs.Passing.{passes}
-
--- no condition fails exactly if all hold
-none_of : (b : Bool) (c : Reason) (ts : List Test) → is_none (first_failed_test ts) ≡ all_hold ts → is_none (unless_holds b c (first_failed_test ts)) ≡ (b && all_hold ts)
-none_of true c ts h = h
-none_of false c ts h = refl
-
-none_fails : (ts : List Test) → is_none (first_failed_test ts) ≡ all_hold ts
-none_fails [] = refl
-none_fails (t ∷ ts) = none_of t.holds t.condition ts (none_fails ts)
+use Rattle.patterns_plans.proofs.Answered.{none_fails}
+use Rattle.patterns_plans.proofs.Passing.{passes}
 
 -- a failed condition is in the list, and doesn't hold
 one_of : (b : Bool) (k : Reason) (ts : List Test) (c : Reason) → (first_failed_test ts ≡ Some c → In (asks c false) ts) → unless_holds b k (first_failed_test ts) ≡ Some c

@@ -11,10 +11,10 @@ use Rattle.patterns_base.specs.Looks.{insertion_of}
 use Rattle.patterns_base.specs.Rewrites.{edits_of, eligible}
 use Rattle.patterns_base.specs.Rules.{has_rule, rule, rules_for}
 use Rattle.patterns_base.specs.declared.rule.Rule.{Rule}
-use Rattle.patterns_reasons.specs.declared.reason.Reason.{Reason}
-use Rattle.patterns_reasons.specs.declared.reason.Reason.TheVariants.{IsRoot, NotVerified, WrongOperation}
-use Rattle.patterns_reasons.specs.Conditions.{Test, asks, first_failed_test}
-use Rattle.patterns_reasons.specs.Tests.{tests}
+use Rattle.patterns_plans.specs.declared.reason.Reason.{Reason}
+use Rattle.patterns_plans.specs.declared.reason.Reason.TheVariants.{IsRoot, NotVerified, WrongOperation}
+use Rattle.patterns_plans.specs.Conditions.{Test, asks, first_failed_test}
+use Rattle.patterns_plans.specs.RuleTests.{tests}
 
 -- the rules that the table lists for the name of an optional operation, by ascending number
 abbrev pub rules_for_op : Option Operation → List Rule
@@ -24,6 +24,11 @@ rules_for_op (Some o) = rules_for (head o).name
 -- whether rule r makes edits at operation x of a module after a place, if x is in the module
 abbrev pub Makes : Rule → Module → ℕ → Place → Bool → Type 0
 Makes r m x point b = (o : Operation) → find x m.tree ≡ Some o → b ≡ is_some (rule r m.tree m.next point o)
+
+-- the first test of rule r that fails at operation x of a module, after a place, if x is in the module
+abbrev pub IsReasonAt : Rule → Module → ℕ → Place → Option Reason → Type 0
+IsReasonAt r m x point c = (o : Operation) → find x m.tree ≡ Some o
+    → c ≡ first_failed_test (tests r m.tree o (is_some (rule r m.tree m.next point o)))
 
 -- whether rule r applies at operation x of a module
 abbrev pub applies : Rule → Module → ℕ → Bool

@@ -2,15 +2,12 @@
 #![tactic(auto)]
 
 mod applying;
-mod casts;
-mod choices;
-mod folding;
+mod dead;
 pub mod laws;
 pub mod listed;
 mod lowering;
 pub mod match_failure;
-mod pairs;
-pub mod reason;
 mod regions;
 
 pub use patterns_base::rule;
+pub use patterns_plans::reason;

@@ -6,10 +6,9 @@ ghost use Rattle.ir_event.specs.types.Terms.{type_term};
 ghost use Rattle.ir_event.specs.Modules.{NodeIsOf, module_in};
 ghost use Rattle.patterns_base.specs.Looks.{is_index, is_index_value};
 ghost use Rattle.patterns_matchers.specs.Reads.{header_of_node};
-ghost use Rattle.patterns_reasons.specs.Conditions.{first_failed_test};
-ghost use Rattle.patterns_reasons.specs.Tests.{lower_choice, lower_index, lower_loop};
+ghost use Rattle.patterns_plans.specs.Conditions.{first_failed_test};
+ghost use Rattle.patterns_plans.specs.RuleTests.{lower_choice, lower_index, lower_loop};
 
-use crate::reason::Reason;
 use ir_event::store::node::Node;
 use ir_event::trees::value::Value;
 use ir_event::types::context::Context;
@@ -17,6 +16,7 @@ use ir_event::types::ids::TypeId;
 use ir_event::types::word::Word;
 use ir_event::world::World;
 use ir_verify_base::types;
+use patterns_plans::reason::Reason;
 
 /// Returns whether a type is `index`.
 #[tactic(auto, using(patterns_lowering::proofs::Typed::index_is))]

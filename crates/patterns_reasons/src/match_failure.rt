@@ -1,21 +1,23 @@
 //! Finds the reason why a rule doesn't apply at an operation.
-ghost use Rattle.std.specs.Prelude.{◌≡◌, IfOk, Some};
+ghost use Rattle.std.specs.Prelude.{◌≡◌, ◌||◌, IfOk, Some, false, true};
 ghost use Rattle.std.specs.List.{list_any};
 ghost use Rattle.ir_event.specs.types.Terms.{name_term};
 ghost use Rattle.ir_event.specs.trees.Ids.{find};
 ghost use Rattle.ir_event.specs.trees.Meaning.{Operation};
 ghost use Rattle.ir_event.specs.Modules.{NodeIsOf, module_in};
 ghost use Rattle.patterns_base.specs.RuleNames.{same_rule};
+ghost use Rattle.patterns_base.specs.Rewrites.{eligible};
 ghost use Rattle.patterns_base.specs.Rules.{has_rule};
 ghost use Rattle.patterns_matchers.specs.Reads.{head_at, header_of_node};
-ghost use Rattle.patterns_reasons.specs.Conditions.{first_failed_test};
-ghost use Rattle.patterns_reasons.specs.Reasons.{reason_of};
-ghost use Rattle.patterns_reasons.specs.Tests.{asks_block, header_tests, tests};
+ghost use Rattle.patterns_plans.specs.Conditions.{first_failed_test};
+ghost use Rattle.patterns_plans.specs.Planned.{reads_head};
+ghost use Rattle.patterns_reasons.specs.Reasons.{IsReasonAt, reason_of};
+ghost use Rattle.patterns_plans.specs.RuleTests.{asks_block, header_tests, tests};
 
 use crate::applying::makes;
-use crate::reason::Reason;
-use crate::{casts, choices, folding, lowering, pairs, regions};
+use crate::{dead, lowering, regions};
 use ir_event::store::node::Node;
+use ir_event::trees::place::Place;
 use ir_event::types::context::Context;
 use ir_event::types::ids::{NameId, OpId};
 use ir_event::world::World;
@@ -23,6 +25,8 @@ use patterns_base::rule::Rule;
 use patterns_base::table::rules_of;
 use patterns_matchers::eligibility::eligibility_of;
 use patterns_matchers::nodes::{insertion_point_before, op_node};
+use patterns_plans::plan_rule::plan_or_reason;
+use patterns_plans::reason::Reason;
 use std::alloc::{AllocError, Global};
 
 /// Returns whether a rule is in a list.
@@ -47,7 +51,8 @@ fn has_rule(ctx: &Context, rule: Rule, name: NameId) -> bool
     is_among(rule, rules_of(name))
 }
 
-/// Returns the first failed condition of a rule, from what the store shows of an operation, or `None` if all hold.
+/// Returns the first failed condition of a rule with no condition on the operation's block, or `None` if all hold. The
+/// rule reads more than the head of the operation. `node` is what the store shows of it.
 fn of_header(
     alloc: Global,
     world: &World,
@@ -56,41 +61,19 @@ fn of_header(
     node: &Node<'_>,
     applies: bool,
 ) -> Result<Option<Reason>, AllocError>
+    requires rule { (asks_block rule || reads_head rule) ≡ false }
     requires shown { Some (header_of_node world.now.ctx node.now) ≡ head_at op (module_in world.now).tree }
     requires of { NodeIsOf world.now.ctx node.now }
     ensures { IfOk result (λ c. c ≡ first_failed_test
         (header_tests rule (module_in world.now).tree (header_of_node world.now.ctx node.now) applies)) }
 {
     match rule {
-        Rule::EraseDead => Ok(folding::erase_dead(world, op, node, applies)),
-        Rule::FoldToConstant => folding::fold_to_constant(alloc, world, node, applies),
-        Rule::SwapConstant => pairs::swap_constant(alloc, world, node),
-        Rule::DropZero => pairs::drop_zero(alloc, world, node),
-        Rule::DropOne => pairs::drop_one(alloc, world, node),
-        Rule::DropAllOnes => pairs::drop_all_ones(alloc, world, node),
-        Rule::CancelItself => Ok(pairs::cancel_itself(world, node)),
-        Rule::KeepItself => Ok(pairs::keep_itself(world, node)),
-        Rule::ZeroRemainder => pairs::zero_remainder(alloc, world, node),
-        Rule::RegroupConstants => folding::regroup_constants(alloc, world, node, applies),
-        Rule::AddNegative => pairs::add_negative(alloc, world, node),
-        Rule::CompareItself => Ok(pairs::compare_itself(world, node)),
-        Rule::MirrorComparison => pairs::mirror_comparison(alloc, world, node),
-        Rule::CompareZero => pairs::compare_zero(alloc, world, node),
-        Rule::ChooseSame => Ok(choices::choose_same(world, node)),
-        Rule::ChooseKnown => choices::choose_known(alloc, world, node),
-        Rule::ChooseTruth => choices::choose_truth(alloc, world, node),
-        Rule::ChooseOpposite => choices::choose_opposite(alloc, world, node),
-        Rule::ExtendExtension => casts::extend_extension(alloc, world, node),
-        Rule::CutCast => casts::cut_cast(alloc, world, node),
-        Rule::CastBack => casts::cast_back(alloc, world, node),
+        Rule::EraseDead => Ok(dead::erase_dead(world, op, node, applies)),
         Rule::OpenBranch => regions::open_branch(alloc, world, node, applies),
-        Rule::ExpandMinMax => Ok(pairs::expand_min_max(world, node)),
-        Rule::ExpandDifference => Ok(pairs::expand_difference(world, node)),
-        Rule::ExpandRemainder => Ok(pairs::expand_remainder(world, node)),
         Rule::LowerIndex => Ok(lowering::lower_index(world, node, applies)),
         Rule::LowerLoop => Ok(lowering::lower_loop(world, node, applies)),
         Rule::LowerChoice => Ok(lowering::lower_choice(world, node, applies)),
-        Rule::OpenLoop | Rule::StopLoop => Ok(None),
+        _ => Ok(None),
     }
 }
 
@@ -105,9 +88,9 @@ fn asks_block(rule: Rule) -> bool
     }
 }
 
-/// Returns the first failed condition of a rule at an operation of the module, or `None` if all hold. `node` is what
-/// the store shows of it. The caller has checked that the operation is eligible for the rule and isn't the root, and
-/// whether the rule applies.
+/// Returns the first failed condition of a rule that reads more than the head of its operation, or `None` if all hold.
+/// `node` is what the store shows of the operation. The caller has checked that the operation is eligible for the rule
+/// and isn't the root, and whether the rule applies.
 fn tested(
     alloc: Global,
     world: &World,
@@ -116,6 +99,7 @@ fn tested(
     node: &Node<'_>,
     applies: bool,
 ) -> Result<Option<Reason>, AllocError>
+    requires rule { reads_head rule ≡ false }
     requires shown { Some (header_of_node world.now.ctx node.now) ≡ head_at op (module_in world.now).tree }
     requires of { NodeIsOf world.now.ctx node.now }
     ensures { IfOk result (λ c. (o : Operation) → find op (module_in world.now).tree ≡ Some o
@@ -125,6 +109,46 @@ fn tested(
         return regions::of_block(alloc, world, rule, op, node, applies);
     }
     of_header(alloc, world, rule, op, node, applies)
+}
+
+/// Returns whether a rule reads nothing of its operation but the head.
+fn reads_head(rule: Rule) -> bool
+    ensures { result ≡ reads_head rule }
+{
+    match rule {
+        Rule::EraseDead
+        | Rule::OpenBranch
+        | Rule::OpenLoop
+        | Rule::StopLoop
+        | Rule::LowerIndex
+        | Rule::LowerLoop
+        | Rule::LowerChoice => false,
+        _ => true,
+    }
+}
+
+/// Returns the first failed condition of a rule at an eligible operation of the module, or `None` if all hold. `node`
+/// is what the store shows of the operation, and `point` is the place before it.
+fn reason_at(
+    alloc: Global,
+    world: &World,
+    rule: Rule,
+    point: &Place,
+    op: OpId,
+    node: &Node<'_>,
+) -> Result<Option<Reason>, AllocError>
+    requires shown { Some (header_of_node world.now.ctx node.now) ≡ head_at op (module_in world.now).tree }
+    requires of { NodeIsOf world.now.ctx node.now }
+    requires eligible { eligible rule (module_in world.now).tree (record (header_of_node world.now.ctx node.now) { id = op })
+        ≡ true }
+    ensures { IfOk result (IsReasonAt rule (module_in world.now) op point.now) }
+{
+    if reads_head(rule) {
+        let answer = plan_or_reason(alloc, world, rule, op, node)?;
+        return Ok(answer.err());
+    }
+    let applies = makes(alloc, world, rule, point, op, node)?;
+    tested(alloc, world, rule, op, node, applies)
 }
 
 /// Returns the first condition of a rule, in their order, that doesn't hold at an operation of the module. Returns
@@ -152,6 +176,5 @@ pub fn failing_reason(
     if !has_rule(&world.ctx, rule, node.name()) {
         return Ok(Some(Reason::WrongOperation));
     }
-    let applies = makes(alloc, world, rule, &point, op, &node)?;
-    tested(alloc, world, rule, op, &node, applies)
+    reason_at(alloc, world, rule, &point, op, &node)
 }

@@ -5,10 +5,9 @@ ghost use Rattle.ir_event.specs.trees.Meaning.{Operation};
 ghost use Rattle.ir_event.specs.Modules.{NodeIsOf, module_in};
 ghost use Rattle.patterns_base.specs.Looks.{body};
 ghost use Rattle.patterns_matchers.specs.Reads.{head_at, header_of_node};
-ghost use Rattle.patterns_reasons.specs.Conditions.{first_failed_test};
-ghost use Rattle.patterns_reasons.specs.Tests.{block_tests, is_below, open_branch, open_loop, stop_loop};
+ghost use Rattle.patterns_plans.specs.Conditions.{first_failed_test};
+ghost use Rattle.patterns_plans.specs.RuleTests.{block_tests, is_below, open_branch, open_loop, stop_loop};
 
-use crate::reason::Reason;
 use ir_event::store::node::Node;
 use ir_event::trees::value::Value;
 use ir_event::types::ids::OpId;
@@ -17,6 +16,7 @@ use ir_event::world::World;
 use patterns_base::rule::Rule;
 use patterns_matchers::constants::{constant_value, is_known};
 use patterns_plans::block::body_of;
+use patterns_plans::reason::Reason;
 use std::alloc::{AllocError, Global};
 
 pub(crate) fn open_branch(

@@ -1,5 +1,5 @@
 use Rattle.ir_event.specs.Modules.{module_in}
-use Rattle.patterns_plans.proofs.Folded.{not_constant, readable_known, unreadable}
+use Rattle.patterns_plans.proofs.Folded.{not_constant}
 use Rattle.patterns_plans.proofs.constant.readable.Goals as goal
 
 pub returns : goal.returns

@@ -28,8 +28,8 @@ returns-then-not-has_rule c =
     other c.args.rule m c.args.op h c.in-Some.ensures.node c.in-Some-insertion_point_before.point c.in-Some-insertion_point_before.ensures c.allows.result
     (c.allows.ensures m.tree (record h { id = c.args.op }) c.in_ok-eligibility.ensures) c.if-not-allows.false c.has_rule.result (c.has_rule.ensures ∙ ap (λ (n : ℕ). has_rule c.args.rule (name_term c.args.world.now.ctx n)) c.name.ensures) c.if-not-has_rule.true
 
-pub makes-requires-clause-eligible : goal.makes-requires-clause-eligible
-makes-requires-clause-eligible c =
+pub reason_at-requires-clause-eligible : goal.reason_at-requires-clause-eligible
+reason_at-requires-clause-eligible c =
     let h = header_of_node c.args.world.now.ctx c.in-Some.node in
     sym (c.allows.ensures (module_in c.args.world.now).tree (record h { id = c.args.op }) c.in_ok-eligibility.ensures) ∙ c.if-not-allows.false
 
@@ -37,7 +37,7 @@ pub returns : goal.returns
 returns c =
     let m = module_in c.args.world.now in
     let h = header_of_node c.args.world.now.ctx c.in-Some.node in
-    IfOk-weaker c.tested.result _ _
+    IfOk-weaker c.reason_at.result _ _
     (λ k t. requested c.args.rule m c.args.op h c.in-Some.ensures.node c.in-Some-insertion_point_before.point c.in-Some-insertion_point_before.ensures c.allows.result
-    (c.allows.ensures m.tree (record h { id = c.args.op }) c.in_ok-eligibility.ensures) c.if-not-allows.false c.has_rule.result c.in_ok-applies.applies k (c.has_rule.ensures ∙ ap (λ (n : ℕ). has_rule c.args.rule (name_term c.args.world.now.ctx n)) c.name.ensures) c.if-not-has_rule.false c.in_ok-applies.ensures t)
-    c.tested.ensures
+    (c.allows.ensures m.tree (record h { id = c.args.op }) c.in_ok-eligibility.ensures) c.if-not-allows.false c.has_rule.result k (c.has_rule.ensures ∙ ap (λ (n : ℕ). has_rule c.args.rule (name_term c.args.world.now.ctx n)) c.name.ensures) c.if-not-has_rule.false t)
+    c.reason_at.ensures

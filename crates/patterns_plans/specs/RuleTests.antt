@@ -10,6 +10,7 @@ use Rattle.ir_event.specs.trees.Meaning.{Operation}
 use Rattle.ir_event.specs.trees.Tree.{head}
 use Rattle.ir_event.specs.trees.Uses.{same_value}
 use Rattle.op_registry.specs.Registry.{next_to}
+use Rattle.dialects_int.specs.Folds.{Known}
 use Rattle.effects.specs.Dead.{is_unused}
 use Rattle.patterns_base.specs.Made.{i1}
 use Rattle.patterns_base.specs.Words.{named, among, commutative, with_zero_as_right_identity, with_one_as_right_identity, self_inverse, idempotent, remainders}
@@ -22,22 +23,26 @@ use Rattle.patterns_base.specs.Casting.{resizing}
 use Rattle.patterns_base.specs.Opening.{Loop, loop_from, reading}
 use Rattle.patterns_base.specs.declared.rule.Rule.{Rule}
 use Rattle.patterns_base.specs.declared.rule.Rule.TheVariants as rule
-use Rattle.patterns_reasons.specs.declared.reason.Reason.TheVariants.{WrongOperation, Used, HasEffects}
-use Rattle.patterns_reasons.specs.declared.reason.Reason.TheVariants.{ConstantNotVerified, OperandNotConstant}
-use Rattle.patterns_reasons.specs.declared.reason.Reason.TheVariants.{DoesNotFold, FirstNotConstant}
-use Rattle.patterns_reasons.specs.declared.reason.Reason.TheVariants.{SecondConstant, SecondNotConstant}
-use Rattle.patterns_reasons.specs.declared.reason.Reason.TheVariants.{SecondNotZero, SecondNotOne}
-use Rattle.patterns_reasons.specs.declared.reason.Reason.TheVariants.{SecondNotAllOnes, ThirdNotZero}
-use Rattle.patterns_reasons.specs.declared.reason.Reason.TheVariants.{OperandsDiffer, OtherPredicate, OtherType}
-use Rattle.patterns_reasons.specs.declared.reason.Reason.TheVariants.{NoDefiningOp, InnerNotConstant}
-use Rattle.patterns_reasons.specs.declared.reason.Reason.TheVariants.{InnerNotOne, FewerBits, BoundNotConstant}
-use Rattle.patterns_reasons.specs.declared.reason.Reason.TheVariants.{RunsAgain, ConditionNotFalse, BlockNotVerified}
-use Rattle.patterns_reasons.specs.declared.reason.Reason.TheVariants.{NoIndex}
-use Rattle.patterns_reasons.specs.Conditions.{Test, asks, has}
+use Rattle.patterns_plans.specs.declared.reason.Reason.{Reason}
+use Rattle.patterns_plans.specs.declared.reason.Reason.TheVariants.{WrongOperation, Used, HasEffects}
+use Rattle.patterns_plans.specs.declared.reason.Reason.TheVariants.{ConstantNotVerified, OperandNotConstant}
+use Rattle.patterns_plans.specs.declared.reason.Reason.TheVariants.{DoesNotFold, FirstNotConstant}
+use Rattle.patterns_plans.specs.declared.reason.Reason.TheVariants.{SecondConstant, SecondNotConstant}
+use Rattle.patterns_plans.specs.declared.reason.Reason.TheVariants.{SecondNotZero, SecondNotOne}
+use Rattle.patterns_plans.specs.declared.reason.Reason.TheVariants.{SecondNotAllOnes, ThirdNotZero}
+use Rattle.patterns_plans.specs.declared.reason.Reason.TheVariants.{OperandsDiffer, OtherPredicate, OtherType}
+use Rattle.patterns_plans.specs.declared.reason.Reason.TheVariants.{NoDefiningOp, InnerNotConstant}
+use Rattle.patterns_plans.specs.declared.reason.Reason.TheVariants.{InnerNotOne, FewerBits, BoundNotConstant}
+use Rattle.patterns_plans.specs.declared.reason.Reason.TheVariants.{RunsAgain, ConditionNotFalse, BlockNotVerified}
+use Rattle.patterns_plans.specs.declared.reason.Reason.TheVariants.{NoIndex}
+use Rattle.patterns_plans.specs.Conditions.{Test, asks, has}
+use Rattle.patterns_plans.specs.Numbers.{is_readable}
 
--- whether a value isn't a constant, or is known; a constant that isn't verified is neither
-abbrev pub is_readable : Operation → Value → Bool
-is_readable t v = not (is_constant t v) || is_known t v
+-- why an operation with these known operands doesn't fold
+abbrev pub unfolded_reason : List (Option Known) → Reason
+unfolded_reason [] = DoesNotFold
+unfolded_reason (None ∷ ks) = OperandNotConstant
+unfolded_reason (Some k ∷ ks) = unfolded_reason ks
 
 -- whether a list has exactly one item
 abbrev pub is_single : {X : Type 0} → List X → Bool

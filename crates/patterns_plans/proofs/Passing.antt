@@ -1,5 +1,5 @@
 -- Each rule applies exactly if all its conditions hold.
-use Rattle.std.proofs.Common.{◌≡◌, refl, ap, sym, ◌∙◌, ℕ, List, [], ◌∷◌, Bool, true, false, Option, Some, None, map}
+use Rattle.std.proofs.Common.{◌≡◌, refl, ap, ℕ, List, [], ◌∷◌, Bool, true, false, Option, Some, None, map}
 use Rattle.std.specs.Prelude.{◌&&◌, ◌||◌, is_some, codes, not, if◌then◌else◌}
 use Rattle.std.specs.List.{list_all, list_any}
 use Rattle.patterns_matchers.specs.Contents.{Edit}
@@ -8,7 +8,7 @@ use Rattle.ir_event.specs.trees.declared.value.Value.{Value}
 use Rattle.ir_event.specs.trees.Meaning.{Operation}
 use Rattle.ir_event.specs.trees.Tree.{head}
 use Rattle.patterns_base.specs.Keeps.{given}
-use Rattle.patterns_base.specs.Looks.{is_erasable, known, is_known, when, one, two, three, predicate, source, source_among, is_index, is_index_value, is_constant, body, Two, One}
+use Rattle.patterns_base.specs.Looks.{is_erasable, known, is_known, when, one, two, three, predicate, source, source_among, is_index, is_index_value, is_constant, body, One}
 use Rattle.op_registry.specs.Registry.{next_to}
 use Rattle.patterns_base.specs.Casting.{resizing, unrealized, through_index}
 use Rattle.patterns_base.specs.Words.{among, commutative, predicate_of_min_max, division_of_remainder, extensions, index_casts, named}
@@ -17,10 +17,11 @@ use Rattle.patterns_base.specs.Opening.{by_condition, by_bounds, loop_from, Loop
 use Rattle.patterns_base.specs.Rules.{rule}
 use Rattle.patterns_base.specs.declared.rule.Rule.{Rule}
 use Rattle.patterns_base.specs.declared.rule.Rule.TheVariants as rules
-use Rattle.patterns_reasons.specs.declared.reason.Reason.TheVariants.{WrongOperation}
-use Rattle.patterns_reasons.specs.Conditions.{all_hold, asks, has}
-use Rattle.patterns_reasons.specs.Tests.{tests, cast_tests, unrealized_tests, index_tests, is_readable, is_single, first_of, are_bounds_known, is_never}
-use Rattle.patterns_reasons.proofs.Parts as parts
+use Rattle.patterns_plans.specs.declared.reason.Reason.TheVariants.{WrongOperation}
+use Rattle.patterns_plans.specs.Conditions.{all_hold, asks, has}
+use Rattle.patterns_plans.specs.RuleTests.{tests, cast_tests, unrealized_tests, index_tests, is_single, first_of, are_bounds_known, is_never}
+use Rattle.patterns_plans.specs.Numbers.{is_readable}
+use Rattle.patterns_plans.proofs.Parts as parts
 
 -- a mapped list has a set mark exactly if an element passes the test
 any_mapped : {X : Type 0} (f : X → Bool) (xs : List X) → any (map f xs) ≡ list_any f xs

@@ -4,7 +4,7 @@ use Rattle.std.specs.Prelude.{◌&&◌, ◌||◌, not, is_some, if◌then◌else
 use Rattle.patterns_base.specs.Keeps.{given}
 use Rattle.patterns_base.specs.Looks.{when, passes}
 use Rattle.patterns_laws.specs.integers.Folds.{Known}
-use Rattle.patterns_reasons.specs.Conditions.{has}
+use Rattle.patterns_plans.specs.Conditions.{has}
 
 pub and_true : (b : Bool) → b && true ≡ b
 and_true true = refl

@@ -1,17 +1,17 @@
 -- Conditions of rules, and the first one that doesn't hold.
-use Rattle.std.specs.Prelude.{ℕ, List, [], ◌∷◌, codes, Bool, true, false, ◌&&◌, if◌then◌else◌, Option, Some, None}
-use Rattle.patterns_reasons.specs.declared.reason.Reason.{Reason}
-use Rattle.patterns_reasons.specs.declared.reason.Reason.TheVariants.{IsRoot, NotVerified, WrongOperation, Used}
-use Rattle.patterns_reasons.specs.declared.reason.Reason.TheVariants.{HasEffects, ConstantNotVerified}
-use Rattle.patterns_reasons.specs.declared.reason.Reason.TheVariants.{OperandNotConstant, DoesNotFold}
-use Rattle.patterns_reasons.specs.declared.reason.Reason.TheVariants.{FirstNotConstant, SecondConstant}
-use Rattle.patterns_reasons.specs.declared.reason.Reason.TheVariants.{SecondNotConstant, SecondNotZero}
-use Rattle.patterns_reasons.specs.declared.reason.Reason.TheVariants.{SecondNotOne, SecondNotAllOnes, ThirdNotZero}
-use Rattle.patterns_reasons.specs.declared.reason.Reason.TheVariants.{OperandsDiffer, OtherPredicate, OtherType}
-use Rattle.patterns_reasons.specs.declared.reason.Reason.TheVariants.{NoDefiningOp, InnerNotConstant}
-use Rattle.patterns_reasons.specs.declared.reason.Reason.TheVariants.{InnerNotOne, FewerBits, BoundNotConstant}
-use Rattle.patterns_reasons.specs.declared.reason.Reason.TheVariants.{RunsAgain, ConditionNotFalse, BlockNotVerified}
-use Rattle.patterns_reasons.specs.declared.reason.Reason.TheVariants.{NoIndex}
+use Rattle.std.specs.Prelude.{ℕ, List, [], ◌∷◌, codes, Bool, true, false, ◌&&◌, Option, Some, None}
+use Rattle.patterns_plans.specs.declared.reason.Reason.{Reason}
+use Rattle.patterns_plans.specs.declared.reason.Reason.TheVariants.{IsRoot, NotVerified, WrongOperation, Used}
+use Rattle.patterns_plans.specs.declared.reason.Reason.TheVariants.{HasEffects, ConstantNotVerified}
+use Rattle.patterns_plans.specs.declared.reason.Reason.TheVariants.{OperandNotConstant, DoesNotFold}
+use Rattle.patterns_plans.specs.declared.reason.Reason.TheVariants.{FirstNotConstant, SecondConstant}
+use Rattle.patterns_plans.specs.declared.reason.Reason.TheVariants.{SecondNotConstant, SecondNotZero}
+use Rattle.patterns_plans.specs.declared.reason.Reason.TheVariants.{SecondNotOne, SecondNotAllOnes, ThirdNotZero}
+use Rattle.patterns_plans.specs.declared.reason.Reason.TheVariants.{OperandsDiffer, OtherPredicate, OtherType}
+use Rattle.patterns_plans.specs.declared.reason.Reason.TheVariants.{NoDefiningOp, InnerNotConstant}
+use Rattle.patterns_plans.specs.declared.reason.Reason.TheVariants.{InnerNotOne, FewerBits, BoundNotConstant}
+use Rattle.patterns_plans.specs.declared.reason.Reason.TheVariants.{RunsAgain, ConditionNotFalse, BlockNotVerified}
+use Rattle.patterns_plans.specs.declared.reason.Reason.TheVariants.{NoIndex}
 
 -- the word of a condition that doesn't hold
 abbrev pub word_of : Reason → List ℕ

@@ -1,7 +1,7 @@
 use Rattle.ir_event.specs.Modules.{module_in}
 use Rattle.patterns_matchers.specs.Reads.{header_of_node}
 use Rattle.patterns_reasons.proofs.Making.{dead_reported, effects_reported, unused_shown, used_reported}
-use Rattle.patterns_reasons.proofs.folding.erase_dead.Goals as goal
+use Rattle.patterns_reasons.proofs.dead.erase_dead.Goals as goal
 
 pub returns-then-not-is_unused : goal.returns-then-not-is_unused
 returns-then-not-is_unused c =

@@ -1,6 +1,6 @@
 //! The reasons why a rule doesn't apply at an operation, and their words.
 ghost use Rattle.std.specs.Prelude.{◌≡◌};
-ghost use Rattle.patterns_reasons.specs.Conditions.{word_of};
+ghost use Rattle.patterns_plans.specs.Conditions.{word_of};
 
 /// A condition of a rule that doesn't hold at an operation.
 #[derive(Clone, Copy, PartialEq, Eq)]
