@@ -1,5 +1,5 @@
 //! Queries of the unrealized casts that a conversion leaves between types, and the edits that reconcile them.
-ghost use Rattle.std.specs.Prelude.{◌≡◌, ◌<◌, ◌&&◌, ◌++◌, ◌∷◌, [], ℕ, true, not, eqb, IfOk, IfSome, OnOk, option_map};
+ghost use Rattle.std.specs.Prelude.{◌≡◌, ◌<◌, ◌&&◌, ℕ, true, not, eqb, IfOk, IfSome, option_map};
 ghost use Rattle.ir_event.specs.types.Things.{ContextModel, IsType};
 ghost use Rattle.ir_event.specs.types.Terms.{type_term};
 ghost use Rattle.ir_event.specs.types.SameTypes.{same_type};
@@ -10,7 +10,6 @@ ghost use Rattle.ir_event.specs.tree_laws.Values.{has_value};
 ghost use Rattle.ir_event.specs.Modules.{NodeIsOf, module_in};
 ghost use Rattle.effects.specs.Dead.{is_unused};
 ghost use Rattle.patterns_base.specs.Lists.{AllFit, edits_meaning};
-ghost use Rattle.patterns_base.specs.declared.edit.Edit.TheVariants.{Erase as Erased, Make as Made, Replace as Replaced};
 ghost use Rattle.patterns_base.specs.Looks.{is_of_type};
 ghost use Rattle.patterns_base.specs.Made.{i64};
 ghost use Rattle.conversion_base.specs.Reconciling.{index_edits, is_cast, takes_index};
@@ -152,33 +151,6 @@ fn index_cast(alloc: Global, ends: &CastTypes) -> Result<TreeOp, AllocError>
     })
 }
 
-/// Appends the insertion of an `arith.index_cast` at `point`.
-fn push_cast(
-    alloc: Global,
-    edits: &mut Vec<Edit>,
-    point: Place,
-    ends: &CastTypes,
-) -> Result<(), AllocError>
-    ensures { OnOk result (edits.new.items ≡ edits.old.items ++ Made point (new_cast ends.now.operand ends.now.ty) ∷ []) }
-{
-    let op = index_cast(alloc, ends)?;
-    edits.push(Edit::Make { place: point, op })?;
-    Ok(())
-}
-
-/// Appends the edits that replace the result of `op` with that of the operation `next` and erase `op`.
-fn push_replacing(edits: &mut Vec<Edit>, next: OpId, op: OpId) -> Result<(), AllocError>
-    ensures { OnOk result (edits.new.items ≡ edits.old.items
-        ++ Replaced (result_of op 0) (result_of next 0) ∷ Erased op ∷ []) }
-{
-    edits.push(Edit::Replace {
-        old: Value::Result(op, 0),
-        new: Value::Result(next, 0),
-    })?;
-    edits.push(Edit::Erase { op })?;
-    Ok(())
-}
-
 /// Returns the edits that replace `op` with an `arith.index_cast`. `point` is the place before `op`, and `next` is the
 /// next free id.
 fn cast_edits(
@@ -190,9 +162,17 @@ fn cast_edits(
 ) -> Result<Vec<Edit>, AllocError>
     ensures { IfOk result (λ es. es.items ≡ cast_edits point next op ends.now.operand ends.now.ty) }
 {
+    let made = index_cast(alloc, ends)?;
     let mut edits = Vec::new(alloc);
-    push_cast(alloc, &mut edits, point, ends)?;
-    push_replacing(&mut edits, next, op)?;
+    edits.push(Edit::Make {
+        place: point,
+        op: made,
+    })?;
+    edits.push(Edit::Replace {
+        old: Value::Result(op, 0),
+        new: Value::Result(next, 0),
+    })?;
+    edits.push(Edit::Erase { op })?;
     Ok(edits)
 }
 
