@@ -1,3 +1,10 @@
+pub mod Keyed
+pub mod Naturals
+pub mod Tests
+pub mod Differing
+pub mod FiveConditions
+pub mod TextOrder
+pub mod Listing
 pub mod Heads
 pub mod Sorted
 pub mod RoundTrip

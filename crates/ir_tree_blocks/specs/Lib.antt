@@ -3,6 +3,10 @@ pub mod Scopes
 pub mod Nesting
 pub mod Flattening
 pub mod Form
+pub mod Read
+pub mod Whole
+pub mod Views
+pub mod Inside
 pub mod Dominance
 pub mod Plain
 pub mod Reserved
