@@ -91,18 +91,18 @@ not_true false h = refl
 pub form_to : (t : Operation) → IsNested t → is_nested t ≡ true
 form_to t n =
     let ordered : every (λ o. all_lists is_ordered (regions o)) t ≡ true =
-        every_follows (λ o. all_lists ends_in_scopes (regions o)) (λ o. all_lists only_last_names (regions o)) (λ o. all_lists is_ordered (regions o))
-        (λ o. lists_join ends_in_scopes only_last_names (regions o)) t n.form.scopes_last n.form.terminators in
+    every_follows (λ o. all_lists ends_in_scopes (regions o)) (λ o. all_lists only_last_names (regions o)) (λ o. all_lists is_ordered (regions o))
+    (λ o. lists_join ends_in_scopes only_last_names (regions o)) t n.form.scopes_last n.form.terminators in
     let later : every (λ o. all_lists is_ordered (regions o) && keeps_single_blocks o) t ≡ true =
-        every_follows (λ o. all_lists is_ordered (regions o)) keeps_single_blocks (λ o. all_lists is_ordered (regions o) && keeps_single_blocks o)
-        (λ o. both_hold (all_lists is_ordered (regions o)) (keeps_single_blocks o)) t ordered n.single_blocks in
+    every_follows (λ o. all_lists is_ordered (regions o)) keeps_single_blocks (λ o. all_lists is_ordered (regions o) && keeps_single_blocks o)
+    (λ o. both_hold (all_lists is_ordered (regions o)) (keeps_single_blocks o)) t ordered n.single_blocks in
     let formed : every is_formed t ≡ true =
-        every_follows is_shaped (λ o. all_lists is_ordered (regions o) && keeps_single_blocks o) is_formed
-        (λ o. both_hold (is_shaped o) (all_lists is_ordered (regions o) && keeps_single_blocks o)) t n.form.scopes.shaped later in
+    every_follows is_shaped (λ o. all_lists is_ordered (regions o) && keeps_single_blocks o) is_formed
+    (λ o. both_hold (is_shaped o) (all_lists is_ordered (regions o) && keeps_single_blocks o)) t n.form.scopes.shaped later in
     let good : every has_good_regions t ≡ true =
-        every_follows (λ o. is_scope (head o) || all_regions labels_differ (regions o)) (λ o. is_scope (head o) || all_regions is_lexical (regions o)) has_good_regions
-        (λ o. or_join (is_scope (head o)) (all_regions has_good_labels (regions o)) (all_regions labels_differ (regions o)) (all_regions is_lexical (regions o)) (regions_join labels_differ is_lexical (regions o)))
-        t n.form.scopes.labels n.form.lexical in
+    every_follows (λ o. is_scope (head o) || all_regions labels_differ (regions o)) (λ o. is_scope (head o) || all_regions is_lexical (regions o)) has_good_regions
+    (λ o. or_join (is_scope (head o)) (all_regions has_good_labels (regions o)) (all_regions labels_differ (regions o)) (all_regions is_lexical (regions o)) (regions_join labels_differ is_lexical (regions o)))
+    t n.form.scopes.labels n.form.lexical in
     both_hold (is_each_formed t) (every has_good_regions t) (both_hold (not (is_scope (head t))) (every is_formed t) (not_true (is_scope (head t)) n.form.scopes.root) formed) good
 
 pub nested_is : (b : Bool) (t : Operation) → b ≡ is_nested t → IsTrue b ↔ IsNested t

@@ -57,7 +57,7 @@ list_again [] = refl
 list_again (b ∷ bs) = ap (λ cs. b ∷ cs) (list_again bs)
 
 -- members of a list in order
-in_insert : (b c : FlatBlock) (cs : List FlatBlock) → In b (insert_block c cs) → In b (c ∷ cs)
+pub in_insert : (b c : FlatBlock) (cs : List FlatBlock) → In b (insert_block c cs) → In b (c ∷ cs)
 in_insert b c [] h = h
 in_insert b c (d ∷ ds) h =
     let later = in_insert b c ds in

@@ -1,5 +1,5 @@
 -- Blocks in rising order of their labels: there is one such list if no label occurs twice.
-use Rattle.std.proofs.Common.{◌≡◌, ◌≢◌, refl, ap, sym, ◌∙◌, subst, ℕ, suc, ◌+◌, ◌<◌, ◌≤◌, Bool, true, false, true≢false, cond, not, ◌&&◌, eqb, eq-eqb, List, [], ◌∷◌, length, map, get_or, inl, inr, arith}
+use Rattle.std.proofs.Common.{◌≡◌, ◌≢◌, refl, ap, sym, ◌∙◌, subst, ℕ, zero, suc, ◌+◌, ◌<◌, ◌≤◌, Bool, true, false, true≢false, cond, not, ◌&&◌, eqb, eq-eqb, List, [], ◌∷◌, length, map, get_or, inl, inr, arith}
 use Rattle.std.specs.Prelude.{nat_le, slice_index_or, Contains, IsPermutation}
 use Rattle.std.specs.List.{AllByRecursion, IsDistinct, list_any}
 use Rattle.std.specs.List.Sorted.{IsNonDecreasingBy}
@@ -127,7 +127,7 @@ one_list (x ∷ xs) (y ∷ ys) h k f g =
 
 in_at : (xs : List FlatBlock) (i : ℕ) (x : FlatBlock) → i < length xs → slice_index_or xs i x ≡ x → In x xs
 in_at [] i x h e = absurd (omega arith)
-in_at (y ∷ ys) 0 x h e = inl (sym e)
+in_at (y ∷ ys) zero x h e = inl (sym e)
 in_at (y ∷ ys) (suc i) x h e = inr (in_at ys i x (omega arith) e)
 
 in_contained : (xs : List FlatBlock) (x : FlatBlock) → In x xs → Contains xs x

@@ -176,7 +176,10 @@ fn all_name_what_they_see(placed: &Vec<Placed>) -> bool
 fn names_what_it_sees(placed: &Vec<Placed>, block: &Placed) -> bool
     ensures { result ≡ form.names_what_it_sees (map placed_view placed.now.items) (placed_view block.now) }
 {
-    block.names.iter().all(|name| may_name(placed, block, *name))
+    block
+        .names
+        .iter()
+        .all(|name| may_name(placed, block, *name))
 }
 
 /// Returns whether a label is that of a block that this block may name.

@@ -27,7 +27,11 @@ pub struct Placed {
 }
 
 /// Returns the blocks of a region, the entry first.
-pub fn placed_blocks(alloc: Global, ctx: &Context, region: &TreeRegion) -> Result<Vec<Placed>, AllocError>
+pub fn placed_blocks(
+    alloc: Global,
+    ctx: &Context,
+    region: &TreeRegion,
+) -> Result<Vec<Placed>, AllocError>
     ensures { IfOk result (λ v. map placed_view v.items ≡ form.placed_blocks (region_meaning ctx.now region.now)) }
 {
     let mut out = Vec::new(alloc);

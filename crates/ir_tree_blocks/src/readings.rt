@@ -107,13 +107,7 @@ fn number_of_node(ctx: &Context, node: &AttrNode) -> Option<u128>
     ensures { result ≡ number_in (attr_node_term ctx.now node.now) }
 {
     match node {
-        AttrNode::Int { ty, value } => {
-            if is_i32(ctx, *ty) {
-                Some(*value)
-            } else {
-                None
-            }
-        }
+        AttrNode::Int { ty, value } => { if is_i32(ctx, *ty) { Some(*value) } else { None } }
         AttrNode::Str(_) => None,
         AttrNode::Ty(_) => None,
         AttrNode::Unit => None,

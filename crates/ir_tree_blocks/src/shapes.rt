@@ -176,7 +176,9 @@ fn have_no_scopes(ctx: &Context, regions: &Vec<TreeRegion>) -> bool
 fn none_has_scope(ctx: &Context, regions: &Vec<TreeRegion>) -> bool
     ensures { result ≡ list_all (λ g. whole.list_passes whole.has_no_scope (region_meaning ctx.now g)) regions.now.items }
 {
-    regions.iter().all(|region| region_has_no_scope(ctx, region))
+    regions
+        .iter()
+        .all(|region| region_has_no_scope(ctx, region))
 }
 
 /// Returns whether no scope is right in one region.

@@ -25,9 +25,21 @@ pub fn scopes_in_text_order<'a>(
     ensures { IfOk result (λ v. all_differ (map (λ b. b.label) (under_region (region_meaning ctx.now region.now))) ≡ true
         → map (λ o. inside_of (meaning ctx.now o.now)) v.items ≡ sorted_blocks (under_region (region_meaning ctx.now region.now))) }
 {
+    let mut scopes = scopes_in(alloc, ctx, region)?;
+    sort(ctx, &mut scopes)?;
+    Ok(scopes)
+}
+
+/// Returns the scopes in a region, in pre-order.
+fn scopes_in<'a>(
+    alloc: Global,
+    ctx: &Context,
+    region: &'a TreeRegion,
+) -> Result<Vec<&'a TreeOp>, AllocError>
+    ensures { IfOk result (λ v. map (λ o. inside_of (meaning ctx.now o.now)) v.items ≡ under_region (region_meaning ctx.now region.now)) }
+{
     let mut scopes = Vec::new(alloc);
     push_region(ctx, region, &mut scopes)?;
-    sort(ctx, &mut scopes)?;
     Ok(scopes)
 }
 
@@ -36,7 +48,8 @@ fn sort<'a>(ctx: &Context, scopes: &mut Vec<&'a TreeOp>) -> Result<(), AllocErro
     ensures moved { IsPermutation scopes.old.items scopes.new.items }
     ensures rising { OnOk result (IsNonDecreasingBy (λ o. heads.label_of (head (meaning ctx.now o.now))) scopes.new.items) }
 {
-    scopes.sort_by_key(|scope| label(ctx, scope))
+    scopes.sort_by_key(|scope| label(ctx, scope))?;
+    Ok(())
 }
 
 /// Adds a scope, if it has a block, and the scopes inside it. Adds nothing for an operation that is no scope.
