@@ -4,6 +4,7 @@ pub mod Tests
 pub mod Differing
 pub mod FiveConditions
 pub mod TextOrder
+pub mod Scoped
 pub mod Listing
 pub mod Heads
 pub mod Sorted

@@ -7,6 +7,7 @@ pub mod Read
 pub mod Whole
 pub mod Views
 pub mod Inside
+pub mod Nested
 pub mod Dominance
 pub mod Plain
 pub mod Reserved

@@ -3,6 +3,7 @@
 
 pub mod conditions;
 pub mod laws;
+pub mod nesting;
 pub mod placement;
 pub mod readings;
 pub mod shapes;

@@ -91,7 +91,7 @@ fn is_signless(sign: Sign) -> bool
 }
 
 /// Returns the number of an attribute `N : i32`, or `None` for any other attribute.
-fn number(ctx: &Context, attr: AttrId) -> Option<u128>
+pub fn number(ctx: &Context, attr: AttrId) -> Option<u128>
     ensures { result ≡ number_in (attr_term ctx.now attr) }
 {
     if !ctx.has_attr(attr) {
