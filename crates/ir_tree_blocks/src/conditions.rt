@@ -126,7 +126,11 @@ fn regions_are_good(
 }
 
 /// Returns whether the labels of a region are distinct and lexical.
-fn has_good_labels(alloc: Global, ctx: &Context, region: &TreeRegion) -> Result<bool, AllocError>
+pub fn has_good_labels(
+    alloc: Global,
+    ctx: &Context,
+    region: &TreeRegion,
+) -> Result<bool, AllocError>
     ensures { IfOk result (λ b. b ≡ whole.has_good_labels (region_meaning ctx.now region.now)) }
 {
     let placed = placed_blocks(alloc, ctx, region)?;

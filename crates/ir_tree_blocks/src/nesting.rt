@@ -1,15 +1,19 @@
 //! Nests the blocks of a region: each becomes a scope below its parent.
-ghost use Rattle.std.specs.Prelude.{◌≡◌, ◌++◌, ◌∷◌, [], false, eqb, map, if◌then◌else◌, IsTrue, IfOk, IfSome, OnOk};
+ghost use Rattle.std.specs.Prelude.{◌≡◌, ◌+◌, ◌++◌, ◌∷◌, [], false, eqb, length, map, if◌then◌else◌, true, IsTrue, IfOk, IfSome, OnOk};
 ghost use Rattle.ir_types.specs.Things.{ContextModel};
 ghost use Rattle.ir_types.specs.Terms.{IntegerOf, attr_term, name_term, type_term};
 ghost use Rattle.ir_tree.specs.Meaning.{meaning};
 ghost use Rattle.ir_tree.specs.Tree.{block as block_of, no_regions, op as op_of, op_list, region as region_of};
 ghost use Rattle.ir_tree_blocks.specs.Scopes.{i32, scope_head};
 ghost use Rattle.ir_tree_blocks.specs.Nesting.{followed_by, nested_at, scope_of, scopes_of};
-ghost use Rattle.ir_tree_blocks.specs.Read.{ops_meaning};
+ghost use Rattle.ir_tree_blocks.specs.Read.{ops_meaning, region_meaning};
+ghost use Rattle.ir_tree_blocks.specs.Form.{placed_blocks};
+ghost use Rattle.ir_tree_blocks.specs.Whole.{has_good_labels};
 ghost use Rattle.ir_tree_blocks.specs.Nested as nested;
 ghost use Rattle.ir_tree_blocks.specs.Nested.{layout_below, layout_inside, nested_view};
 
+use crate::conditions::has_good_labels;
+use crate::placement::placed_blocks as blocks_of;
 use crate::readings::{has_bytes, number};
 use ir_tree::copy::copy;
 use ir_tree::tree::{TreeOp, TreeRegion};
@@ -27,6 +31,8 @@ pub enum NestFault {
     TooDeep,
     /// There is no block with a label.
     UnknownLabel,
+    /// A block isn't below the entry, or a label is out of sight or occurs twice.
+    BadParents,
     /// A name isn't that of scopes or of their labels, or an attribute isn't the label of its block.
     WrongName,
     /// Memory ran out.
@@ -70,14 +76,63 @@ pub struct ToNest<'a> {
     pub blocks: &'a Vec<BlockToNest>,
 }
 
-/// Adds the scopes of all blocks to the operations of the entry.
+/// Returns the region whose entry has these arguments and operations, and in which each block is a scope in its parent.
+/// Its labels are distinct and lexical, and it has each block.
 ///
-/// Faults: `TooDeep`, `UnknownLabel`, `WrongName`, `Memory`.
-pub fn push_scopes(all: &ToNest<'_>, out: &mut Vec<TreeOp>) -> Result<(), NestFault>
-    ensures { OnOk result (map (meaning all.now.ctx.now) out.new.items ≡ map (meaning all.now.ctx.now) out.old.items
-        ++ op_list (scopes_of (map (nested_view all.now.ctx.now) all.now.blocks.now.items) (layout_below all.now.blocks.now.items 1024 0))) }
+/// Faults: `TooDeep`, `UnknownLabel`, `WrongName`, `BadParents`, `Memory`.
+pub fn nest(
+    all: &ToNest<'_>,
+    args: Vec<TypeId>,
+    entry: Vec<TreeOp>,
+) -> Result<TreeRegion, NestFault>
+    ensures region { IfOk result (λ g. region_meaning all.now.ctx.now g ≡ block_of (map (type_term all.now.ctx.now) args.items)
+        (followed_by (ops_meaning all.now.ctx.now entry.items)
+        (scopes_of (map (nested_view all.now.ctx.now) all.now.blocks.now.items) (layout_below all.now.blocks.now.items 1024 0)))) }
+    ensures labels { IfOk result (λ g. has_good_labels (region_meaning all.now.ctx.now g) ≡ true) }
+    ensures each { IfOk result (λ g. length (placed_blocks (region_meaning all.now.ctx.now g)) ≡ length all.now.blocks.now.items + 1) }
 {
-    push_below(all, 0, MOST_SCOPES, out)
+    let region = unchecked_nest(all, args, entry)?;
+    if !is_nested(all, &region)? {
+        return Err(NestFault::BadParents);
+    }
+    Ok(region)
+}
+
+/// Returns whether the labels of a region are distinct and lexical, and it has each block.
+fn is_nested(all: &ToNest<'_>, region: &TreeRegion) -> Result<bool, AllocError>
+    ensures { IfOk result (λ b. IsTrue b → (has_good_labels (region_meaning all.now.ctx.now region.now) ≡ true)
+        × (length (placed_blocks (region_meaning all.now.ctx.now region.now)) ≡ length all.now.blocks.now.items + 1)) }
+{
+    let alloc = *all.blocks.allocator();
+    let count = count_blocks(alloc, all.ctx, region)?;
+    if count != all.blocks.len() + 1 {
+        return Ok(false);
+    }
+    let good = has_good_labels(alloc, all.ctx, region)?;
+    Ok(good)
+}
+
+/// Returns the number of blocks of a region.
+fn count_blocks(alloc: Global, ctx: &Context, region: &TreeRegion) -> Result<usize, AllocError>
+    ensures { IfOk result (λ n. n ≡ length (placed_blocks (region_meaning ctx.now region.now))) }
+{
+    let placed = blocks_of(alloc, ctx, region)?;
+    Ok(placed.len())
+}
+
+/// Returns the region, whose labels aren't tested.
+fn unchecked_nest(
+    all: &ToNest<'_>,
+    args: Vec<TypeId>,
+    entry: Vec<TreeOp>,
+) -> Result<TreeRegion, NestFault>
+    ensures { IfOk result (λ g. region_meaning all.now.ctx.now g ≡ block_of (map (type_term all.now.ctx.now) args.items)
+        (followed_by (ops_meaning all.now.ctx.now entry.items)
+        (scopes_of (map (nested_view all.now.ctx.now) all.now.blocks.now.items) (layout_below all.now.blocks.now.items 1024 0)))) }
+{
+    let mut ops = entry;
+    push_below(all, 0, MOST_SCOPES, &mut ops)?;
+    Ok(TreeRegion::Block { args, ops })
 }
 
 /// Adds the scopes of the blocks whose parent is this block, at most `spare` levels deep.
