@@ -5,7 +5,7 @@ use Rattle.std.specs.List.{AllByRecursion, IsDistinct, list_any, list_all}
 use Rattle.std.proofs.lemmas.Map.Keys.{IsDistinct-cons, IsDistinct-from_apart, IsDistinct-head, IsDistinct-tail}
 use Rattle.ir_tree_laws.proofs.Listed.{both, neither, not_false}
 use Rattle.ir_tree_blocks.specs.declared.placement.Placed.{Placed}
-use Rattle.ir_tree_blocks.specs.Form.{PlacedBlock, names_what_it_sees, sees}
+use Rattle.ir_tree_blocks.specs.Form.{PlacedBlock, names_in_sight, can_name}
 use Rattle.ir_tree_blocks.specs.Nesting.{all_differ}
 use Rattle.ir_tree_blocks.specs.Views.{placed_view}
 

@@ -18,7 +18,7 @@ use Rattle.ir_tree_blocks.specs.Flat.{Head}
 use Rattle.ir_tree_blocks.specs.Scopes.{is_some, number_in, numbers_in, is_scope, order_of, label_of, or_zero, or_none, is_unreachable, successors_in, successors_of}
 use Rattle.ir_tree_blocks.specs.Reserved.{is_reserved}
 use Rattle.ir_tree_blocks.specs.Nesting.{Regions, Region, Ops, all_differ}
-use Rattle.ir_tree_blocks.specs.Form.{is_nil, PlacedBlock, named_in, placed_under, placed_in, placed_in_regions, placed_in_region, all_regions, each_region, has_one_block, has_label, is_shaped, labels_differ, only_scopes, ends_in_scopes, only_last_names, all_lists, each_block, names_what_it_sees, is_lexical, IsInForm}
+use Rattle.ir_tree_blocks.specs.Form.{is_nil, PlacedBlock, named_in, placed_under, placed_in, placed_in_regions, placed_in_region, all_regions, each_region, has_one_block, has_label, is_shaped, labels_differ, only_scopes, ends_in_scopes, only_last_names, all_lists, each_block, names_in_sight, is_lexical, IsInForm}
 
 -- heads that say the same of blocks
 pub record SameScope (a b : Head) : Type 0 where
@@ -117,7 +117,7 @@ module _ (g : Head → Head) (same : (h : Head) → SameScope (g h) h) where
   differ_same q = ap (λ ps. all_differ (map (λ (b : PlacedBlock). b.label) ps)) (region_same 0 [] false q)
 
   lexical_same : (q : Region) → is_lexical (region_each_head g q) ≡ is_lexical q
-  lexical_same q = ap (λ ps. list_all (names_what_it_sees ps) ps) (region_same 0 [] false q)
+  lexical_same q = ap (λ ps. list_all (names_in_sight ps) ps) (region_same 0 [] false q)
 
   pub each_in_form : (t : Operation) → IsInForm t → IsInForm (each_head g t)
   each_in_form t f = record {

@@ -67,14 +67,14 @@ pub form_from : (t : Operation) → is_nested t ≡ true → IsNested t
 form_from t h =
     let a = both (is_each_formed t) (every has_good_regions t) h in
     let b = both (not (is_scope (head t))) (every is_formed t) a.0 in
-    let shape = λ (o : Operation) (k : is_formed o ≡ true). both (is_shaped o) (all_lists is_ordered (regions o) && keeps_single_blocks o) k in
-    let lists = λ (o : Operation) (k : is_formed o ≡ true). both (all_lists is_ordered (regions o)) (keeps_single_blocks o) (shape o k).1 in
+    let own = λ (o : Operation) (k : is_formed o ≡ true). both (is_shaped o) (all_lists is_ordered (regions o) && keeps_single_blocks o) k in
+    let lists = λ (o : Operation) (k : is_formed o ≡ true). both (all_lists is_ordered (regions o)) (keeps_single_blocks o) (own o k).1 in
     let order = λ (o : Operation) (k : is_formed o ≡ true). lists_split ends_in_scopes only_last_names (regions o) (lists o k).0 in
     record {
       form = record {
         scopes = record {
           root = not_false (is_scope (head t)) b.0;
-          shaped = follows is_formed is_shaped (λ o k. (shape o k).0) t b.1;
+          shaped = follows is_formed is_shaped (λ o k. (own o k).0) t b.1;
           labels = follows has_good_regions (λ o. is_scope (head o) || all_regions labels_differ (regions o)) (λ o k. (labelled o k).0) t a.1;
         };
         scopes_last = follows is_formed (λ o. all_lists ends_in_scopes (regions o)) (λ o k. (order o k).0) t b.1;
@@ -96,14 +96,14 @@ form_to t n =
     let later : every (λ o. all_lists is_ordered (regions o) && keeps_single_blocks o) t ≡ true =
     every_follows (λ o. all_lists is_ordered (regions o)) keeps_single_blocks (λ o. all_lists is_ordered (regions o) && keeps_single_blocks o)
     (λ o. both_hold (all_lists is_ordered (regions o)) (keeps_single_blocks o)) t ordered n.single_blocks in
-    let formed : every is_formed t ≡ true =
+    let each : every is_formed t ≡ true =
     every_follows is_shaped (λ o. all_lists is_ordered (regions o) && keeps_single_blocks o) is_formed
     (λ o. both_hold (is_shaped o) (all_lists is_ordered (regions o) && keeps_single_blocks o)) t n.form.scopes.shaped later in
     let good : every has_good_regions t ≡ true =
     every_follows (λ o. is_scope (head o) || all_regions labels_differ (regions o)) (λ o. is_scope (head o) || all_regions is_lexical (regions o)) has_good_regions
     (λ o. or_join (is_scope (head o)) (all_regions has_good_labels (regions o)) (all_regions labels_differ (regions o)) (all_regions is_lexical (regions o)) (regions_join labels_differ is_lexical (regions o)))
     t n.form.scopes.labels n.form.lexical in
-    both_hold (is_each_formed t) (every has_good_regions t) (both_hold (not (is_scope (head t))) (every is_formed t) (not_true (is_scope (head t)) n.form.scopes.root) formed) good
+    both_hold (is_each_formed t) (every has_good_regions t) (both_hold (not (is_scope (head t))) (every is_formed t) (not_true (is_scope (head t)) n.form.scopes.root) each) good
 
 pub nested_is : (b : Bool) (t : Operation) → b ≡ is_nested t → IsTrue b ↔ IsNested t
 nested_is b t e = (λ h. form_from t (sym e ∙ h), λ n. e ∙ form_to t n)

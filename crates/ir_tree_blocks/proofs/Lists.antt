@@ -10,8 +10,8 @@ use Rattle.ir_tree_laws.proofs.Listed.{both, both_hold, not_false}
 use Rattle.ir_tree_blocks.specs.Flat.{Head}
 use Rattle.ir_tree_blocks.specs.Scopes.{is_scope, order_of, label_of, is_unreachable, successors_of}
 use Rattle.ir_tree_blocks.specs.Nesting.{Regions, Region, Ops, all_differ}
-use Rattle.ir_tree_blocks.specs.Form.{is_nil, PlacedBlock, named_in, placed_under, placed_in, placed_in_regions, placed_in_region, placed_blocks, all_regions, has_one_block, has_label, is_shaped, labels_differ, HasScopes, names_what_it_sees, is_lexical, HasLexicalLabels}
-use Rattle.ir_tree_blocks.specs.Plain.{is_plain, is_other_or_plain, is_plain_op}
+use Rattle.ir_tree_blocks.specs.Form.{is_nil, PlacedBlock, named_in, placed_under, placed_in, placed_in_regions, placed_in_region, placed_blocks, all_regions, has_one_block, has_label, is_shaped, labels_differ, HasScopes, names_in_sight, is_lexical, HasLexicalLabels}
+use Rattle.ir_tree_blocks.specs.Simple.{is_plain, is_other_or_plain, is_plain_op}
 
 -- a test of the head of each operation of a list
 abbrev tops : (Head → Bool) → Ops → Bool
@@ -166,7 +166,7 @@ module _ (f : ℕ → ℕ → Ops → Ops) (test : Head → Bool) (names : (p r 
   differ_list h rs e = ap (λ b. is_scope h || b) (all_list labels_differ (λ g k w. ap (λ ps. all_differ (map (λ (b : PlacedBlock). b.label) ps)) w) h.id 0 rs e)
 
   lexical_list : (h : Head) (rs : Regions) → regions_every tested rs ≡ true → (is_scope h || all_regions is_lexical (regions_each_list f h.id 0 rs)) ≡ (is_scope h || all_regions is_lexical rs)
-  lexical_list h rs e = ap (λ b. is_scope h || b) (all_list is_lexical (λ g k w. ap (λ ps. list_all (names_what_it_sees ps) ps) w) h.id 0 rs e)
+  lexical_list h rs e = ap (λ b. is_scope h || b) (all_list is_lexical (λ g k w. ap (λ ps. list_all (names_in_sight ps) ps) w) h.id 0 rs e)
 
   list_scopes : (t : Operation) → every (λ o. test (head o)) t ≡ true → ((p r : ℕ) (os : Ops) → ops_every is_shaped os ≡ true → ops_every is_shaped (f p r os) ≡ true)
       → ((p r : ℕ) (os : Ops) → ops_every (λ o. is_scope (head o) || all_regions labels_differ (regions o)) os ≡ true → ops_every (λ o. is_scope (head o) || all_regions labels_differ (regions o)) (f p r os) ≡ true)

@@ -11,8 +11,8 @@ use Rattle.ir_tree.specs.Places.{put, without, put_found, shifted}
 use Rattle.ir_tree_laws.proofs.Listed.{both, both_hold, all_each, each_all, any_one, one_any}
 use Rattle.ir_tree_blocks.specs.Scopes.{is_scope}
 use Rattle.ir_tree_blocks.specs.Nesting.{Regions, Region, Ops}
-use Rattle.ir_tree_blocks.specs.Form.{PlacedBlock, placed_blocks, all_regions, is_shaped, labels_differ, HasScopes, sees, names_what_it_sees, is_lexical, HasLexicalLabels, names_blocks, has_flat}
-use Rattle.ir_tree_blocks.specs.Plain.{is_plain, is_other_or_plain, is_plain_op}
+use Rattle.ir_tree_blocks.specs.Form.{PlacedBlock, placed_blocks, all_regions, is_shaped, labels_differ, HasScopes, can_name, names_in_sight, is_lexical, HasLexicalLabels, names_blocks, has_flat}
+use Rattle.ir_tree_blocks.specs.Simple.{is_plain, is_other_or_plain, is_plain_op}
 use Rattle.ir_tree_blocks.proofs.Lists.{plain_scope, without_scopes, without_lexical, put_scopes, put_lexical}
 
 first_cases : (a b : Option Operation) (o : Operation) → first_of a b ≡ Some o → (a ≡ Some o) ⊎ (b ≡ Some o)
@@ -110,10 +110,10 @@ module _ (p q k : Operation → Bool) (f : (o : Operation) → p o ≡ true → 
         both_hold (every k o) (ops_every k os) (every_two o c.0 d.0) (ops_two os c.1 d.1)
 
 -- a label that is seen is a label of the region
-names_all : (all : List PlacedBlock) (b : PlacedBlock) → names_what_it_sees all b ≡ true → names_blocks all b ≡ true
+names_all : (all : List PlacedBlock) (b : PlacedBlock) → names_in_sight all b ≡ true → names_blocks all b ≡ true
 names_all all b e = each_all (λ l. list_any (λ (c : PlacedBlock). eqb c.label l) all) b.names (λ l h.
-    let m = one_any (λ (c : PlacedBlock). eqb c.label l && sees b c) all (all_each (λ l. list_any (λ (c : PlacedBlock). eqb c.label l && sees b c) all) b.names e l h) in
-    any_one (λ (c : PlacedBlock). eqb c.label l) all m.0 m.1 (both (eqb m.0.label l) (sees b m.0) m.2).0)
+    let m = one_any (λ (c : PlacedBlock). eqb c.label l && can_name b c) all (all_each (λ l. list_any (λ (c : PlacedBlock). eqb c.label l && can_name b c) all) b.names e l h) in
+    any_one (λ (c : PlacedBlock). eqb c.label l) all m.0 m.1 (both (eqb m.0.label l) (can_name b m.0) m.2).0)
 
 abbrev flat_region_test : Region → Bool
 flat_region_test g = labels_differ g && list_all (names_blocks (placed_blocks g)) (placed_blocks g)
@@ -121,7 +121,7 @@ flat_region_test g = labels_differ g && list_all (names_blocks (placed_blocks g)
 region_flat : (g : Region) → labels_differ g ≡ true → is_lexical g ≡ true → flat_region_test g ≡ true
 region_flat g d l =
     both_hold (labels_differ g) (list_all (names_blocks (placed_blocks g)) (placed_blocks g)) d
-    (each_all (names_blocks (placed_blocks g)) (placed_blocks g) (λ b h. names_all (placed_blocks g) b (all_each (names_what_it_sees (placed_blocks g)) (placed_blocks g) l b h)))
+    (each_all (names_blocks (placed_blocks g)) (placed_blocks g) (λ b h. names_all (placed_blocks g) b (all_each (names_in_sight (placed_blocks g)) (placed_blocks g) l b h)))
 
 regions_flat : (rs : Regions) → all_regions labels_differ rs ≡ true → all_regions is_lexical rs ≡ true → all_regions flat_region_test rs ≡ true
 regions_flat no_regions d l = refl

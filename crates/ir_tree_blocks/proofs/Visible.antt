@@ -88,14 +88,14 @@ module _ (v : Value) (x : ℕ) where
 
   unseen : (o : Operation) → is_shaped o ≡ true → is_scope (head o) ≡ true → (seen : Bool) → (seen || shows v (results_of o)) ≡ true → seen ≡ true
   unseen (op h rs) e n seen k =
-      let shape : (is_nil h.operands && (is_nil h.results && (has_label (order_of h) && has_one_block rs))) ≡ true = sym (ap (λ b. not b || (is_nil h.operands && (is_nil h.results && (has_label (order_of h) && has_one_block rs)))) n) ∙ e in
-      let none = (both (is_nil h.results) (has_label (order_of h) && has_one_block rs) (both (is_nil h.operands) (is_nil h.results && (has_label (order_of h) && has_one_block rs)) shape).1).0 in
+      let scoped : (is_nil h.operands && (is_nil h.results && (has_label (order_of h) && has_one_block rs))) ≡ true = sym (ap (λ b. not b || (is_nil h.operands && (is_nil h.results && (has_label (order_of h) && has_one_block rs)))) n) ∙ e in
+      let none = (both (is_nil h.results) (has_label (order_of h) && has_one_block rs) (both (is_nil h.operands) (is_nil h.results && (has_label (order_of h) && has_one_block rs)) scoped).1).0 in
       elim (either seen (shows v (results h.id (length h.results))) k) [ inl a ↦ a | inr a ↦ absurd (true≢false (sym a ∙ no_result h.id h.results v none)) ]
 
   one_block : (h : Head) (rs : Regions) → is_shaped (op h rs) ≡ true → is_scope h ≡ true → has_one_block rs ≡ true
   one_block h rs e n =
-      let shape : (is_nil h.operands && (is_nil h.results && (has_label (order_of h) && has_one_block rs))) ≡ true = sym (ap (λ b. not b || (is_nil h.operands && (is_nil h.results && (has_label (order_of h) && has_one_block rs)))) n) ∙ e in
-      (both (has_label (order_of h)) (has_one_block rs) (both (is_nil h.results) (has_label (order_of h) && has_one_block rs) (both (is_nil h.operands) (is_nil h.results && (has_label (order_of h) && has_one_block rs)) shape).1).1).1
+      let scoped : (is_nil h.operands && (is_nil h.results && (has_label (order_of h) && has_one_block rs))) ≡ true = sym (ap (λ b. not b || (is_nil h.operands && (is_nil h.results && (has_label (order_of h) && has_one_block rs)))) n) ∙ e in
+      (both (has_label (order_of h)) (has_one_block rs) (both (is_nil h.results) (has_label (order_of h) && has_one_block rs) (both (is_nil h.operands) (is_nil h.results && (has_label (order_of h) && has_one_block rs)) scoped).1).1).1
 
   -- the parts of what is known of an operation
   abbrev Known : Head → Regions → Type 0

@@ -117,15 +117,15 @@ is_below_one_of ls (w ∷ around) = list_any (eqb w) ls
 
 -- whether block b may name block c: c is a child of b or of a block around b, and isn't inside a scope that is marked as
 -- unreachable; a block inside such a scope may name any block but the entry
-abbrev pub sees : PlacedBlock → PlacedBlock → Bool
-sees b c = if b.unreachable then not (is_nil c.around) else not c.unreachable && is_below_one_of (b.label ∷ b.around) c.around
+abbrev pub can_name : PlacedBlock → PlacedBlock → Bool
+can_name b c = if b.unreachable then not (is_nil c.around) else not c.unreachable && is_below_one_of (b.label ∷ b.around) c.around
 
 -- whether each label that a block names is that of a block that it may name
-abbrev pub names_what_it_sees : List PlacedBlock → PlacedBlock → Bool
-names_what_it_sees all b = list_all (λ l. list_any (λ c. eqb c.label l && sees b c) all) b.names
+abbrev pub names_in_sight : List PlacedBlock → PlacedBlock → Bool
+names_in_sight all b = list_all (λ l. list_any (λ c. eqb c.label l && can_name b c) all) b.names
 
 abbrev pub is_lexical : Region → Bool
-is_lexical g = list_all (names_what_it_sees (placed_blocks g)) (placed_blocks g)
+is_lexical g = list_all (names_in_sight (placed_blocks g)) (placed_blocks g)
 
 -- F4: labels are lexical
 abbrev pub HasLexicalLabels : Operation → Type 0

@@ -9,6 +9,6 @@ pub mod Views
 pub mod Inside
 pub mod Nested
 pub mod Dominance
-pub mod Plain
+pub mod Simple
 pub mod Reserved
 pub mod Samples

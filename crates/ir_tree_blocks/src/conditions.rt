@@ -165,20 +165,20 @@ fn are_distinct(alloc: Global, numbers: &Vec<u128>) -> Result<bool, AllocError>
 
 /// Returns whether each label that a block names is that of a block that it may name.
 fn is_lexical(placed: &Vec<Placed>) -> bool
-    ensures { result ≡ list_all (form.names_what_it_sees (map placed_view placed.now.items)) (map placed_view placed.now.items) }
+    ensures { result ≡ list_all (form.names_in_sight (map placed_view placed.now.items)) (map placed_view placed.now.items) }
 {
-    all_name_what_they_see(placed)
+    all_name_in_sight(placed)
 }
 
-fn all_name_what_they_see(placed: &Vec<Placed>) -> bool
-    ensures { result ≡ list_all (λ b. form.names_what_it_sees (map placed_view placed.now.items) (placed_view b)) placed.now.items }
+fn all_name_in_sight(placed: &Vec<Placed>) -> bool
+    ensures { result ≡ list_all (λ b. form.names_in_sight (map placed_view placed.now.items) (placed_view b)) placed.now.items }
 {
-    placed.iter().all(|block| names_what_it_sees(placed, block))
+    placed.iter().all(|block| names_in_sight(placed, block))
 }
 
 /// Returns whether each label that one block names is that of a block that it may name.
-fn names_what_it_sees(placed: &Vec<Placed>, block: &Placed) -> bool
-    ensures { result ≡ form.names_what_it_sees (map placed_view placed.now.items) (placed_view block.now) }
+fn names_in_sight(placed: &Vec<Placed>, block: &Placed) -> bool
+    ensures { result ≡ form.names_in_sight (map placed_view placed.now.items) (placed_view block.now) }
 {
     block
         .names
@@ -188,22 +188,22 @@ fn names_what_it_sees(placed: &Vec<Placed>, block: &Placed) -> bool
 
 /// Returns whether a label is that of a block that this block may name.
 fn may_name(placed: &Vec<Placed>, block: &Placed, name: u128) -> bool
-    ensures { result ≡ list_any (λ c. eqb c.label name && form.sees (placed_view block.now) c) (map placed_view placed.now.items) }
+    ensures { result ≡ list_any (λ c. eqb c.label name && form.can_name (placed_view block.now) c) (map placed_view placed.now.items) }
 {
     may_name_one_of(placed, block, name)
 }
 
 fn may_name_one_of(placed: &Vec<Placed>, block: &Placed, name: u128) -> bool
-    ensures { result ≡ list_any (λ c. eqb c.label name && form.sees (placed_view block.now) (placed_view c)) placed.now.items }
+    ensures { result ≡ list_any (λ c. eqb c.label name && form.can_name (placed_view block.now) (placed_view c)) placed.now.items }
 {
     placed
         .iter()
-        .any(|other| other.label == name && sees(block, other))
+        .any(|other| other.label == name && can_name(block, other))
 }
 
 /// Returns whether a block may name another.
-fn sees(block: &Placed, other: &Placed) -> bool
-    ensures { result ≡ form.sees (placed_view block.now) (placed_view other.now) }
+fn can_name(block: &Placed, other: &Placed) -> bool
+    ensures { result ≡ form.can_name (placed_view block.now) (placed_view other.now) }
 {
     let [parent, ..] = other.around.as_slice() else {
         return false;

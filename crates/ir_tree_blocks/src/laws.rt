@@ -13,7 +13,7 @@ ghost use Rattle.ir_tree.specs.Places.{put, shifted, without};
 ghost use Rattle.ir_tree.specs.Edits.{with_entry, with_operand, with_value_replaced};
 ghost use Rattle.ir_tree_blocks.specs.Flat.{FlatOp};
 ghost use Rattle.ir_tree_blocks.specs.Reserved.{is_reserved};
-ghost use Rattle.ir_tree_blocks.specs.Plain.{is_plain, is_plain_op};
+ghost use Rattle.ir_tree_blocks.specs.Simple.{is_plain, is_plain_op};
 ghost use Rattle.ir_tree_blocks.specs.Nesting.{Layout, CanNest, nest};
 ghost use Rattle.ir_tree_blocks.specs.Flattening.{flatten};
 ghost use Rattle.ir_tree_blocks.specs.Form.{HasLexicalLabels, HasScopes, IsInForm, each_block, each_region, ends_in_scopes, has_flat, is_lexical, is_no_scope, is_shaped, labels_differ, only_last_names};
