@@ -170,6 +170,7 @@ fn is_lexical(placed: &Vec<Placed>) -> bool
     all_name_in_sight(placed)
 }
 
+/// Returns whether each block names only blocks that it may name.
 fn all_name_in_sight(placed: &Vec<Placed>) -> bool
     ensures { result ≡ list_all (λ b. form.names_in_sight (map placed_view placed.now.items) (placed_view b)) placed.now.items }
 {
@@ -193,6 +194,7 @@ fn may_name(placed: &Vec<Placed>, block: &Placed, name: u128) -> bool
     may_name_one_of(placed, block, name)
 }
 
+/// Returns whether one of some blocks has a label and may be named.
 fn may_name_one_of(placed: &Vec<Placed>, block: &Placed, name: u128) -> bool
     ensures { result ≡ list_any (λ c. eqb c.label name && form.can_name (placed_view block.now) (placed_view c)) placed.now.items }
 {
@@ -218,6 +220,7 @@ fn is_own_or_around(block: &Placed, label: u128) -> bool
     label == block.label || is_around(block, label)
 }
 
+/// Returns whether a label is that of a block around another.
 fn is_around(block: &Placed, label: u128) -> bool
     ensures { result ≡ list_any (eqb label) block.now.around.items }
 {

@@ -40,12 +40,14 @@ pub enum NestFault {
 }
 
 impl From<AllocError> for NestFault {
+    /// Returns `Memory`.
     fn from(_error: AllocError) -> NestFault {
         NestFault::Memory
     }
 }
 
 impl<T: Drop> From<AllocFailed<T>> for NestFault {
+    /// Returns `Memory`.
     fn from(_error: AllocFailed<T>) -> NestFault {
         NestFault::Memory
     }

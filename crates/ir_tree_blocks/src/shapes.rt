@@ -71,6 +71,7 @@ fn lists_are_ordered(ctx: &Context, regions: &Vec<TreeRegion>) -> bool
     all_are_ordered(ctx, regions)
 }
 
+/// Returns whether the block of each region is in order.
 fn all_are_ordered(ctx: &Context, regions: &Vec<TreeRegion>) -> bool
     ensures { result ≡ list_all (λ g. whole.list_passes whole.is_ordered (region_meaning ctx.now g)) regions.now.items }
 {
@@ -101,6 +102,7 @@ fn only_scopes(ctx: &Context, ops: &[TreeOp]) -> bool
     all_are_scopes(ctx, ops)
 }
 
+/// Returns whether each operation of a list is a scope.
 fn all_are_scopes(ctx: &Context, ops: &[TreeOp]) -> bool
     ensures { result ≡ list_all (λ o. scopes.is_scope (head (meaning ctx.now o))) ops.now }
 {
@@ -173,6 +175,7 @@ fn have_no_scopes(ctx: &Context, regions: &Vec<TreeRegion>) -> bool
     none_has_scope(ctx, regions)
 }
 
+/// Returns whether no region has a scope right in it.
 fn none_has_scope(ctx: &Context, regions: &Vec<TreeRegion>) -> bool
     ensures { result ≡ list_all (λ g. whole.list_passes whole.has_no_scope (region_meaning ctx.now g)) regions.now.items }
 {
@@ -198,6 +201,7 @@ fn has_no_scope(ctx: &Context, ops: &Vec<TreeOp>) -> bool
     none_is_scope(ctx, ops)
 }
 
+/// Returns whether no operation of a list is a scope.
 fn none_is_scope(ctx: &Context, ops: &Vec<TreeOp>) -> bool
     ensures { result ≡ list_all (λ o. not (scopes.is_scope (head (meaning ctx.now o)))) ops.now.items }
 {
