@@ -79,7 +79,7 @@ pub struct ToNest<'a> {
 }
 
 /// Returns the region whose entry has these arguments and operations, and in which each block is a scope in its parent.
-/// Its labels are distinct and lexical, and it has each block.
+/// Its labels are distinct and lexical, and it has as many further blocks as were given.
 ///
 /// Faults: `TooDeep`, `UnknownLabel`, `WrongName`, `BadParents`, `Memory`.
 pub fn nest(
@@ -100,7 +100,7 @@ pub fn nest(
     Ok(region)
 }
 
-/// Returns whether the labels of a region are distinct and lexical, and it has each block.
+/// Returns whether the labels of a region are distinct and lexical, and it has as many further blocks as were given.
 fn is_nested(all: &ToNest<'_>, region: &TreeRegion) -> Result<bool, AllocError>
     ensures { IfOk result (λ b. IsTrue b → (has_good_labels (region_meaning all.now.ctx.now region.now) ≡ true)
         × (length (placed_blocks (region_meaning all.now.ctx.now region.now)) ≡ length all.now.blocks.now.items + 1)) }
