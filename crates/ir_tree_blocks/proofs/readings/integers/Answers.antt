@@ -1,0 +1,7 @@
+use Rattle.std.proofs.Common.{ap, sym}
+use Rattle.ir_tree_blocks.specs.Scopes.{i32_numbers}
+use Rattle.ir_tree_blocks.proofs.Keyed.{absent}
+use Rattle.ir_tree_blocks.proofs.readings.integers.Goals as goal
+
+pub returns-then-not-has_attr : goal.returns-then-not-has_attr
+returns-then-not-has_attr c = sym (ap i32_numbers (absent c.has_attr.result c.args.ctx.now c.args.attr c.has_attr.ensures c.if-not-has_attr.true))

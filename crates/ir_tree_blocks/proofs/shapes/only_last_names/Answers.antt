@@ -1,0 +1,21 @@
+use Rattle.std.proofs.Common.{◌≡◌, ◌+◌, ◌∙◌, ap, refl, sym, Some, None}
+use Rattle.std.specs.List.{position}
+use Rattle.ir_tree.specs.Tree.{head}
+use Rattle.ir_tree.specs.Meaning.{meaning}
+use Rattle.ir_tree_blocks.specs.Form.{only_scopes}
+use Rattle.ir_tree_blocks.specs.Read.{ops_meaning}
+use Rattle.ir_tree_blocks.specs.Whole.{names_blocks}
+use Rattle.ir_tree_blocks.proofs.Tests.{names_found, names_none, rest_is}
+use Rattle.ir_tree_blocks.proofs.shapes.only_last_names.Goals as goal
+
+pub returns-in-Some : goal.returns-in-Some
+returns-in-Some c =
+    let found : position (λ o. names_blocks (head (meaning c.args.ctx.now o))) c.args.ops.now ≡ Some c.in-Some.index = sym c.first_naming.ensures ∙ c.in-Some.is in
+    c.only_scopes.ensures
+    ∙ ap (λ os. only_scopes (ops_meaning c.args.ctx.now os)) (rest_is c.args.ops.now (c.in-Some.index + 1))
+    ∙ names_found c.args.ctx.now c.args.ops.now c.in-Some.index (c.in-Some.index + 1) refl found
+
+pub returns-in-None : goal.returns-in-None
+returns-in-None c =
+    let none : position (λ o. names_blocks (head (meaning c.args.ctx.now o))) c.args.ops.now ≡ None = sym c.first_naming.ensures ∙ c.in-None.is in
+    names_none c.args.ctx.now c.args.ops.now none

@@ -1,0 +1,14 @@
+pub mod Flat
+pub mod Scopes
+pub mod Nesting
+pub mod Flattening
+pub mod Form
+pub mod Read
+pub mod Whole
+pub mod Views
+pub mod Inside
+pub mod Nested
+pub mod Dominance
+pub mod Simple
+pub mod Reserved
+pub mod Samples
