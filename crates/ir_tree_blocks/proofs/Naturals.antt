@@ -1,4 +1,4 @@
--- Integers of which none is negative.
+-- Integers that are not negative.
 use Rattle.std.proofs.Common.{◌≡◌, refl, ap, sym, ◌∙◌, ℕ, ℤ, pos, negsuc, Bool, cond, true, false, true≢false, List, [], ◌∷◌, map, Option, Some, None}
 use Rattle.std.specs.Prelude.{is_some, option_map, option_and_then}
 use Rattle.ir_types.specs.Terms.{AttrTerm, IntegerOf, String, TypeOf, Flag, Array, Dictionary, Symbol, DenseArray, Overflow, OpaqueOf}

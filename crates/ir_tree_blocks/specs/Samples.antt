@@ -40,7 +40,7 @@ return_op = plain_head 8 (codes "func.return") (Arg 4 0 0 ∷ []) [] []
 abbrev pub leaf : Head → FlatOp
 leaf h = flat_op h [] no_flat_regions
 
--- the flat tree: the loop is block 2, which stands behind block 1, where the function returns
+-- the flat tree: the loop is block 2, which comes after block 1, where the function returns
 abbrev pub flat_loop : FlatOp
 flat_loop =
     flat_op func [] (flat_region (flat_blocks (i32 ∷ [])

@@ -33,7 +33,7 @@ naturals [] = Some []
 naturals (pos n ∷ zs) = option_map (λ ns. n ∷ ns) (naturals zs)
 naturals (negsuc n ∷ zs) = None
 
--- its integers, some of which may be negative
+-- its integers, which may be negative
 abbrev pub i32_numbers : AttrTerm → Option (List ℤ)
 i32_numbers (DenseArray t zs) = if is_i32 t then Some zs else None
 i32_numbers a = None
