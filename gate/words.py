@@ -127,9 +127,9 @@ def messages():
     found = []
     for name, of in (("wanted", "module"), ("unsupported_expected", "construct")):
         arms = part(code, f"fn {name}(", "\n}\n")
-        for word, text in re.findall(r'(?:\w+::(\w+)|_) =>[\s{]*(?:Some\(\s*)?"((?:[^"\\]|\\.)*)"', arms):
+        for word, text in re.findall(r'(?:\w+::(\w+)|_) =>\s*b?"((?:[^"\\]|\\.)*)"', arms):
             found.append({"of": of, "word": causes.get(word, word) or "other" * (of == "construct"), "about": text})
-    opaque = re.search(r'"( is not modelled: .*?)"', code, re.S)[1]
+    opaque = re.search(r'b"( is not modelled: .*?)"', code, re.S)[1]
     found.append({"of": "opaque", "word": "", "about": opaque})
     return [{**row, "about": re.sub(r"\\(.)", r"\1", row["about"])} for row in found]
 

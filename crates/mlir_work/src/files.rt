@@ -6,7 +6,7 @@ use mlir_work_cli::options::CommandLine;
 use mlir_work_cli::reading::{PatternFileError, read_patterns};
 use mlir_work_cli::registry::PatternRegistry;
 use std::alloc::{AllocError, Global};
-use std::{fs, io, mem};
+use std::{fs, io};
 
 /// The file name for standard input or standard output.
 const STANDARD: &str = "-";
@@ -31,11 +31,29 @@ pub(crate) struct PatternFile<'a> {
     pub(crate) text: Vec<u8>,
 }
 
-/// Returns the file that an argument of the command line names, or `None` for standard input or standard output.
-pub(crate) fn file_named(name: Option<&str>) -> Option<&str> {
-    match name {
-        Some(STANDARD) => None,
-        name => name,
+/// Returns the output file, or `None` for standard output.
+pub(crate) fn output_of<'a>(given: &CommandLine<'a>) -> Option<&'a str> {
+    match given.output {
+        Some(name) => {
+            if name == STANDARD {
+                return None;
+            }
+            Some(name)
+        }
+        None => None,
+    }
+}
+
+/// Returns the file of the module, if the command line names one other than standard input.
+pub(crate) fn module_file<'a>(given: &CommandLine<'a>) -> Option<&'a str> {
+    match given.module {
+        Some(name) => {
+            if name == STANDARD {
+                return None;
+            }
+            Some(name)
+        }
+        None => None,
     }
 }
 
@@ -58,19 +76,16 @@ fn read<'a, R: io::Read>(
     }
 }
 
-/// Returns why a file can't be opened.
-fn unopened<'a>(error: &io::Error, name: &'a str) -> Fault<'a> {
-    if error.kind() == io::ErrorKind::NotFound {
-        return Fault::Missing(name);
-    }
-    Fault::Unreadable(name)
-}
-
 /// Reads a file.
 fn text_of_file<'a>(rt: &HostRuntime, name: &'a str) -> Result<Vec<u8>, Fault<'a>> {
     match fs::open(rt, name) {
         Ok(mut file) => read(rt.alloc(), &mut file, name),
-        Err(error) => Err(unopened(&error, name)),
+        Err(error) => {
+            if error.kind() == io::ErrorKind::NotFound {
+                return Err(Fault::Missing(name));
+            }
+            Err(Fault::Unreadable(name))
+        }
     }
 }
 
@@ -143,31 +158,24 @@ fn one(alloc: Global, text: Vec<u8>) -> Result<Vec<Vec<u8>>, AllocError> {
     Ok(texts)
 }
 
-/// Turns each module into an input by adding the scripts.
-fn add_scripts(
-    alloc: Global,
-    modules: &mut [Vec<u8>],
-    scripts: &[Vec<u8>],
-) -> Result<(), AllocError> {
-    for module in modules {
-        let text = mem::replace(module, Vec::new(alloc));
-        *module = input_of(alloc, text, scripts)?;
-    }
-    Ok(())
-}
-
 /// Returns the inputs that the command line names, one for each module. Without a module file the module comes from
 /// standard input.
 pub(crate) fn inputs<'a>(
     rt: &HostRuntime,
     given: &CommandLine<'a>,
 ) -> Result<Vec<Vec<u8>>, Fault<'a>> {
-    let mut inputs = modules_of(rt, given)?;
+    let modules = modules_of(rt, given)?;
     let scripts = scripts_of(rt, given)?;
-    match add_scripts(rt.alloc(), &mut inputs, &scripts) {
-        Ok(()) => Ok(inputs),
-        Err(_) => Err(Fault::Memory),
+    let mut inputs = Vec::new(rt.alloc());
+    for module in modules {
+        let Ok(input) = input_of(rt.alloc(), module, &scripts) else {
+            return Err(Fault::Memory);
+        };
+        if inputs.push(input).is_err() {
+            return Err(Fault::Memory);
+        }
     }
+    Ok(inputs)
 }
 
 /// Reads the files of user patterns that the command line names, in order. Here `-` isn't standard input.

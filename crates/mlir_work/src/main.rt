@@ -5,13 +5,14 @@ mod files;
 mod messages;
 
 use crate::files::{
-    Fault, PatternFile, file_named, inputs, names_any, pattern_files, rebuild_registry,
+    Fault, PatternFile, inputs, module_file, names_any, output_of, pattern_files, rebuild_registry,
     registry_from_files,
 };
-use crate::messages::{print_module_refusal, print_pattern_refusal};
+use crate::messages::{module_message, pattern_message, summary};
 use clap::Error;
 use clap::error::ErrorKind;
-use mlir_work_analyses::any_analysis::{AnyAnalysis, listed_listeners};
+use mlir_work_analyses::any_analysis::listed_listeners;
+use mlir_work_cli::count::op_count;
 use mlir_work_cli::dry_run::Bytes;
 use mlir_work_cli::error::PatternError;
 use mlir_work_cli::input::split;
@@ -20,14 +21,13 @@ use mlir_work_cli::live::run_live;
 use mlir_work_cli::options::{CommandLine, Format, options_of};
 use mlir_work_cli::positions::line_feeds;
 use mlir_work_cli::reading::PatternFileError;
-use mlir_work_cli::registry::PatternRegistry;
-use mlir_work_cli::run::{count_of, run_watched};
+use mlir_work_cli::run::{ParseError, run_watched, tree_of};
 use mlir_work_cli::sink::Sink;
 use mlir_work_cli::source::Source;
 use mlir_work_cli::watched::Watched;
 use mlir_work_cli::writing::write;
 use std::alloc::{AllocError, Global};
-use std::io::BufWriter;
+use std::io::{BufWriter, Write};
 use std::process::ExitCode;
 use std::random::RandomSource;
 use std::{env, fs, io};
@@ -93,6 +93,12 @@ fn refuse_input(rt: &HostRuntime, fault: &Fault<'_>) -> u8 {
     2
 }
 
+/// Writes a message to standard error. Nothing can be done if that fails.
+fn tell(rt: &HostRuntime, message: &[u8]) {
+    let mut end = rt.stderr();
+    let _ = end.write_all(message);
+}
+
 /// Prints where and why a line of a pattern file was refused. Returns the status.
 fn refuse_pattern(
     rt: &HostRuntime,
@@ -104,15 +110,22 @@ fn refuse_pattern(
         return Ok(no_memory(rt));
     };
     let refusal = fault.refusal.refusal();
-    print_pattern_refusal(
-        rt,
+    let message = pattern_message(
+        rt.alloc(),
         file.name,
         &file.text,
         unparsed.line,
         unparsed.at,
         refusal,
     )?;
+    tell(rt, &message);
     Ok(2)
+}
+
+/// Returns how many operations are in the module of a text, without the root.
+fn count_in(rt: &HostRuntime, opaque: bool, text: &[u8]) -> Result<u64, ParseError> {
+    let read = tree_of(rt.alloc(), key_of(rt), opaque, text)?;
+    Ok(op_count(&read.1).saturating_sub(1))
 }
 
 /// Prints where and why the module of a file was refused, or how many operations it has if there is no command.
@@ -123,21 +136,22 @@ fn comment(
     first: usize,
     input: &[u8],
 ) -> Result<(), AllocError> {
-    let Some(name) = file_named(given.module) else {
+    let Some(name) = module_file(given) else {
         return Ok(());
     };
     let (text, script) = split(input);
-    match count_of(rt.alloc(), key_of(rt), given.options.opaque, text) {
+    match count_in(rt, given.options.opaque, text) {
         Ok(count) => {
             if script.is_empty() {
-                let _ = eprintln!(rt;
-                    "{name}: read a module of {count} operations: add a command, as -e 'print ids', or --help"
-                );
+                tell(rt, &summary(rt.alloc(), name, count)?);
             }
-            Ok(())
         }
-        Err(unparsed) => print_module_refusal(rt, name, first, text, &unparsed),
+        Err(unparsed) => tell(
+            rt,
+            &module_message(rt.alloc(), name, first, text, &unparsed)?,
+        ),
     }
+    Ok(())
 }
 
 /// Returns whether a run calls for a comment: its module was refused, or it has no command.
@@ -152,32 +166,6 @@ fn line_after(first: usize, input: &[u8]) -> usize {
     first.saturating_add(line_feeds(text)).saturating_add(1)
 }
 
-/// Returns whether the command line names files or commands, and not only standard input and standard output.
-fn runs_files(given: &CommandLine<'_>) -> bool {
-    names_any(given) || file_named(given.output).is_some()
-}
-
-/// Runs the input of a reader with these listeners and user patterns. Returns the status, which is also 4 if a line
-/// that is answered at once is too long or memory ran out for it.
-fn run_with_listeners<R: Source, W: Sink>(
-    rt: &HostRuntime,
-    given: &CommandLine<'_>,
-    reader: &mut R,
-    writer: &mut W,
-    boxes: &mut Vec<AnyAnalysis>,
-    registry: &mut PatternRegistry,
-) -> Result<u8, AllocError> {
-    let (alloc, key, options) = (rt.alloc(), key_of(rt), given.options);
-    if given.options.ends && !runs_files(given) {
-        let ran = run_live(alloc, key, options, reader, writer, boxes, registry);
-        return Ok(ran.unwrap_or(4));
-    }
-    match given.format {
-        Format::Text => Ok(run_watched(alloc, key, options, reader, writer, boxes, registry)),
-        Format::Json => run_as_json(alloc, key, options, reader, writer, boxes, registry),
-    }
-}
-
 /// Runs the input of a reader with the listed analyses, in the order of their kinds, and user patterns. Returns the
 /// status.
 fn run_one<R: Source, W: Sink>(
@@ -187,9 +175,13 @@ fn run_one<R: Source, W: Sink>(
     reader: &mut R,
     writer: &mut W,
 ) -> Result<u8, AllocError> {
-    let mut boxes = listed_listeners(rt.alloc(), given.options.opaque, &given.analyses)?;
-    let mut registry = rebuild_registry(rt.alloc(), patterns)?;
-    run_with_listeners(rt, given, reader, writer, &mut boxes, &mut registry)
+    let boxes = listed_listeners(rt.alloc(), given.options.opaque, &given.analyses)?;
+    let registry = rebuild_registry(rt.alloc(), patterns)?;
+    let (alloc, key, options) = (rt.alloc(), key_of(rt), given.options);
+    match given.format {
+        Format::Text => Ok(run_watched(alloc, key, options, reader, writer, boxes, registry)),
+        Format::Json => run_as_json(alloc, key, options, reader, writer, boxes, registry),
+    }
 }
 
 /// Returns a writer that records whether a write failed.
@@ -223,53 +215,9 @@ fn write_divider<W: Sink>(given: &CommandLine<'_>, writer: &mut W) -> bool {
     write(writer, line).is_ok()
 }
 
-/// Runs one of several inputs, whose module begins in a line of its file, with a new pattern registry. Returns the
-/// status.
-fn run_next<W: Sink>(
-    rt: &HostRuntime,
-    given: &CommandLine<'_>,
-    patterns: &[PatternFile<'_>],
-    first: usize,
-    input: &[u8],
-    writer: &mut W,
-) -> Result<u8, AllocError> {
-    if first > 1 && !write_divider(given, writer) {
-        return Ok(4);
-    }
-    let mut reader = Bytes { rest: input };
-    let status = run_one(rt, given, patterns, &mut reader, writer)?;
-    if needs_comment(input, status) {
-        comment(rt, given, first, input)?;
-    }
-    Ok(status)
-}
-
-/// Runs inputs one after another. Returns the largest status. Stops if a write fails.
-fn run_inputs<W: Sink>(
-    rt: &HostRuntime,
-    given: &CommandLine<'_>,
-    patterns: &[PatternFile<'_>],
-    inputs: &[Vec<u8>],
-    writer: &mut W,
-) -> Result<u8, AllocError> {
-    let mut worst = 0;
-    let mut line = 1;
-    for input in inputs {
-        let status = run_next(rt, given, patterns, line, input, writer)?;
-        line = line_after(line, input);
-        if status > worst {
-            worst = status;
-        }
-        if worst == 4 {
-            break;
-        }
-    }
-    Ok(worst)
-}
-
-/// Runs inputs one after another, and writes their outputs to a file or to standard output. Returns the largest
-/// status.
-fn run_inputs_into<W: io::Write + Drop>(
+/// Runs inputs one after another, each with a new pattern registry. Returns the largest status. Stops if a write
+/// fails.
+fn run_inputs<W: io::Write + Drop>(
     rt: &HostRuntime,
     given: &CommandLine<'_>,
     patterns: &[PatternFile<'_>],
@@ -277,7 +225,28 @@ fn run_inputs_into<W: io::Write + Drop>(
     writer: W,
 ) -> Result<u8, AllocError> {
     let mut writer = watched(rt.alloc(), writer)?;
-    run_inputs(rt, given, patterns, inputs, &mut writer)
+    let mut worst = 0;
+    let mut line = 1;
+    for input in inputs {
+        if line > 1 && !write_divider(given, &mut writer) {
+            return Ok(4);
+        }
+        let mut reader = Bytes {
+            rest: input.as_slice(),
+        };
+        let status = run_one(rt, given, patterns, &mut reader, &mut writer)?;
+        if needs_comment(input, status) {
+            comment(rt, given, line, input)?;
+        }
+        line = line_after(line, input);
+        if status > worst {
+            worst = status;
+        }
+        if worst == 4 {
+            return Ok(4);
+        }
+    }
+    Ok(worst)
 }
 
 /// Runs the input that the command line names. Returns the status.
@@ -290,11 +259,11 @@ fn run_named(
         Ok(inputs) => inputs,
         Err(fault) => return Ok(refuse_input(rt, &fault)),
     };
-    let Some(name) = file_named(given.output) else {
-        return run_inputs_into(rt, given, patterns, &inputs, io::writer(rt));
+    let Some(name) = output_of(given) else {
+        return run_inputs(rt, given, patterns, &inputs, io::writer(rt));
     };
     match fs::create(rt, name) {
-        Ok(file) => run_inputs_into(rt, given, patterns, &inputs, file),
+        Ok(file) => run_inputs(rt, given, patterns, &inputs, file),
         Err(_) => {
             let _ = eprintln!(rt;
                 "error: {name}: this file can't be written: name one that you may write"
@@ -304,14 +273,44 @@ fn run_named(
     }
 }
 
+/// Answers each line of standard input at once, with the listed analyses, in the order of their kinds, and user
+/// patterns. Returns the status, which is also 4 if a line is too long or memory ran out for one.
+fn answer_lines(
+    rt: &HostRuntime,
+    given: &CommandLine<'_>,
+    patterns: &[PatternFile<'_>],
+) -> Result<u8, AllocError> {
+    let listeners = listed_listeners(rt.alloc(), given.options.opaque, &given.analyses)?;
+    let registry = rebuild_registry(rt.alloc(), patterns)?;
+    let Ok(writer) = BufWriter::new(rt.alloc(), io::writer(rt)) else {
+        return Err(AllocError);
+    };
+    let mut reader = Watched::new(rt.stdin());
+    let mut writer = Watched::new(writer);
+    let key = key_of(rt);
+    let ran = run_live(
+        rt.alloc(),
+        key,
+        given.options,
+        &mut reader,
+        &mut writer,
+        listeners,
+        registry,
+    );
+    Ok(ran.unwrap_or(4))
+}
+
 /// Runs as the command line says, with the user patterns that it names. Returns the status.
 fn run_with(
     rt: &HostRuntime,
     given: &CommandLine<'_>,
     patterns: &[PatternFile<'_>],
 ) -> Result<u8, AllocError> {
-    if runs_files(given) {
+    if names_any(given) || output_of(given).is_some() {
         return run_named(rt, given, patterns);
+    }
+    if given.options.ends {
+        return answer_lines(rt, given, patterns);
     }
     run_standard(rt, given, patterns)
 }

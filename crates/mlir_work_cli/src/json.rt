@@ -39,11 +39,11 @@ fn kept_output<L: AnalysisSource, R: Source>(
     key: u64,
     options: Options,
     reader: &mut R,
-    boxes: &mut Vec<L>,
-    registry: &mut PatternRegistry,
+    boxes: Vec<L>,
+    registry: PatternRegistry,
 ) -> Result<(u8, Vec<u8>), AllocError>
     ensures ran { IfOk result (λ kept. IfSome (R.intake reader.old).remaining (λ input. HasStatus
-        (IsOutput (setting_with L.supply options (registry_model registry.old)) (all_shown L.meaning boxes.old.items) input)
+        (IsOutput (setting_with L.supply options (registry_model registry)) (all_shown L.meaning boxes.items) input)
         (Some []) (Some kept.1.items) kept.0)) }
     ensures reads { IfOk result (λ kept. ReadsFor (R.intake reader.old) (R.intake reader.new) kept.0) }
     ensures memory { OnErr result (IsReadWhole (R.intake reader.old) (R.intake reader.new)) }
@@ -82,11 +82,11 @@ pub fn run_as_json<L: AnalysisSource, R: Source, W: Sink>(
     options: Options,
     reader: &mut R,
     writer: &mut W,
-    boxes: &mut Vec<L>,
-    registry: &mut PatternRegistry,
+    boxes: Vec<L>,
+    registry: PatternRegistry,
 ) -> Result<u8, AllocError>
     ensures ran { IfOk result (λ status. IfSome (R.intake reader.old).remaining (λ input. HasStatus
-        (IsJsonOutput (setting_with L.supply options (registry_model registry.old)) (all_shown L.meaning boxes.old.items) input)
+        (IsJsonOutput (setting_with L.supply options (registry_model registry)) (all_shown L.meaning boxes.items) input)
         (W.stream writer.old).contents (W.stream writer.new).contents status)) }
     ensures leaves { IfOk result (λ status. LeavesAt (R.intake reader.old) (R.intake reader.new)
         (W.stream writer.old) (W.stream writer.new) (W.handed writer.new) status) }

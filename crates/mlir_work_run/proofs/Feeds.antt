@@ -8,7 +8,7 @@ use Rattle.std.specs.Io.KnownBytes.{Consumes, IsAtEnd, Keeps}
 use Rattle.mlir_work_script_base.specs.Lines.{is_newline, line_of, after_line}
 use Rattle.mlir_work_script_base.specs.Parts.{at_divider}
 use Rattle.mlir_work_script_base.proofs.Spanning.{Passed, begins, begins_script, ends_module, preceding_is, passes}
-use Rattle.mlir_work_run.specs.Feeding.{HasFeed, HasLine, IsMore, StartsLong, TakesLine, TakesModule, waiting}
+use Rattle.mlir_work_run.specs.Feeding.{HasFeed, HasLine, IsLong, IsMore, StartsLong, TakesLine, TakesModule, waiting}
 
 pub keeps_same : (a : Option (List ℕ)) → Keeps a a
 keeps_same None = tt

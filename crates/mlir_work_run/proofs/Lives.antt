@@ -28,6 +28,7 @@ use Rattle.mlir_work_run.specs.Ends.{HandedOut, IsFinal}
 use Rattle.mlir_work_run.specs.Live.{Anywhere, AreFirst, BeforeTooLong, HasFailedLive, IsLive, IsLiveOf, IsTooLong, IsUpTo, Live, LiveEnded, LiveEndedAt, LiveLeaves, Lives, MayStop, divider_bytes, exit_of, halt_of, halted_of, whole_lines}
 use Rattle.mlir_work_run.specs.Whole.{Setting, session_setting_at}
 use Rattle.mlir_work_run.specs.declared.live.Unanswered.{Unanswered}
+use Rattle.mlir_work_run.specs.declared.live.Unanswered.TheVariants.{Memory as LineMemory, TooLong as LineTooLong}
 use Rattle.mlir_work_run.specs.declared.live.Halt.{Halt}
 use Rattle.mlir_work_run.specs.declared.live.Halt.TheVariants.{Read as ReadFailed, Write as WriteFailed, Memory as NoMemory, TooLong}
 

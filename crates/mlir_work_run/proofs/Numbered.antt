@@ -5,7 +5,7 @@ use Rattle.mlir_work_session.specs.Public.{IsOnly}
 use Rattle.ir_text_modules.specs.Modules.{SpellsModule}
 use Rattle.mlir_work_run.specs.Whole.{IsWorldOf}
 use Rattle.std.specs.Prelude.{Bool, IsTrue}
-use Rattle.std.proofs.Common.{ap, ◌≡◌, ◌≢◌, ◌<◌, ◌∙◌, sym, subst, ℕ, List, All, eqb, arith}
+use Rattle.std.proofs.Common.{ap, ◌≡◌, ◌≢◌, ◌<◌, ◌∙◌, sym, subst, ℕ, List, All, eqb, arith, refl}
 use Rattle.std.specs.Cmp.{unsigned_Decides}
 use Rattle.std.specs.List.{AllPairs, IsDistinct, range_with_len}
 use Rattle.std.proofs.lemmas.List.FromFn.{length-range_with_len, get_or-range_with_len}

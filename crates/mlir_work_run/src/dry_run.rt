@@ -2,9 +2,8 @@
 ghost use Rattle.std.specs.Prelude.{ℕ, List, Some, None, false, true};
 ghost use Rattle.mlir_work_session.specs.Panels.{all_shown};
 ghost use Rattle.mlir_work_session.specs.Reads.{Intake};
-ghost use Rattle.mlir_work_session.specs.Registry.{registry_model};
 ghost use Rattle.mlir_work_session.specs.Writes.{Stream};
-ghost use Rattle.mlir_work_run.specs.Whole.{IsOutput, setting_with};
+ghost use Rattle.mlir_work_run.specs.Whole.{IsOutput, setting_of};
 
 use crate::run::{Options, run_watched};
 use mlir_work_session::analysis_source::AnalysisSource;
@@ -52,16 +51,14 @@ impl Sink for NullSink {
 }
 
 /// Returns the exit status of a run on an input: 0, 1 or 3. It is the status of an output of the input, and never 4.
-/// The run takes the listeners and the user patterns, as `run_watched` does.
 pub fn dry_run<L: AnalysisSource>(
     alloc: Global,
     key: u64,
     options: Options,
     input: &[u8],
-    boxes: &mut Vec<L>,
-    registry: &mut PatternRegistry,
+    boxes: Vec<L>,
 ) -> u8
-    ensures { (out : List ℕ) × IsOutput (setting_with L.supply options (registry_model registry.old)) (all_shown L.meaning boxes.old.items) input.now result out }
+    ensures { (out : List ℕ) × IsOutput (setting_of L.supply options) (all_shown L.meaning boxes.items) input.now result out }
 {
     let mut reader = Bytes { rest: input };
     run_watched(
@@ -71,6 +68,6 @@ pub fn dry_run<L: AnalysisSource>(
         &mut reader,
         &mut NullSink,
         boxes,
-        registry,
+        PatternRegistry::new(alloc),
     )
 }

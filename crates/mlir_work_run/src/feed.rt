@@ -10,6 +10,7 @@ use mlir_work_session::lines::split_line;
 use mlir_work_session::sink::Sink;
 use mlir_work_session::source::{Source, SourceFault};
 use std::alloc::Global;
+use thiserror::Error;
 
 /// The bytes that one read asks for.
 const CHUNK: usize = 8192;
@@ -18,18 +19,21 @@ const CHUNK: usize = 8192;
 const MOST_READS: u64 = u64::MAX;
 
 /// Why no line was taken.
-#[derive(Clone, Copy)]
+#[derive(Clone, Copy, Debug, PartialEq, Eq, Error)]
 pub enum LineError {
     /// A read failed.
+    #[error("a read failed")]
     Broken,
     /// Memory ran out, or more than `MOST_READS` reads were needed.
+    #[error("memory was refused")]
     Memory,
     /// The line is longer than allowed.
+    #[error("the line is too long")]
     TooMany,
 }
 
 /// The result of one read.
-#[derive(Clone, Copy)]
+#[derive(Clone, Copy, PartialEq, Eq)]
 enum LineChunk {
     /// Bytes with a line feed.
     Line,

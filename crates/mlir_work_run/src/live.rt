@@ -37,30 +37,36 @@ use mlir_work_session::sink::Sink;
 use mlir_work_session::source::Source;
 use mlir_work_session::writing::{WriteFault, flush};
 use std::alloc::Global;
-use std::mem;
+use thiserror::Error;
 
 /// The number of bytes of the divider line, with its line feed.
 const DIVIDER_BYTES: usize = 9;
 
 /// Why a live run ends before its input does.
-#[derive(Clone, Copy)]
+#[derive(Clone, Copy, Debug, PartialEq, Eq, Error)]
 pub enum Halt {
     /// A read failed.
+    #[error("the input couldn't be read")]
     Read,
     /// A write failed.
+    #[error("the output couldn't be written")]
     Write,
     /// Memory ran out for the next line.
+    #[error("there was no memory for a line")]
     Memory,
     /// The next line is too long, or the byte count overflows.
+    #[error("a line is too long")]
     TooLong,
 }
 
 /// Why a live run has no status.
-#[derive(Clone, Copy)]
+#[derive(Clone, Copy, Debug, PartialEq, Eq, Error)]
 pub enum Unanswered {
     /// Memory ran out for the next line.
+    #[error("there was no memory for a line")]
     Memory,
     /// The next line is too long, or the byte count overflows.
+    #[error("a line is too long")]
     TooLong,
 }
 
@@ -115,21 +121,20 @@ pub fn live_step<L: AnalysisSource, W: Sink>(
 
 /// Begins a session, and writes and flushes the answer to its module.
 fn begin_live<L: Analysis, W: Sink>(
-    alloc: Global,
     ends: bool,
     bench: &mut Bench<L>,
-    boxes: &mut Vec<L>,
+    boxes: Vec<L>,
     writer: &mut W,
 ) -> Result<bool, WriteFault>
     requires none { bench.old.listeners ≡ [] }
     requires unmarked { open_marks bench.old.transaction ≡ [] }
-    ensures begun { AttachedOut (Begun ends (all_shown L.meaning boxes.old.items) (module_held bench.old.transaction))
+    ensures begun { AttachedOut (Begun ends (all_shown L.meaning boxes.items) (module_held bench.old.transaction))
         (state_of L.meaning bench.new) (W.stream writer.old) (W.stream writer.new) result }
     ensures handed { IfOk result (λ _. W.handed writer.new ≡ true) }
     ensures kept { AgreesOrStale L.meaning bench.new }
     ensures mode { bench.new.transaction.ctx.opaque ≡ bench.old.transaction.ctx.opaque }
 {
-    let accepted = match begin(ends, bench, mem::replace(boxes, Vec::new(alloc)), writer) {
+    let accepted = match begin(ends, bench, boxes, writer) {
         Ok(accepted) => accepted,
         Err(fault) => return Err(fault),
     };
@@ -206,26 +211,34 @@ fn answer_in_rewriter<L: AnalysisSource, R: Source, W: Sink>(
     kept: &mut Vec<u8>,
     reader: &mut R,
     writer: &mut W,
-    boxes: &mut Vec<L>,
-    registry: &mut PatternRegistry,
+    boxes: Vec<L>,
+    registry: PatternRegistry,
 ) -> Result<u8, Halt>
     requires none { bench.old.listeners ≡ [] }
     requires unmarked { open_marks bench.old.transaction ≡ [] }
     requires mode { bench.old.transaction.ctx.opaque ≡ options.opaque }
     requires trailing { divider_bytes ≤ before }
     ensures ended { IfSome (waiting kept.old.items (R.intake reader.old).remaining) (λ script. LiveEnded before
-        (Live (setting_with L.supply options (registry_model registry.old)) (all_shown L.meaning boxes.old.items) (module_held bench.old.transaction) before)
+        (Live (setting_with L.supply options (registry_model registry)) (all_shown L.meaning boxes.items) (module_held bench.old.transaction) before)
         (whole_lines script)
         (W.stream writer.old) (W.stream writer.new) (W.handed writer.new) result) }
     ensures leaves { LiveLeaves (R.intake reader.old) (R.intake reader.new)
         (W.stream writer.old) (W.stream writer.new) (W.handed writer.new) result }
 {
-    let accepted = match begin_live(alloc, options.ends, bench, boxes, writer) {
+    let accepted = match begin_live(options.ends, bench, boxes, writer) {
         Ok(accepted) => accepted,
         Err(WriteFault) => return Err(Halt::Write),
     };
+    let mut registry = registry;
     match answer_lines(
-        alloc, options, before, bench, registry, kept, reader, writer,
+        alloc,
+        options,
+        before,
+        bench,
+        &mut registry,
+        kept,
+        reader,
+        writer,
     ) {
         Ok(status) => Ok(worse(accepted, status)),
         Err(halt) => Err(halt),
@@ -241,15 +254,15 @@ fn answer_world<L: AnalysisSource, R: Source, W: Sink>(
     kept: &mut Vec<u8>,
     reader: &mut R,
     writer: &mut W,
-    boxes: &mut Vec<L>,
-    registry: &mut PatternRegistry,
+    boxes: Vec<L>,
+    registry: PatternRegistry,
 ) -> Result<u8, Halt>
     requires slotted { TracksRemovedKeys world.store }
     requires tidy { HasNoStaleIds world.store }
     requires mode { world.ctx.opaque ≡ options.opaque }
     requires trailing { divider_bytes ≤ before }
     ensures ended { IfSome (waiting kept.old.items (R.intake reader.old).remaining) (λ script. LiveEnded before
-        (Live (setting_with L.supply options (registry_model registry.old)) (all_shown L.meaning boxes.old.items) (module_in world) before)
+        (Live (setting_with L.supply options (registry_model registry)) (all_shown L.meaning boxes.items) (module_in world) before)
         (whole_lines script)
         (W.stream writer.old) (W.stream writer.new) (W.handed writer.new) result) }
     ensures leaves { LiveLeaves (R.intake reader.old) (R.intake reader.new)
@@ -309,11 +322,11 @@ fn answer_text<L: AnalysisSource, R: Source, W: Sink>(
     kept: &mut Vec<u8>,
     reader: &mut R,
     writer: &mut W,
-    boxes: &mut Vec<L>,
-    registry: &mut PatternRegistry,
+    boxes: Vec<L>,
+    registry: PatternRegistry,
 ) -> Result<u8, Halt>
     ensures ended { IfSome (waiting kept.old.items (R.intake reader.old).remaining) (λ script. LiveEnded (length text.items + divider_bytes)
-        (IsLive (setting_with L.supply options (registry_model registry.old)) (all_shown L.meaning boxes.old.items) text.items) (whole_lines script)
+        (IsLive (setting_with L.supply options (registry_model registry)) (all_shown L.meaning boxes.items) text.items) (whole_lines script)
         (W.stream writer.old) (W.stream writer.new) (W.handed writer.new) result) }
     ensures leaves { LiveLeaves (R.intake reader.old) (R.intake reader.new)
         (W.stream writer.old) (W.stream writer.new) (W.handed writer.new) result }
@@ -337,11 +350,11 @@ pub fn answer_live<L: AnalysisSource, R: Source, W: Sink>(
     options: Options,
     reader: &mut R,
     writer: &mut W,
-    boxes: &mut Vec<L>,
-    registry: &mut PatternRegistry,
+    boxes: Vec<L>,
+    registry: PatternRegistry,
 ) -> Result<u8, Halt>
     ensures ended { IfSome (R.intake reader.old).remaining (λ input. LiveEnded (length (module_text input) + divider_bytes)
-        (IsLiveOf (setting_with L.supply options (registry_model registry.old)) (all_shown L.meaning boxes.old.items) input) (whole_lines (script_text input))
+        (IsLiveOf (setting_with L.supply options (registry_model registry)) (all_shown L.meaning boxes.items) input) (whole_lines (script_text input))
         (W.stream writer.old) (W.stream writer.new) (W.handed writer.new) result) }
     ensures leaves { LiveLeaves (R.intake reader.old) (R.intake reader.new)
         (W.stream writer.old) (W.stream writer.new) (W.handed writer.new) result }
@@ -406,14 +419,14 @@ pub fn run_live<L: AnalysisSource, R: Source, W: Sink>(
     options: Options,
     reader: &mut R,
     writer: &mut W,
-    boxes: &mut Vec<L>,
-    registry: &mut PatternRegistry,
+    boxes: Vec<L>,
+    registry: PatternRegistry,
 ) -> Result<u8, Unanswered>
     ensures live { IfSome (R.intake reader.old).remaining (λ input. LiveEndedAt (length (module_text input) + divider_bytes)
-        (IsLiveOf (setting_with L.supply options (registry_model registry.old)) (all_shown L.meaning boxes.old.items) input) (whole_lines (script_text input))
+        (IsLiveOf (setting_with L.supply options (registry_model registry)) (all_shown L.meaning boxes.items) input) (whole_lines (script_text input))
         (R.intake reader.new) (W.stream writer.old) (W.stream writer.new) (W.handed writer.new) result) }
     ensures whole { IfSome (R.intake reader.old).remaining (λ input. LiveEndedAt (length (module_text input) + divider_bytes)
-        (IsWholeUpTo (setting_with L.supply options (registry_model registry.old)) (all_shown L.meaning boxes.old.items) input) (whole_lines (script_text input))
+        (IsWholeUpTo (setting_with L.supply options (registry_model registry)) (all_shown L.meaning boxes.items) input) (whole_lines (script_text input))
         (R.intake reader.new) (W.stream writer.old) (W.stream writer.new) (W.handed writer.new) result) }
     ensures fault { IfOk result (λ status. status ≡ 4 → HasFailedLive (R.intake reader.new) (W.stream writer.new)) }
 {

@@ -1,9 +1,10 @@
 //! A whole run, from input bytes to output bytes.
-ghost use Rattle.std.specs.Prelude.{◌≡◌, ◌≤◌, ◌-◌, ◌^◌, min, ℕ, IsTrue, length, IfOk, IfErr, IfSome, None, Some, false, true};
+ghost use Rattle.std.specs.Prelude.{◌≡◌, ◌≤◌, ℕ, IsTrue, length, IfOk, IfErr, IfSome, None, Some, false, true};
+ghost use Rattle.std.specs.Io.KnownBytes.{Keeps};
 ghost use Rattle.ir_event.specs.trees.Ids.{IsNumberedFrom, op_count};
 ghost use Rattle.ir_event.specs.trees.Meaning.{meaning, isolated_in, IsSoundIn};
 ghost use Rattle.ir_event.specs.trees.WellFormed.{IsValidTree};
-ghost use Rattle.ir_event.specs.Modules.{Module, module_in};
+ghost use Rattle.ir_event.specs.Modules.{module_in};
 ghost use Rattle.mlir_work_session.specs.Public.{IsOnly};
 ghost use Rattle.ir_text_modules.specs.Modules.{SpellsModule};
 ghost use Rattle.rewriter_machine.specs.Journals.{TracksRemovedKeys, HasNoStaleIds};
@@ -18,11 +19,11 @@ ghost use Rattle.mlir_work_session.specs.Output.{IsSession, SessionSetting, sess
 ghost use Rattle.mlir_work_session.specs.PrintsAlone.{all_print, kinds_apart};
 ghost use Rattle.mlir_work_run.specs.Ends.{EndedSo, HandedOut, HasFailed, HasStatus, Leaves, LeavesAt, ended_of};
 ghost use Rattle.mlir_work_run.specs.Ends.{status_of};
-ghost use Rattle.mlir_work_run.specs.Whole.{IsOutput, IsRefusal, IsWorldOf, WhyNot, construct_if, session_options_of, module_construct, setting_with};
+ghost use Rattle.mlir_work_run.specs.Whole.{IsOutput, IsRefusal, WhyNot, construct_if, session_options_of, module_construct, setting_of, setting_with};
 
 use crate::write_refusal::{construct_if, write_module_refusal};
+use dialects_int::tables::registry;
 use ir_event::analysis::Analysis;
-use ir_event::registry::registry::Registry;
 use ir_event::trees::count::op_count;
 use ir_event::trees::tree::TreeOp;
 use ir_event::types::context::Context;
@@ -42,10 +43,11 @@ use mlir_work_session::source::Source;
 use mlir_work_session::writing::{WriteFault, flush};
 use rewriter_machine::journal_laws::{stores_stay_slotted, stores_stay_tidy};
 use std::alloc::Global;
-use std::mem;
+use std::io::{Read, Write};
+use thiserror::Error;
 
 /// The options of a run.
-#[derive(Clone, Copy)]
+#[derive(Clone, Copy, Debug)]
 pub struct Options {
     /// Whether to leave out the listing (module and report rows) after each command.
     pub brief: bool,
@@ -64,17 +66,20 @@ pub struct Options {
 }
 
 /// Why a run has no status.
-#[derive(Clone, Copy)]
+#[derive(Clone, Copy, Debug, PartialEq, Eq, Error)]
 pub enum Fault {
     /// The input couldn't be read.
+    #[error("the input couldn't be read")]
     Read,
     /// The output couldn't be written.
+    #[error("the output couldn't be written")]
     Write,
 }
 
 /// Why a text was refused, the byte at which it was refused, and the unsupported MLIR construct there, if that is the
 /// reason.
-#[derive(Clone, Copy)]
+#[derive(Clone, Copy, Debug, PartialEq, Eq, Error)]
+#[error("{refusal}")]
 pub struct ParseError {
     pub refusal: Refusal,
     pub offset: Option<usize>,
@@ -126,18 +131,6 @@ pub fn tree_of(
     }
 }
 
-/// Returns how many operations are in the module of a text, without the root.
-pub fn count_of(alloc: Global, key: u64, opaque: bool, text: &[u8]) -> Result<u64, ParseError>
-    ensures counted { IfOk result (λ n. (m : Module) × IsWorldOf opaque text.now m × (n ≡ min m.next (2 ^ 64 - 1) - 1)) }
-    ensures unparsed { IfErr result (λ e. WhyNot opaque text.now e.refusal e.offset) }
-    ensures unsupported { IfErr result (λ e. e.unsupported ≡ module_construct text.now e.refusal e.offset) }
-{
-    match tree_of(alloc, key, opaque, text) {
-        Ok(found) => Ok(op_count(&found.1).saturating_sub(1)),
-        Err(unparsed) => Err(unparsed),
-    }
-}
-
 /// Returns the number of operations of a tree, or `None` if it doesn't fit into an id.
 fn next_free(tree: &TreeOp) -> Option<u32>
     ensures { IfSome result (λ n. n ≡ op_count tree.now) }
@@ -161,7 +154,10 @@ pub fn hold(alloc: Global, ctx: Context, tree: TreeOp) -> Option<World>
     let Some(next) = next_free(&tree) else {
         return None;
     };
-    match World::from_checked(alloc, ctx, Registry::new(), tree, next) {
+    let Ok(registry) = registry(&ctx) else {
+        return None;
+    };
+    match World::from_checked(alloc, ctx, registry, tree, next) {
         Ok(world) => Some(world),
         Err(_) => None,
     }
@@ -212,7 +208,7 @@ pub(crate) fn refuse<W: Sink>(
     }
 }
 
-/// Copies the script of an input and parses its module, and then frees the input, whose text may be as large as the
+/// Parses the module of an input and copies its script, and then frees the input, whose text may be as large as the
 /// module.
 fn taken_apart(
     alloc: Global,
@@ -228,13 +224,14 @@ fn taken_apart(
     ensures unsupported { IfErr result (λ e. e.unsupported ≡ module_construct (module_text input.items) e.refusal e.offset) }
 {
     let (module, script) = split(&input);
+    let found = match tree_of(alloc, key, opaque, module) {
+        Ok(found) => found,
+        Err(unparsed) => return Err(unparsed),
+    };
     let Ok(script) = Vec::from_slice(alloc, script) else {
         return Err(no_memory());
     };
-    match tree_of(alloc, key, opaque, module) {
-        Ok(found) => Ok((found, script)),
-        Err(unparsed) => Err(unparsed),
-    }
+    Ok((found, script))
 }
 
 /// Returns whether a script only prints, all listeners have different kinds and `ends` isn't set. No line then reads
@@ -282,13 +279,13 @@ fn answer_script<W: Sink, L: AnalysisSource>(
     world: World,
     script: &[u8],
     writer: &mut W,
-    boxes: &mut Vec<L>,
-    registry: &mut PatternRegistry,
+    boxes: Vec<L>,
+    registry: PatternRegistry,
 ) -> Result<u8, WriteFault>
     requires slotted { TracksRemovedKeys world.store }
     requires tidy { HasNoStaleIds world.store }
     requires mode { world.ctx.opaque ≡ session_options.now.opaque }
-    ensures { HandedOut (IsSession (session_setting L.supply session_options.now) (registry_model registry.old) (all_shown L.meaning boxes.old.items) (module_in world) script.now)
+    ensures { HandedOut (IsSession (session_setting L.supply session_options.now) (registry_model registry) (all_shown L.meaning boxes.items) (module_in world) script.now)
         (W.stream writer.old) (W.stream writer.new) (W.handed writer.new) result }
 {
     match run_session(
@@ -297,8 +294,8 @@ fn answer_script<W: Sink, L: AnalysisSource>(
         world,
         script,
         writer,
-        mem::replace(boxes, Vec::new(alloc)),
-        mem::replace(registry, PatternRegistry::new(alloc)),
+        boxes,
+        registry,
     ) {
         Ok(status) => finish(writer, status),
         Err(fault) => Err(fault),
@@ -327,11 +324,11 @@ fn answer_input<W: Sink, L: AnalysisSource>(
     options: Options,
     input: Vec<u8>,
     writer: &mut W,
-    boxes: &mut Vec<L>,
-    registry: &mut PatternRegistry,
+    boxes: Vec<L>,
+    registry: PatternRegistry,
 ) -> Result<u8, WriteFault>
     requires { length input.items ≤ most_input_bytes }
-    ensures { HandedOut (IsOutput (setting_with L.supply options (registry_model registry.old)) (all_shown L.meaning boxes.old.items) input.items)
+    ensures { HandedOut (IsOutput (setting_with L.supply options (registry_model registry)) (all_shown L.meaning boxes.items) input.items)
         (W.stream writer.old) (W.stream writer.new) (W.handed writer.new) result }
 {
     let session_options = session_options_of(options, input.len());
@@ -339,8 +336,8 @@ fn answer_input<W: Sink, L: AnalysisSource>(
         Ok(parts) => parts,
         Err(unparsed) => return refuse(writer, options.explain, unparsed),
     };
-    if asks_for_prints(options.ends, &script, boxes) {
-        return answer_prints(alloc, &ctx, &tree, &script, writer, boxes);
+    if asks_for_prints(options.ends, &script, &boxes) {
+        return answer_prints(alloc, &ctx, &tree, &script, writer, &boxes);
     }
     let Some(world) = hold(alloc, ctx, tree) else {
         return refuse(writer, options.explain, no_memory());
@@ -376,11 +373,11 @@ pub fn read_and_answer_watched<R: Source, W: Sink, L: AnalysisSource>(
     options: Options,
     reader: &mut R,
     writer: &mut W,
-    boxes: &mut Vec<L>,
-    registry: &mut PatternRegistry,
+    boxes: Vec<L>,
+    registry: PatternRegistry,
 ) -> Result<u8, Fault>
     ensures ran { IfSome (R.intake reader.old).remaining (λ input. EndedSo
-        (IsOutput (setting_with L.supply options (registry_model registry.old)) (all_shown L.meaning boxes.old.items) input)
+        (IsOutput (setting_with L.supply options (registry_model registry)) (all_shown L.meaning boxes.items) input)
         (W.stream writer.old).contents (W.stream writer.new).contents result) }
     ensures leaves { Leaves (R.intake reader.old) (R.intake reader.new)
         (W.stream writer.old) (W.stream writer.new) (W.handed writer.new) result }
@@ -402,6 +399,32 @@ pub fn read_and_answer_watched<R: Source, W: Sink, L: AnalysisSource>(
         Err(ReadFault::Broken) => return Err(Fault::Read),
     };
     ended(answer_input(alloc, key, options, input, writer, boxes, registry))
+}
+
+/// Reads the whole input and runs it. After a read fault nothing was written; after a write fault a prefix of an
+/// output was written. The output doesn't depend on the key with which names are hashed.
+pub fn read_and_answer<R: Read, W: Write, L: AnalysisSource>(
+    alloc: Global,
+    key: u64,
+    options: Options,
+    reader: &mut R,
+    writer: &mut W,
+    boxes: Vec<L>,
+) -> Result<u8, Fault>
+    ensures ran { IfSome (R.remaining reader.old) (λ input. EndedSo
+        (IsOutput (setting_of L.supply options) (all_shown L.meaning boxes.items) input)
+        (W.contents writer.old) (W.contents writer.new) result) }
+    ensures unparsed { IfErr result (λ e. e ≡ Fault.Read → Keeps (W.contents writer.old) (W.contents writer.new)) }
+{
+    read_and_answer_watched(
+        alloc,
+        key,
+        options,
+        reader,
+        writer,
+        boxes,
+        PatternRegistry::new(alloc),
+    )
 }
 
 fn exit_status(ended: Result<u8, Fault>) -> u8
@@ -426,11 +449,11 @@ pub fn run_watched<L: AnalysisSource, R: Source, W: Sink>(
     options: Options,
     reader: &mut R,
     writer: &mut W,
-    boxes: &mut Vec<L>,
-    registry: &mut PatternRegistry,
+    boxes: Vec<L>,
+    registry: PatternRegistry,
 ) -> u8
     ensures ran { IfSome (R.intake reader.old).remaining (λ input. HasStatus
-        (IsOutput (setting_with L.supply options (registry_model registry.old)) (all_shown L.meaning boxes.old.items) input)
+        (IsOutput (setting_with L.supply options (registry_model registry)) (all_shown L.meaning boxes.items) input)
         (W.stream writer.old).contents (W.stream writer.new).contents result) }
     ensures leaves { LeavesAt (R.intake reader.old) (R.intake reader.new)
         (W.stream writer.old) (W.stream writer.new) (W.handed writer.new) result }
@@ -438,4 +461,46 @@ pub fn run_watched<L: AnalysisSource, R: Source, W: Sink>(
     ensures made { AreMadeAtMost (R.intake reader.old).reads (R.intake reader.new).reads most_reads }
 {
     exit_status(read_and_answer_watched(alloc, key, options, reader, writer, boxes, registry))
+}
+
+/// Reads the whole input, a module and a script, and then writes the output, which is an output of the input. Returns
+/// the exit status: 0 if all was accepted, 1 if a command or a listener was refused, 3 if the module was refused, and
+/// 4 if a read or a write failed. With 4, nothing or a prefix of an output was written.
+pub fn run<L: AnalysisSource, R: Read, W: Write>(
+    alloc: Global,
+    options: Options,
+    reader: &mut R,
+    writer: &mut W,
+    boxes: Vec<L>,
+) -> u8
+    ensures { IfSome (R.remaining reader.old) (λ input. HasStatus
+        (IsOutput (setting_of L.supply options) (all_shown L.meaning boxes.items) input)
+        (W.contents writer.old) (W.contents writer.new) result) }
+{
+    run_keyed(alloc, 0, options, reader, writer, boxes)
+}
+
+/// Runs as `run` does, and hashes names with a secret key, so that an attacker can't choose names that collide. The
+/// output doesn't depend on the key.
+pub fn run_keyed<L: AnalysisSource, R: Read, W: Write>(
+    alloc: Global,
+    key: u64,
+    options: Options,
+    reader: &mut R,
+    writer: &mut W,
+    boxes: Vec<L>,
+) -> u8
+    ensures { IfSome (R.remaining reader.old) (λ input. HasStatus
+        (IsOutput (setting_of L.supply options) (all_shown L.meaning boxes.items) input)
+        (W.contents writer.old) (W.contents writer.new) result) }
+{
+    run_watched(
+        alloc,
+        key,
+        options,
+        reader,
+        writer,
+        boxes,
+        PatternRegistry::new(alloc),
+    )
 }

@@ -7,7 +7,7 @@ use Rattle.mlir_work_cli.proofs.JsonEnds.{kept_reads, kept_so, kept_whole}
 use Rattle.mlir_work_cli.proofs.json.kept_output.Goals as goal
 
 pub returns-clause-ran : goal.returns-clause-ran
-returns-clause-ran g c = kept_so (g.R.Source.intake c.args.reader.now).remaining (IsOutput (setting_with g.L.AnalysisSource.supply c.args.options (registry_model c.args.registry.now)) (all_shown g.L.Analysis.meaning c.args.boxes.now.items)) c.new-kept.result.inner.items c.run_watched-status.new.writer.inner.items c.into_inner.result.items c.run_watched-status.result (ap (λ (v : Vec ℕ Global). v.items) c.new-kept.ensures.inner ∙ c.new.ensures.items) (ap (λ (v : Vec ℕ Global). v.items) c.into_inner.ensures) c.run_watched-status.ensures.ran
+returns-clause-ran g c = kept_so (g.R.Source.intake c.args.reader.now).remaining (IsOutput (setting_with g.L.AnalysisSource.supply c.args.options (registry_model c.args.registry)) (all_shown g.L.Analysis.meaning c.args.boxes.items)) c.new-kept.result.inner.items c.run_watched-status.new.writer.inner.items c.into_inner.result.items c.run_watched-status.result (ap (λ (v : Vec ℕ Global). v.items) c.new-kept.ensures.inner ∙ c.new.ensures.items) (ap (λ (v : Vec ℕ Global). v.items) c.into_inner.ensures) c.run_watched-status.ensures.ran
 
 pub returns-clause-reads : goal.returns-clause-reads
 returns-clause-reads g c =

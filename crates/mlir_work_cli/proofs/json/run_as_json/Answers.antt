@@ -8,7 +8,7 @@ use Rattle.mlir_work_cli.proofs.JsonEnds.{fault_leaves, if_reported, stays_same,
 use Rattle.mlir_work_cli.proofs.json.run_as_json.Goals as goal
 
 pub returns-clause-ran : goal.returns-clause-ran
-returns-clause-ran g c = IfOk-weaker c.tell.result _ _ (λ reported h. if_reported (g.R.Source.intake c.args.reader.now).remaining (setting_with g.L.AnalysisSource.supply c.args.options (registry_model c.args.registry.now)) (all_shown g.L.Analysis.meaning c.args.boxes.now.items) c.in_ok-status.output.items (g.W.Sink.stream c.args.writer.now) (g.W.Sink.stream c.tell.new.writer) (g.W.Sink.handed c.tell.new.writer) c.in_ok-status.status reported c.if-status-eq4.false c.in_ok-status.ensures.ran h) (rw c.deref.ensures.value at c.tell.ensures.reported)
+returns-clause-ran g c = IfOk-weaker c.tell.result _ _ (λ reported h. if_reported (g.R.Source.intake c.args.reader.now).remaining (setting_with g.L.AnalysisSource.supply c.args.options (registry_model c.args.registry)) (all_shown g.L.Analysis.meaning c.args.boxes.items) c.in_ok-status.output.items (g.W.Sink.stream c.args.writer.now) (g.W.Sink.stream c.tell.new.writer) (g.W.Sink.handed c.tell.new.writer) c.in_ok-status.status reported c.if-status-eq4.false c.in_ok-status.ensures.ran h) (rw c.deref.ensures.value at c.tell.ensures.reported)
 
 pub returns-then-status-eq4-clause-leaves : goal.returns-then-status-eq4-clause-leaves
 returns-then-status-eq4-clause-leaves g c = fault_leaves (g.R.Source.intake c.args.reader.now) (g.R.Source.intake c.kept_output.new.reader) (g.W.Sink.stream c.args.writer.now) (g.W.Sink.stream c.args.writer.now) (g.W.Sink.handed c.args.writer.now) c.in_ok-status.status c.if-status-eq4.true c.in_ok-status.ensures.reads (stays_same (g.W.Sink.stream c.args.writer.now))

@@ -9,22 +9,22 @@ use Rattle.mlir_work_run.proofs.Lives.{leaves_after, leaves_halted, live_failed,
 use Rattle.mlir_work_run.proofs.live.answer_live.Goals as goal
 
 pub returns-in-Err-clause-ended : goal.returns-in-Err-clause-ended
-returns-in-Err-clause-ended g c = live_failed (setting_with g.L.AnalysisSource.supply c.args.options (registry_model c.args.registry.now)) (all_shown g.L.Analysis.meaning c.args.boxes.now.items) (g.R.Source.intake c.args.reader.now).remaining (g.W.Sink.stream c.args.writer.now) (g.W.Sink.stream c.flush.new.writer) (g.W.Sink.handed c.flush.new.writer) c.in-Err.ensures.stays
+returns-in-Err-clause-ended g c = live_failed (setting_with g.L.AnalysisSource.supply c.args.options (registry_model c.args.registry)) (all_shown g.L.Analysis.meaning c.args.boxes.items) (g.R.Source.intake c.args.reader.now).remaining (g.W.Sink.stream c.args.writer.now) (g.W.Sink.stream c.flush.new.writer) (g.W.Sink.handed c.flush.new.writer) c.in-Err.ensures.stays
 
 pub returns-clause-ended : goal.returns-clause-ended
-returns-clause-ended g c = live_ran (setting_with g.L.AnalysisSource.supply c.args.options (registry_model c.args.registry.now)) (all_shown g.L.Analysis.meaning c.args.boxes.now.items) (g.R.Source.intake c.args.reader.now).remaining (waiting c.take_module.new.kept.items (g.R.Source.intake c.take_module.new.reader).remaining) c.in-Ok-take_module.text.items (g.W.Sink.stream c.args.writer.now) (g.W.Sink.stream c.flush.new.writer) (g.W.Sink.stream c.answer_text.new.writer) (g.W.Sink.handed c.answer_text.new.writer) c.answer_text.result (rw c.new-kept.ensures.items at c.in-Ok-take_module.ensures.module) c.in-Ok.ensures.stays c.answer_text.ensures.ended
+returns-clause-ended g c = live_ran (setting_with g.L.AnalysisSource.supply c.args.options (registry_model c.args.registry)) (all_shown g.L.Analysis.meaning c.args.boxes.items) (g.R.Source.intake c.args.reader.now).remaining (waiting c.take_module.new.kept.items (g.R.Source.intake c.take_module.new.reader).remaining) c.in-Ok-take_module.text.items (g.W.Sink.stream c.args.writer.now) (g.W.Sink.stream c.flush.new.writer) (g.W.Sink.stream c.answer_text.new.writer) (g.W.Sink.handed c.answer_text.new.writer) c.answer_text.result (rw c.new-kept.ensures.items at c.in-Ok-take_module.ensures.module) c.in-Ok.ensures.stays c.answer_text.ensures.ended
 
 pub returns-in-Err-Broken-clause-ended : goal.returns-in-Err-Broken-clause-ended
-returns-in-Err-Broken-clause-ended g c = live_unparsed (setting_with g.L.AnalysisSource.supply c.args.options (registry_model c.args.registry.now)) (all_shown g.L.Analysis.meaning c.args.boxes.now.items) (g.R.Source.intake c.args.reader.now).remaining (g.W.Sink.stream c.args.writer.now) (g.W.Sink.stream c.flush.new.writer) (g.W.Sink.handed c.flush.new.writer) c.in-Ok.ensures.handed c.in-Ok.ensures.stays
+returns-in-Err-Broken-clause-ended g c = live_unparsed (setting_with g.L.AnalysisSource.supply c.args.options (registry_model c.args.registry)) (all_shown g.L.Analysis.meaning c.args.boxes.items) (g.R.Source.intake c.args.reader.now).remaining (g.W.Sink.stream c.args.writer.now) (g.W.Sink.stream c.flush.new.writer) (g.W.Sink.handed c.flush.new.writer) c.in-Ok.ensures.handed c.in-Ok.ensures.stays
 
 pub returns-in-Err-Memory-clause-ended : goal.returns-in-Err-Memory-clause-ended
 returns-in-Err-Memory-clause-ended g c =
-    live_refused (setting_with g.L.AnalysisSource.supply c.args.options (registry_model c.args.registry.now)) (all_shown g.L.Analysis.meaning c.args.boxes.now.items) (g.R.Source.intake c.args.reader.now).remaining (IsRefusal c.no_memory.result.refusal c.no_memory.result.offset (construct_if c.args.options.explain c.no_memory.result.unsupported)) (λ input. input ≡ input) (g.W.Sink.stream c.args.writer.now) (g.W.Sink.stream c.flush.new.writer) (g.W.Sink.stream c.refuse.new.writer) (g.W.Sink.handed c.refuse.new.writer) c.refuse.result c.halted.result c.halted.ensures (true_of (g.R.Source.intake c.args.reader.now).remaining) (λ input why lines st out h. inr (inl (Memory, None, refl, rw (c.no_memory.ensures.refusal, c.no_memory.ensures.offset, c.no_memory.ensures.unsupported) at h))) c.in-Ok.ensures.stays c.refuse.ensures
+    live_refused (setting_with g.L.AnalysisSource.supply c.args.options (registry_model c.args.registry)) (all_shown g.L.Analysis.meaning c.args.boxes.items) (g.R.Source.intake c.args.reader.now).remaining (IsRefusal c.no_memory.result.refusal c.no_memory.result.offset (construct_if c.args.options.explain c.no_memory.result.unsupported)) (λ input. input ≡ input) (g.W.Sink.stream c.args.writer.now) (g.W.Sink.stream c.flush.new.writer) (g.W.Sink.stream c.refuse.new.writer) (g.W.Sink.handed c.refuse.new.writer) c.refuse.result c.halted.result c.halted.ensures (true_of (g.R.Source.intake c.args.reader.now).remaining) (λ input why lines st out h. inr (inl (Memory, None, refl, rw (c.no_memory.ensures.refusal, c.no_memory.ensures.offset, c.no_memory.ensures.unsupported) at h))) c.in-Ok.ensures.stays c.refuse.ensures
 
 pub returns-in-Err-TooMany-clause-ended : goal.returns-in-Err-TooMany-clause-ended
 unfolding most_input_bytes
 returns-in-Err-TooMany-clause-ended g c =
-    live_refused (setting_with g.L.AnalysisSource.supply c.args.options (registry_model c.args.registry.now)) (all_shown g.L.Analysis.meaning c.args.boxes.now.items) (g.R.Source.intake c.args.reader.now).remaining _ (λ input. most_input_bytes < length input) (g.W.Sink.stream c.args.writer.now) (g.W.Sink.stream c.flush.new.writer) (g.W.Sink.stream c.refuse-in-Err-TooMany.new.writer) (g.W.Sink.handed c.refuse-in-Err-TooMany.new.writer) c.refuse-in-Err-TooMany.result c.halted-in-Err-TooMany.result c.halted-in-Err-TooMany.ensures (more_of most_input_bytes (g.R.Source.intake c.args.reader.now).remaining (rw c.new-kept.ensures.items at (c.in-Err-TooMany.ensures.many c.in-Err-TooMany.field-0-is))) (λ input many lines st out h. inl (many, h)) c.in-Ok.ensures.stays c.refuse-in-Err-TooMany.ensures
+    live_refused (setting_with g.L.AnalysisSource.supply c.args.options (registry_model c.args.registry)) (all_shown g.L.Analysis.meaning c.args.boxes.items) (g.R.Source.intake c.args.reader.now).remaining _ (λ input. most_input_bytes < length input) (g.W.Sink.stream c.args.writer.now) (g.W.Sink.stream c.flush.new.writer) (g.W.Sink.stream c.refuse-in-Err-TooMany.new.writer) (g.W.Sink.handed c.refuse-in-Err-TooMany.new.writer) c.refuse-in-Err-TooMany.result c.halted-in-Err-TooMany.result c.halted-in-Err-TooMany.ensures (more_of most_input_bytes (g.R.Source.intake c.args.reader.now).remaining (rw c.new-kept.ensures.items at (c.in-Err-TooMany.ensures.many c.in-Err-TooMany.field-0-is))) (λ input many lines st out h. inl (many, h)) c.in-Ok.ensures.stays c.refuse-in-Err-TooMany.ensures
 
 pub returns-in-Err-clause-leaves : goal.returns-in-Err-clause-leaves
 returns-in-Err-clause-leaves g c = (refl, c.in-Err.ensures.stays.1)

@@ -7,8 +7,5 @@ use Rattle.mlir_work_run.proofs.run.answer_script.Goals as goal
 
 pub returns-in-Ok : goal.returns-in-Ok
 returns-in-Ok g c =
-    let ran = rw (c.replace.ensures.value, c.replace-2.ensures.value) at c.in-Ok.ensures in
-    finished (IsSession (session_setting g.L.AnalysisSource.supply c.args.session_options.now) (registry_model c.args.registry.now) (all_shown g.L.Analysis.meaning c.args.boxes.now.items) (module_in c.args.world) c.args.script.now) (g.W.Sink.stream c.args.writer.now) (g.W.Sink.stream c.run_session.new.writer) (g.W.Sink.stream c.finish.new.writer) (g.W.Sink.handed c.finish.new.writer) c.in-Ok.status ran.0 c.finish.result ran.1 ran.2 c.finish.ensures.stays c.finish.ensures.handed c.finish.ensures.status
-
-pub returns-in-Err : goal.returns-in-Err
-returns-in-Err g c = rw (c.replace.ensures.value, c.replace-2.ensures.value) at c.in-Err.ensures
+    let ran = c.in-Ok.ensures in
+    finished (IsSession (session_setting g.L.AnalysisSource.supply c.args.session_options.now) (registry_model c.args.registry) (all_shown g.L.Analysis.meaning c.args.boxes.items) (module_in c.args.world) c.args.script.now) (g.W.Sink.stream c.args.writer.now) (g.W.Sink.stream c.run_session.new.writer) (g.W.Sink.stream c.finish.new.writer) (g.W.Sink.handed c.finish.new.writer) c.in-Ok.status ran.0 c.finish.result ran.1 ran.2 c.finish.ensures.stays c.finish.ensures.handed c.finish.ensures.status

@@ -19,11 +19,11 @@ from_checked-requires-clause-below c = numbered_below c.args.tree c.in-Some.next
 loaded_module : (w : World) (c : ContextModel) (t : Op) (next count : ℕ) → w.ctx ≡ c → Loaded t next w.store → next ≡ count → ◌≡◌ {A = Module} (module_in w) (record { tree = meaning c t; next = count })
 loaded_module w c t next count e l n = ap (λ x. module_meaning x w.store.module_of) e ∙ ap (module_meaning c) l.module_of ∙ ap (λ k. module_meaning c (record { tree = t; next = k })) n
 
-pub returns-in-Ok-clause-module : goal.returns-in-Ok-clause-module
-returns-in-Ok-clause-module c = loaded_module c.in-Ok.world c.args.ctx c.args.tree c.in-Some.next (op_count c.args.tree) c.in-Ok.ensures.ctx c.in-Ok.ensures.store c.in-Some.ensures
+pub returns-in-Ok-from_checked-clause-module : goal.returns-in-Ok-from_checked-clause-module
+returns-in-Ok-from_checked-clause-module c = loaded_module c.in-Ok-from_checked.world c.args.ctx c.args.tree c.in-Some.next (op_count c.args.tree) c.in-Ok-from_checked.ensures.ctx c.in-Ok-from_checked.ensures.store c.in-Some.ensures
 
-pub returns-in-Ok-clause-slotted : goal.returns-in-Ok-clause-slotted
-returns-in-Ok-clause-slotted c = c.stores_stay_slotted.ensures.loaded c.args.tree c.in-Some.next c.in-Ok.world.store c.in-Ok.ensures.store
+pub returns-in-Ok-from_checked-clause-slotted : goal.returns-in-Ok-from_checked-clause-slotted
+returns-in-Ok-from_checked-clause-slotted c = c.stores_stay_slotted.ensures.loaded c.args.tree c.in-Some.next c.in-Ok-from_checked.world.store c.in-Ok-from_checked.ensures.store
 
-pub returns-in-Ok-clause-tidy : goal.returns-in-Ok-clause-tidy
-returns-in-Ok-clause-tidy c = c.stores_stay_tidy.ensures.loaded c.args.tree c.in-Some.next c.in-Ok.world.store c.in-Ok.ensures.store
+pub returns-in-Ok-from_checked-clause-tidy : goal.returns-in-Ok-from_checked-clause-tidy
+returns-in-Ok-from_checked-clause-tidy c = c.stores_stay_tidy.ensures.loaded c.args.tree c.in-Some.next c.in-Ok-from_checked.world.store c.in-Ok-from_checked.ensures.store
