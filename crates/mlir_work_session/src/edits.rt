@@ -22,7 +22,12 @@ use mlir_work_transforms::rewriter::laws::led_benches_are_kept;
 use std::alloc::Global;
 
 /// Sets an operand of an operation.
-pub fn set_operand<L: Analysis>(bench: &mut Bench<L>, op: OpId, operand: u32, value: Value) -> Reply
+pub(crate) fn set_operand<L: Analysis>(
+    bench: &mut Bench<L>,
+    op: OpId,
+    operand: u32,
+    value: Value,
+) -> Reply
     requires { AgreesOrStale L.meaning bench.old }
     ensures obeys { (session_options : SessionOptions) → RunsCommand session_options (state_of L.meaning bench.old) (SetOperand op operand value) (response_of result) [] (state_of L.meaning bench.new) }
     ensures kept { AgreesOrStale L.meaning bench.new }
@@ -33,7 +38,7 @@ pub fn set_operand<L: Analysis>(bench: &mut Bench<L>, op: OpId, operand: u32, va
 }
 
 /// Replaces all uses of one value by another value.
-pub fn replace<L: Analysis>(bench: &mut Bench<L>, old: Value, new: Value) -> Reply
+pub(crate) fn replace<L: Analysis>(bench: &mut Bench<L>, old: Value, new: Value) -> Reply
     requires { AgreesOrStale L.meaning bench.old }
     ensures obeys { (session_options : SessionOptions) → RunsCommand session_options (state_of L.meaning bench.old) (Replace old new) (response_of result) [] (state_of L.meaning bench.new) }
     ensures kept { AgreesOrStale L.meaning bench.new }
@@ -44,7 +49,7 @@ pub fn replace<L: Analysis>(bench: &mut Bench<L>, old: Value, new: Value) -> Rep
 }
 
 /// Erases an operation and everything inside it.
-pub fn erase<L: Analysis>(bench: &mut Bench<L>, op: OpId) -> Reply
+pub(crate) fn erase<L: Analysis>(bench: &mut Bench<L>, op: OpId) -> Reply
     requires { AgreesOrStale L.meaning bench.old }
     ensures obeys { (session_options : SessionOptions) → RunsCommand session_options (state_of L.meaning bench.old) (Erase op) (response_of result) [] (state_of L.meaning bench.new) }
     ensures kept { AgreesOrStale L.meaning bench.new }
@@ -55,7 +60,7 @@ pub fn erase<L: Analysis>(bench: &mut Bench<L>, op: OpId) -> Reply
 }
 
 /// Moves an operation to an insertion point.
-pub fn move_op<L: Analysis>(bench: &mut Bench<L>, op: OpId, point: &InsertionPoint) -> Reply
+pub(crate) fn move_op<L: Analysis>(bench: &mut Bench<L>, op: OpId, point: &InsertionPoint) -> Reply
     requires { AgreesOrStale L.meaning bench.old }
     ensures obeys { (session_options : SessionOptions) → RunsCommand session_options (state_of L.meaning bench.old) (Move op (insertion_point_of point.now)) (response_of result) [] (state_of L.meaning bench.new) }
     ensures kept { AgreesOrStale L.meaning bench.new }

@@ -5,7 +5,7 @@
 pub mod attach;
 mod attributes;
 pub mod commands;
-pub mod edits;
+mod edits;
 pub mod listing;
 mod marks;
 mod notes;
