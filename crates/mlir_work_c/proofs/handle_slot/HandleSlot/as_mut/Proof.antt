@@ -1,4 +1,4 @@
--- `as_mut` lends the session behind the pointer, and the slot follows it.
+-- `as_mut` lends the session at the pointer, and the slot has what the session becomes.
 use Rattle.std.proofs.Common.{◌≡◌, ℕ, List, [], ◌∷◌, refl, sym, ap, ◌∙◌, MutBor}
 use Rattle.std.specs.Prelude.{Option, Some}
 use seplogic.Ra.Ura.{Ura}
