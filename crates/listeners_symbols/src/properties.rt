@@ -12,6 +12,7 @@ ghost use Rattle.ir_event.specs.Modules.{NodeIsOf};
 ghost use Rattle.listeners_symbols.specs.Roles as roles;
 ghost use Rattle.listeners_symbols.specs.Table.{head_meaning, signature_meaning, SignatureIsOf};
 
+use crate::boxed::Boxed;
 use crate::role::Signature;
 use ir_event::types::context::Context;
 use ir_event::types::ids::{AttrId, NameId, TypeId};
@@ -152,7 +153,7 @@ pub(crate) fn function_of(
     alloc: Global,
     ctx: &Context,
     node: &Node<'_>,
-) -> Result<Option<Signature>, AllocError>
+) -> Result<Option<Boxed<Signature>>, AllocError>
     requires { NodeIsOf ctx.now node.now }
     ensures signature { IfOk result
         (λ s. option_map (signature_meaning ctx.now) s ≡ roles.signature_of (head_meaning ctx.now node.now.head)) }
@@ -163,5 +164,6 @@ pub(crate) fn function_of(
     };
     let inputs = Vec::from_slice(alloc, types.inputs)?;
     let outputs = Vec::from_slice(alloc, types.outputs)?;
-    Ok(Some(Signature { inputs, outputs }))
+    let signature = Boxed::new(alloc, Signature { inputs, outputs })?;
+    Ok(Some(signature))
 }

@@ -96,5 +96,6 @@ pub(crate) fn fits(roles: &Roles, call: &Call, op: OpId) -> bool
     let Some(function) = &role.function else {
         return false;
     };
+    let function = function.get();
     same_types(&function.inputs, &call.inputs) && same_types(&function.outputs, &call.outputs)
 }
