@@ -54,7 +54,7 @@ impl Operands {
     {
         match &self.list {
             None => &[],
-            Some(list) => list.get(),
+            Some(list) => list.get().as_slice(),
         }
     }
 }

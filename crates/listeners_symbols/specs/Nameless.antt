@@ -28,8 +28,8 @@ are_nameless (e ∷ es) = is_nameless e.1 && are_nameless es
 
 -- an operation that is no symbol table and no function, and whose attributes name nothing
 pub record NamesNothing (h : Head) : Type 0 where
-  pub is_table : is_table h.name ≡ false
-  pub is_function : is_function h.name ≡ false
+  pub table : is_table h.name ≡ false
+  pub function : is_function h.name ≡ false
   pub properties : are_nameless h.properties ≡ true
   pub attributes : are_nameless h.attributes ≡ true
 
