@@ -22,6 +22,7 @@ use ir_event::types::word::Word;
 use listeners_support::node::Node;
 use listeners_support::properties::{entry, string_of};
 use op_registry::signature;
+use smallvec::SmallVec;
 use std::alloc::{AllocError, Global};
 
 /// Returns the name of the symbol that an operation defines, if it defines one.
@@ -162,8 +163,8 @@ pub(crate) fn function_of(
     let Some(types) = function_type(ctx, node) else {
         return Ok(None);
     };
-    let inputs = Vec::from_slice(alloc, types.inputs)?;
-    let outputs = Vec::from_slice(alloc, types.outputs)?;
+    let inputs = SmallVec::from_slice(alloc, types.inputs)?;
+    let outputs = SmallVec::from_slice(alloc, types.outputs)?;
     let signature = Boxed::new(alloc, Signature { inputs, outputs })?;
     Ok(Some(signature))
 }

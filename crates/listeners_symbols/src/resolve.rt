@@ -97,5 +97,6 @@ pub(crate) fn fits(roles: &Roles, call: &Call, op: OpId) -> bool
         return false;
     };
     let function = function.get();
-    same_types(&function.inputs, &call.inputs) && same_types(&function.outputs, &call.outputs)
+    same_types(function.inputs.as_slice(), &call.inputs)
+        && same_types(function.outputs.as_slice(), &call.outputs)
 }
