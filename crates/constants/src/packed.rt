@@ -14,7 +14,7 @@ const HALF: u128 = 18446744073709551616;
 const HALF_WORD: u64 = 4294967296;
 
 /// A number below 2^64, aligned to 4 bytes. A contract describes it as the number.
-#[derive(Clone, Copy, Drop)]
+#[derive(Drop)]
 struct Word {
     high: u32,
     low: u32,
@@ -40,15 +40,15 @@ impl Word {
     }
 
     /// Returns the number.
-    fn number(self) -> u64
-        ensures { result ≡ self }
+    fn number(&self) -> u64
+        ensures { result ≡ self.now }
     {
         self.high as u64 * HALF_WORD + self.low as u64
     }
 }
 
 /// A kind of constants in one byte. A contract describes it as the kind.
-#[derive(Clone, Copy, Drop)]
+#[derive(Drop)]
 struct PackedKind {
     /// The width of an integer type, or 0 for index.
     width: u8,
@@ -77,8 +77,8 @@ impl PackedKind {
     }
 
     /// Returns the kind.
-    fn kind(self) -> BitsKind
-        ensures { result ≡ self }
+    fn kind(&self) -> BitsKind
+        ensures { result ≡ self.now }
     {
         if self.width == 0 {
             BitsKind::Index

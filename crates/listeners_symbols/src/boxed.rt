@@ -13,6 +13,8 @@ pub struct Boxed<T> {
 impl<T> Model for Boxed<T> {
     ghost Value = { T };
 
+    ghost coded = { T.code };
+
     ghost view = { λ b. b.inner.value };
 }
 
