@@ -1,7 +1,7 @@
 pub mod Found
 pub mod Sizes
 pub mod Meant
-pub mod Nameless
+pub mod Unnamed
 pub mod Local
 pub mod Gathered
 pub mod Omitted

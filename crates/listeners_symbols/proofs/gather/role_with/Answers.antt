@@ -3,7 +3,7 @@ use Rattle.ir_event.specs.types.Terms.{name_term}
 use Rattle.ir_event.specs.types.Words.{is_table}
 use Rattle.listeners_symbols.proofs.Meant.{references_meant, call_meant, function_meant}
 use Rattle.std.proofs.lemmas.Bool.{OnTrue_at}
-use Rattle.listeners_symbols.proofs.Nameless.{read_nameless}
+use Rattle.listeners_symbols.proofs.Unnamed.{read_nameless}
 use Rattle.listeners_symbols.specs.Table.{head_meaning}
 use Rattle.listeners_symbols.proofs.gather.role_with.Goals as goal
 
