@@ -24,40 +24,40 @@ both_true true false e = absurd (true≢false (sym e))
 both_true false b e = absurd (true≢false (sym e))
 
 no_string : (a : AttrTerm) → is_nameless a ≡ true → string_of a ≡ None
-no_string (IntegerOf ty value) e = refl
-no_string (String bytes) e = absurd (true≢false (sym e))
-no_string (TypeOf ty) e = refl
+no_string (IntegerOf _ _) e = refl
+no_string (String _) e = absurd (true≢false (sym e))
+no_string (TypeOf _) e = refl
 no_string Flag e = refl
-no_string (Array items) e = refl
-no_string (Dictionary entries) e = refl
-no_string (Symbol parts) e = refl
-no_string (DenseArray ty values) e = refl
-no_string (Overflow nsw nuw) e = refl
-no_string (OpaqueOf text ty) e = refl
+no_string (Array _) e = refl
+no_string (Dictionary _) e = refl
+no_string (Symbol _) e = refl
+no_string (DenseArray _ _) e = refl
+no_string (Overflow _ _) e = refl
+no_string (OpaqueOf _ _) e = refl
 
 no_symbols : (a : AttrTerm) (seen : References) → is_nameless a ≡ true → with_symbols seen a ≡ seen
-no_symbols (IntegerOf ty value) seen e = refl
-no_symbols (String bytes) seen e = refl
-no_symbols (TypeOf ty) seen e = refl
+no_symbols (IntegerOf _ _) seen e = refl
+no_symbols (String _) seen e = refl
+no_symbols (TypeOf _) seen e = refl
 no_symbols Flag seen e = refl
-no_symbols (Array items) seen e = absurd (true≢false (sym e))
-no_symbols (Dictionary entries) seen e = absurd (true≢false (sym e))
-no_symbols (Symbol parts) seen e = absurd (true≢false (sym e))
-no_symbols (DenseArray ty values) seen e = refl
-no_symbols (Overflow nsw nuw) seen e = refl
-no_symbols (OpaqueOf text ty) seen e = refl
+no_symbols (Array _) seen e = absurd (true≢false (sym e))
+no_symbols (Dictionary _) seen e = absurd (true≢false (sym e))
+no_symbols (Symbol _) seen e = absurd (true≢false (sym e))
+no_symbols (DenseArray _ _) seen e = refl
+no_symbols (Overflow _ _) seen e = refl
+no_symbols (OpaqueOf _ _) seen e = refl
+
+no_string_in : (b : Bool) (a : AttrTerm) (rest : Option AttrTerm) → string_of a ≡ None → option_and_then string_of rest ≡ None
+    → option_and_then string_of (cond b (Some a) rest) ≡ None
+no_string_in true a rest here later = here
+no_string_in false a rest here later = later
 
 -- no key of the dictionary has a string
 pub no_strings : (key : List ℕ) (es : List (List ℕ × AttrTerm)) → are_nameless es ≡ true → option_and_then string_of (next_to key es) ≡ None
 no_strings key [] e = refl
-no_strings key (x ∷ xs) e = go (bytes_eq key x.0)
-  where
-    h : (is_nameless x.1 ≡ true) × (are_nameless xs ≡ true)
-    h = both_true (is_nameless x.1) (are_nameless xs) e
-
-    go : (b : Bool) → option_and_then string_of (cond b (Some x.1) (next_to key xs)) ≡ None
-    go true = no_string x.1 h.0
-    go false = no_strings key xs h.1
+no_strings key (x ∷ xs) e =
+    let h = both_true (is_nameless x.1) (are_nameless xs) e in
+    no_string_in (bytes_eq key x.0) x.1 (next_to key xs) (no_string x.1 h.0) (no_strings key xs h.1)
 
 -- the dictionary has no symbol references
 pub no_references : (es : List (List ℕ × AttrTerm)) (seen : References) → are_nameless es ≡ true → with_dictionary seen es ≡ seen

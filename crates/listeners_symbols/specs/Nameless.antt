@@ -10,16 +10,16 @@ use Rattle.listeners_symbols.specs.Roles.{Head, is_function}
 
 -- whether an attribute is no string, and has no other attributes
 abbrev pub is_nameless : AttrTerm → Bool
-is_nameless (IntegerOf ty value) = true
-is_nameless (String bytes) = false
-is_nameless (TypeOf ty) = true
+is_nameless (IntegerOf _ _) = true
+is_nameless (String _) = false
+is_nameless (TypeOf _) = true
 is_nameless Flag = true
-is_nameless (Array items) = false
-is_nameless (Dictionary entries) = false
-is_nameless (Symbol parts) = false
-is_nameless (DenseArray ty values) = true
-is_nameless (Overflow nsw nuw) = true
-is_nameless (OpaqueOf text ty) = true
+is_nameless (Array _) = false
+is_nameless (Dictionary _) = false
+is_nameless (Symbol _) = false
+is_nameless (DenseArray _ _) = true
+is_nameless (Overflow _ _) = true
+is_nameless (OpaqueOf _ _) = true
 
 -- whether that holds for each attribute of a dictionary
 abbrev pub are_nameless : List (List ℕ × AttrTerm) → Bool
@@ -34,7 +34,7 @@ pub record NamesNothing (h : Head) : Type 0 where
   pub attributes : are_nameless h.attributes ≡ true
 
 -- the role of such an operation, given its symbol tables and its call
-pub record IsNamelessRole (tables : Tables) (call : Option Call) (r : Numbers) : Type 0 where
+pub record IsNamelessRole (tables : Tables) (k : Option Call) (r : Numbers) : Type 0 where
   pub parent : r.parent ≡ tables.parent
   pub home : r.home ≡ tables.home
   pub table : r.table ≡ tables.table
@@ -43,5 +43,5 @@ pub record IsNamelessRole (tables : Tables) (call : Option Call) (r : Numbers) :
   pub name : r.name ≡ None
   pub is_private : r.is_private ≡ false
   pub references : r.references.items ≡ []
-  pub call : r.call ≡ call
+  pub call : r.call ≡ k
   pub function : r.function ≡ None

@@ -117,7 +117,7 @@ impl Roles {
 
 /// Returns the role, if there is one.
 fn unboxed(boxed: Option<&Boxed<Role>>) -> Option<&Role>
-    ensures { option_copied result ≡ option_copied boxed }
+    ensures { option_copied result ≡ option_copied boxed.entry }
 {
     match boxed {
         Some(boxed) => Some(boxed.get()),
