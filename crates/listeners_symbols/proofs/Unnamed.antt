@@ -3,6 +3,7 @@ use Rattle.std.proofs.Common.{◌≡◌, refl, ap, sym, ◌∙◌, subst, ℕ, B
 use Rattle.std.specs.Prelude.{codes, option_map, option_and_then, IfSome}
 use Rattle.std.specs.List.{All}
 use Rattle.std.specs.Str.{bytes_eq}
+use Rattle.std.proofs.lemmas.List.Elements.{All-nil}
 use Rattle.ir_event.specs.types.SameTypes.{function_of}
 use Rattle.ir_event.specs.types.Things.{ContextModel, IsName}
 use Rattle.ir_event.specs.types.Terms.{name_term, type_term, attr_term}
@@ -101,7 +102,7 @@ module _ (h : Head) (n : NamesNothing h) where
     known = record {
       symbol = subst (λ o. IfSome o (IsName c)) (sym s.symbol) tt;
       name = subst (λ o. IfSome o (IsName c)) (sym s.name) tt;
-      references = subst (All (ReferenceIsOf c)) (sym s.references) tt;
+      references = subst (All (ReferenceIsOf c)) (sym s.references) (All-nil (ReferenceIsOf c));
       call = subst (λ o. IfSome o (CallIsOf c)) (sym s.call) known;
       function = subst (λ o. IfSome o (SignatureIsOf c)) (sym s.function) tt;
     };
