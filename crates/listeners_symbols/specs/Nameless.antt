@@ -1,6 +1,6 @@
 -- Operations that name no symbol.
 use Rattle.std.specs.Prelude.{◌≡◌, ℕ, List, [], ◌∷◌, Bool, true, false, ◌&&◌, Option, None}
-use Rattle.ir_event.specs.types.Terms.{TypeTerm, AttrTerm, OpaqueOf, IntegerOf, String, TypeOf, Flag, Array, Dictionary, Symbol}
+use Rattle.ir_event.specs.types.Terms.{AttrTerm, OpaqueOf, IntegerOf, String, TypeOf, Flag, Array, Dictionary, Symbol}
 use Rattle.ir_event.specs.types.Terms.{DenseArray, Overflow}
 use Rattle.ir_event.specs.types.Words.{is_table}
 use Rattle.listeners_symbols.specs.declared.role.Call.{Call}
