@@ -4,8 +4,9 @@ with reads and allocations alone.
 
 usage: tests/compare/declared_effects.py [FILE] [--tried]
 
-For each name it looks for a form of the operation that MLIR's verifier accepts: it begins with an operand and a result
-of type i32, and changes what the verifier complains about, up to 60 times. Prints the operations that MLIR keeps, how
+For each name it looks for a form of the operation that MLIR's verifier accepts. It takes an operation without regions
+from the modules of tests/golden/opaque, or it begins with an operand and a result of type i32, and changes what the
+verifier complains about, up to 60 times. Prints the operations that MLIR keeps, how
 many were accepted and erased, and how many found no such form; `--tried` also prints the names of these. Ends with
 status 1 if an operation is kept. Terminators and symbols are left out."""
 import collections
@@ -17,26 +18,53 @@ import sys
 
 from checkout import ROOT
 
+from tests.generate import opaque_cases
+
 TOOL = "mlir-opt-22"
 FLAGS = ["--split-input-file", "--mlir-print-op-generic", "--mlir-disable-threading"]
 ROUNDS = 60
 DEAD = {"pure", "read", "allocate"}
-TYPES = ["i32", "f32", "index", "i1", "vector<4xf32>", "vector<4xi32>", "tensor<4xf32>", "tensor<4xi32>", "memref<4xf32>",
-         "!llvm.ptr", "complex<f32>", "vector<4xi1>", "i64", "f16", "vector<16xf32>", "vector<8xf32>", "vector<16xi32>",
-         "vector<8xi32>", "tensor<1x4x4x4xf32>", "tensor<4x4xf32>", "vector<4x4xf32>", "memref<?xf32>", "tensor<?xf32>",
-         "tensor<4xi1>", "tensor<1xf32>", "vector<2xf64>", "vector<4xf64>", "vector<16xi8>", "vector<8xi16>", "bf16",
-         "vector<[4]xi32>", "vector<[16]xi8>", "vector<[4]xi1>", "i8", "i16", "f64", "none", "memref<*xf32>",
-         "!shape.shape", "!shape.size", "!shape.value_shape", "!shape.witness", "tensor<3xindex>", "tensor<4xindex>",
-         "!transform.any_op", "!transform.param<i64>", "!pdl.operation", "!pdl.value", "!pdl.type", "!pdl.attribute",
-         "!emitc.ptr<i32>", "!emitc.opaque<\"int\">", "!tosa.shape<1>", "!spirv.matrix<4 x vector<4xf32>>",
-         "!quant.uniform<i8:f32, 2.0>", "!irdl.attribute", "!smt.int", "!smt.bool", "!smt.bv<8>", "!async.token"]
-ATTRIBUTES = ["0 : i64", "0 : i32", "0 : index", "array<i64: 0>", "array<i32: 0>", "i32", "\"a\"", "unit", "@a", "[]",
-              "true", "1.0 : f32", "affine_map<(d0) -> (d0)>", "dense<0> : vector<4xi32>", "dense<0.0> : tensor<4xf32>",
-              "dense<0> : tensor<1xindex>", "[0 : i64]", "[[0]]", "{}", "#gpu<dim x>", "() -> ()", "0 : i8", "0 : i1",
-              "dense<0> : tensor<4xi32>", "[\"a\"]", "[i32]", "array<i64>", "array<i32>", "dense<0> : tensor<1xi64>",
-              "[affine_map<(d0) -> (d0)>]", "#vector.kind<add>", "#spirv.scope<Workgroup>", "array<i1: false>"]
-COMPLAINT = re.compile(r"^[^:\n]+:(\d+):\d+: error: (?:custom op )?'([\w.$-]+)' op (.*)$", re.M)
+TYPES = ["i32", "f32", "index", "i1", "vector<4xf32>", "vector<4xi32>", "tensor<4xf32>", "tensor<4xi32>",
+         "memref<4xf32>", "!llvm.ptr", "complex<f32>", "vector<4xi1>", "i64", "f16", "vector<16xf32>",
+         "vector<8xf32>", "vector<16xi32>", "vector<8xi32>", "tensor<1x4x4x4xf32>", "tensor<4x4xf32>",
+         "vector<4x4xf32>", "memref<?xf32>", "tensor<?xf32>", "tensor<4xi1>", "tensor<1xf32>", "vector<2xf64>",
+         "vector<4xf64>", "vector<16xi8>", "vector<8xi16>", "bf16", "vector<[4]xi32>", "vector<[16]xi8>",
+         "vector<[4]xi1>", "i8", "i16", "f64", "none", "memref<*xf32>", "!shape.shape", "!shape.size",
+         "!shape.value_shape", "!shape.witness", "tensor<3xindex>", "tensor<4xindex>", "!transform.any_op",
+         "!transform.param<i64>", "!pdl.operation", "!pdl.value", "!pdl.type", "!pdl.attribute", "!emitc.ptr<i32>",
+         '!emitc.opaque<"int">', "!tosa.shape<1>", "!spirv.matrix<4 x vector<4xf32>>", "!quant.uniform<i8:f32, 2.0>",
+         "!irdl.attribute", "!smt.int", "!smt.bool", "!smt.bv<8>", "!async.token"]
+ATTRIBUTES = ["0 : i64", "0 : i32", "0 : index", "array<i64: 0>", "array<i32: 0>", "i32", '"a"', "unit", "@a", "[]",
+              "true", "1.0 : f32", "affine_map<(d0) -> (d0)>", "dense<0> : vector<4xi32>",
+              "dense<0.0> : tensor<4xf32>", "dense<0> : tensor<1xindex>", "[0 : i64]", "[[0]]", "{}", "#gpu<dim x>",
+              "() -> ()", "0 : i8", "0 : i1", "dense<0> : tensor<4xi32>", '["a"]', "[i32]", "array<i64>",
+              "array<i32>", "dense<0> : tensor<1xi64>", "[affine_map<(d0) -> (d0)>]", "#vector.kind<add>",
+              "#spirv.scope<Workgroup>", "array<i1: false>"]
+LINE = re.compile(r'\s*(?:%[^"=]* = )?"([\w.$-]+)"\([^()]*\)(| <\{.*\}>)(| \{.*\}) : \((.*)\) -> (.*)$')
 NUMBERS = {"zero": 0, "a single": 1, "one": 1}
+
+
+def function(name, operands, results, properties):
+    """A function with an operation, whose results aren't used."""
+    arguments = ", ".join(f"%a{at}: {it}" for at, it in enumerate(operands))
+    names = ", ".join(f"%a{at}" for at in range(len(operands)))
+    left = f"%r:{len(results)} = " if results else ""
+    block = f"^bb0({arguments}):\n" if operands else ""
+    return (f'"func.func"() <{{sym_name = "f", function_type = ({", ".join(operands)}) -> ()}}> ({{\n{block}'
+            f'  {left}"{name}"({names}){properties} : ({", ".join(operands)}) -> ({", ".join(results)})\n'
+            f'  "func.return"() : () -> ()\n}}) : () -> ()\n')
+
+
+class Taken:
+    """An operation of a module."""
+
+    def __init__(self, found):
+        self.name, properties, attributes, operands, results = found.groups()
+        results = results[1:-1] if results.startswith("(") and results.endswith(")") else results
+        self.chunk = function(self.name, listed(operands), listed(results), properties + attributes)
+
+    def text(self):
+        return self.chunk
 
 
 class Form:
@@ -68,17 +96,10 @@ class Form:
             self.types[kind] = [start] * len(types)
 
     def text(self):
-        """A function with the operation, whose results aren't used."""
         operands, results = ([TYPES[it] for it in self.types[kind]] for kind in ("operand", "result"))
-        arguments = ", ".join(f"%a{at}: {it}" for at, it in enumerate(operands))
-        names = ", ".join(f"%a{at}" for at in range(len(operands)))
-        left = f"%r:{len(results)} = " if results else ""
         properties = ", ".join(f"{key} = {ATTRIBUTES[at % len(ATTRIBUTES)]}" for key, at in self.attributes.items())
         regions = " (" + ", ".join(["{}"] * self.regions) + ")" if self.regions else ""
-        types = f"({', '.join(operands)}) -> ({', '.join(results)})"
-        return (f'"func.func"() <{{sym_name = "f", function_type = ({", ".join(operands)}) -> ()}}> ({{\n'
-                f'^bb0({arguments}):\n  {left}"{self.name}"({names}){regions} {{{properties}}} : {types}\n'
-                f'  "func.return"() : () -> ()\n}}) : () -> ()\n').replace("^bb0():\n", "^bb0:\n")
+        return function(self.name, operands, results, f"{regions} {{{properties}}}")
 
     def repair(self, complaint):
         """Changes the form after a complaint of the verifier."""
@@ -116,11 +137,34 @@ class Form:
 
 def likeness(candidate, wanted):
     """How many of the words that describe a type fit it."""
-    words = {"float": "f32", "integer": "i", "signless": "i", "vector": "vector", "tensor": "tensor", "memref": "memref",
-             "index": "index", "pointer": "!llvm.ptr", "complex": "complex", "1-bit": "i1", "boolean": "i1",
-             "bool": "i1", "scalable": "[", "ranked": "x", "shape": "!shape", "matrix": "matrix"}
+    words = {"float": "f32", "integer": "i", "signless": "i", "vector": "vector", "tensor": "tensor",
+             "memref": "memref", "index": "index", "pointer": "!llvm.ptr", "complex": "complex", "1-bit": "i1",
+             "boolean": "i1", "bool": "i1", "scalable": "[", "ranked": "x", "shape": "!shape", "matrix": "matrix"}
     exact = sum(3 for it in re.findall(r"[\w!.<>\[\]]+", wanted) if it == candidate)
     return exact + sum(part in candidate for word, part in words.items() if word in wanted.lower())
+
+
+def listed(types):
+    """The types of a list, which is cut at the commas outside brackets."""
+    found, depth = [""], 0
+    for at, letter in enumerate(types):
+        depth += (letter in "(<[{") - (letter in ")]}" or letter == ">" and types[at - 1] != "-")
+        if letter == "," and not depth:
+            found.append("")
+        else:
+            found[-1] += letter
+    return [it.strip() for it in found if it.strip()]
+
+
+def taken(names, most=3):
+    """Lists of operations of the modules of tests/golden/opaque, at most one of each name in a list."""
+    lists, counts = [{} for _ in range(most)], collections.Counter()
+    for module in opaque_cases.modules():
+        for found in filter(None, map(LINE.match, module.text.decode("utf-8", "replace").splitlines())):
+            if found[1] in names and counts[found[1]] < most:
+                lists[counts[found[1]]][found[1]] = Taken(found)
+                counts[found[1]] += 1
+    return lists
 
 
 def run(forms, *flags):
@@ -143,23 +187,26 @@ def run(forms, *flags):
 
 def accepted(names):
     """A form that MLIR accepts of each operation, as far as one is found."""
-    waiting, found = {name: Form(name) for name in names}, []
+    found = {}
+    for forms in taken(set(names)):
+        _, printed = run([form for name, form in forms.items() if name not in found])
+        found |= {name: form for name, form in forms.items() if name in printed and name not in found}
+    waiting = {name: Form(name) for name in names if name not in found}
     for _ in range(ROUNDS):
         complaints, printed = run(waiting.values())
-        if not printed and not complaints:
-            raise RuntimeError("mlir-opt printed nothing")
-        found += [form for name, form in waiting.items() if name in printed]
+        found |= {name: form for name, form in waiting.items() if name in printed}
         waiting = {name: form for name, form in waiting.items() if name not in printed}
         for name, complaint in complaints.items():
             if name in waiting:
                 waiting[name].repair(complaint)
-    return found, sorted(waiting)
+    return list(found.values()), sorted(waiting)
 
 
 def declared(file):
-    """The names without a trait whose effects are among those of dead operations."""
+    """The names of operations that are dead if unused: all effects are among those of dead operations."""
     rows = [line.split() for line in file.read_text().splitlines() if line and not line.startswith("//")]
-    return [row[0] for row in rows if row[1:] and set(row[1:]) - {"commutative"} <= DEAD]
+    words = {row[0]: set(row[1:]) - {"commutative"} for row in rows}
+    return [name for name in words if words[name] and words[name] <= DEAD]
 
 
 def main():
@@ -176,8 +223,9 @@ def main():
     wrong = [form for form in forms if form.name in kept]
     for form in wrong:
         print(f"kept: {form.text()}")
-    print(f"{len(names)} operations: {len(forms)} accepted, {len(forms) - len(wrong) - len(complaints)} of them erased; "
-          f"no accepted form of {len(lacking)}")
+    erased = len(forms) - len(wrong) - len(complaints)
+    print(f"{len(names)} operations: {len(forms)} accepted, {erased} of them erased; no accepted form of "
+          f"{len(lacking)}")
     if "--tried" in sys.argv:
         print("\n".join(lacking))
     return 1 if wrong or complaints else 0
