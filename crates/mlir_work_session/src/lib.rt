@@ -36,7 +36,7 @@ pub use mlir_work_script::{
 };
 pub use mlir_work_script_base::{
     cells, clauses, input, insertion_points, items, keys, kind, lines, numbers, rule_name, sink,
-    source, subject, values, watched, words, writing,
+    source, values, watched, words, writing,
 };
 pub use mlir_work_session_base::analysis_source;
 pub use mlir_work_transforms::greedy;

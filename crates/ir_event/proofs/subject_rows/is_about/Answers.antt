@@ -1,7 +1,7 @@
 use Rattle.std.proofs.Common.{◌∙◌, refl, None, Some}
 use Rattle.std.proofs.lemmas.Option.{slice_get_past, slice_get_read}
-use Rattle.mlir_work_session_base.proofs.Abouts.{about_cell}
-use Rattle.mlir_work_session_base.proofs.subjects.is_about.Goals as goal
+use Rattle.ir_event.proofs.Abouts.{about_cell}
+use Rattle.ir_event.proofs.subject_rows.is_about.Goals as goal
 
 pub returns-in-None : goal.returns-in-None
 returns-in-None c d =

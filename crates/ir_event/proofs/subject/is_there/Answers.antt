@@ -1,7 +1,7 @@
 use Rattle.std.proofs.Common.{◌∙◌, ap, sym}
 use Rattle.std.specs.Prelude.{is_some}
-use Rattle.mlir_work_session.proofs.About.{op_means, value_means}
-use Rattle.mlir_work_session.proofs.subjects.is_there.Goals as goal
+use Rattle.ir_event.proofs.Abouts.{op_means, value_means}
+use Rattle.ir_event.proofs.subject.is_there.Goals as goal
 
 pub returns-in-Op : goal.returns-in-Op
 returns-in-Op c =

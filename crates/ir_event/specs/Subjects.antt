@@ -1,19 +1,19 @@
 -- The report rows about one operation or one value.
 use Rattle.std.specs.Prelude.{ℕ, List, [], ◌∷◌, ◌==◌, ◌||◌, Bool, false, filter, if◌then◌else◌, Option, Some, None}
 use Rattle.std.specs.Prelude.{slice_get}
-use Rattle.ir_event.specs.types.declared.refusal.Refusal.{Refusal}
-use Rattle.ir_event.specs.types.declared.refusal.Refusal.TheVariants.{NoSuchOp, NoSuchValue}
-use Rattle.ir_event.specs.trees.declared.value.Value.{Value}
-use Rattle.ir_event.specs.trees.Frames.{owner_of}
-use Rattle.ir_event.specs.trees.Ids.{has_id}
-use Rattle.ir_event.specs.trees.Meaning.{Operation}
-use Rattle.ir_event.specs.trees.Uses.{same_value}
-use Rattle.ir_event.specs.tree_laws.Values.{has_value}
+use Rattle.op_registry.specs.types.declared.refusal.Refusal.{Refusal}
+use Rattle.op_registry.specs.types.declared.refusal.Refusal.TheVariants.{NoSuchOp, NoSuchValue}
+use Rattle.ir_store.specs.trees.declared.value.Value.{Value}
+use Rattle.ir_store.specs.trees.Frames.{owner_of}
+use Rattle.ir_store.specs.trees.Ids.{has_id}
+use Rattle.ir_store.specs.trees.Meaning.{Operation}
+use Rattle.ir_store.specs.trees.Uses.{same_value}
+use Rattle.ir_store.specs.tree_laws.Values.{has_value}
 use Rattle.ir_event.specs.Rows.{CellTerm, Op, Val, Num, Name, Path, Bits, Rule, Tag, RowTerm}
 use Rattle.ir_event.specs.Tags.{tag_number}
 use Rattle.ir_event.specs.declared.tag.Tag.TheVariants as word
-use Rattle.mlir_work_script_base.specs.declared.subject.Subject.{Subject}
-use Rattle.mlir_work_script_base.specs.declared.subject.Subject.TheVariants as subject
+use Rattle.ir_event.specs.declared.subject.Subject.{Subject}
+use Rattle.ir_event.specs.declared.subject.Subject.TheVariants as subject
 
 -- ---- the subject of a row
 
