@@ -1,2 +1,3 @@
 pub mod ByName
 pub mod TypeLists
+pub mod Declaring

@@ -1,6 +1,7 @@
 //! The operation table: the row of each registered operation, looked up by the id of its name.
 #![tactic(auto)]
 
+pub mod declared;
 pub mod definition;
 pub mod laws;
 pub mod own;
