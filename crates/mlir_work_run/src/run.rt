@@ -1,6 +1,5 @@
 //! A whole run, from input bytes to output bytes.
 ghost use Rattle.std.specs.Prelude.{◌≡◌, ◌≤◌, ℕ, IsTrue, length, IfOk, IfErr, IfSome, None, Some, false, true};
-ghost use Rattle.std.specs.Io.KnownBytes.{Keeps};
 ghost use Rattle.ir_event.specs.trees.Ids.{IsNumberedFrom, op_count};
 ghost use Rattle.ir_event.specs.trees.Meaning.{meaning, isolated_in, IsSoundIn};
 ghost use Rattle.ir_event.specs.trees.WellFormed.{IsValidTree};
@@ -19,7 +18,7 @@ ghost use Rattle.mlir_work_session.specs.Output.{IsSession, SessionSetting, sess
 ghost use Rattle.mlir_work_session.specs.PrintsAlone.{all_print, kinds_apart};
 ghost use Rattle.mlir_work_run.specs.Ends.{EndedSo, HandedOut, HasFailed, HasStatus, Leaves, LeavesAt, ended_of};
 ghost use Rattle.mlir_work_run.specs.Ends.{status_of};
-ghost use Rattle.mlir_work_run.specs.Whole.{IsOutput, IsRefusal, WhyNot, construct_if, session_options_of, module_construct, setting_of, setting_with};
+ghost use Rattle.mlir_work_run.specs.Whole.{IsOutput, IsRefusal, WhyNot, construct_if, session_options_of, module_construct, setting_with};
 
 use crate::write_refusal::{construct_if, write_module_refusal};
 use dialects_int::tables::registry;
@@ -43,7 +42,6 @@ use mlir_work_session::source::Source;
 use mlir_work_session::writing::{WriteFault, flush};
 use rewriter_machine::journal_laws::{stores_stay_slotted, stores_stay_tidy};
 use std::alloc::Global;
-use std::io::{Read, Write};
 use thiserror::Error;
 
 /// The options of a run.
@@ -401,32 +399,6 @@ pub fn read_and_answer_watched<R: Source, W: Sink, L: AnalysisSource>(
     ended(answer_input(alloc, key, options, input, writer, boxes, registry))
 }
 
-/// Reads the whole input and runs it. After a read fault nothing was written; after a write fault a prefix of an
-/// output was written. The output doesn't depend on the key with which names are hashed.
-pub fn read_and_answer<R: Read, W: Write, L: AnalysisSource>(
-    alloc: Global,
-    key: u64,
-    options: Options,
-    reader: &mut R,
-    writer: &mut W,
-    boxes: Vec<L>,
-) -> Result<u8, Fault>
-    ensures ran { IfSome (R.remaining reader.old) (λ input. EndedSo
-        (IsOutput (setting_of L.supply options) (all_shown L.meaning boxes.items) input)
-        (W.contents writer.old) (W.contents writer.new) result) }
-    ensures unparsed { IfErr result (λ e. e ≡ Fault.Read → Keeps (W.contents writer.old) (W.contents writer.new)) }
-{
-    read_and_answer_watched(
-        alloc,
-        key,
-        options,
-        reader,
-        writer,
-        boxes,
-        PatternRegistry::new(alloc),
-    )
-}
-
 fn exit_status(ended: Result<u8, Fault>) -> u8
     ensures { result ≡ status_of ended }
 {
@@ -461,46 +433,4 @@ pub fn run_watched<L: AnalysisSource, R: Source, W: Sink>(
     ensures made { AreMadeAtMost (R.intake reader.old).reads (R.intake reader.new).reads most_reads }
 {
     exit_status(read_and_answer_watched(alloc, key, options, reader, writer, boxes, registry))
-}
-
-/// Reads the whole input, a module and a script, and then writes the output, which is an output of the input. Returns
-/// the exit status: 0 if all was accepted, 1 if a command or a listener was refused, 3 if the module was refused, and
-/// 4 if a read or a write failed. With 4, nothing or a prefix of an output was written.
-pub fn run<L: AnalysisSource, R: Read, W: Write>(
-    alloc: Global,
-    options: Options,
-    reader: &mut R,
-    writer: &mut W,
-    boxes: Vec<L>,
-) -> u8
-    ensures { IfSome (R.remaining reader.old) (λ input. HasStatus
-        (IsOutput (setting_of L.supply options) (all_shown L.meaning boxes.items) input)
-        (W.contents writer.old) (W.contents writer.new) result) }
-{
-    run_keyed(alloc, 0, options, reader, writer, boxes)
-}
-
-/// Runs as `run` does, and hashes names with a secret key, so that an attacker can't choose names that collide. The
-/// output doesn't depend on the key.
-pub fn run_keyed<L: AnalysisSource, R: Read, W: Write>(
-    alloc: Global,
-    key: u64,
-    options: Options,
-    reader: &mut R,
-    writer: &mut W,
-    boxes: Vec<L>,
-) -> u8
-    ensures { IfSome (R.remaining reader.old) (λ input. HasStatus
-        (IsOutput (setting_of L.supply options) (all_shown L.meaning boxes.items) input)
-        (W.contents writer.old) (W.contents writer.new) result) }
-{
-    run_watched(
-        alloc,
-        key,
-        options,
-        reader,
-        writer,
-        boxes,
-        PatternRegistry::new(alloc),
-    )
 }
