@@ -184,6 +184,11 @@ void mlir_work_open_opaque(mlir_work_session *session, const uint8_t *text, size
    expected refusal. */
 void mlir_work_command(mlir_work_session *session, const uint8_t *line, size_t line_length, mlir_work_answer *answer);
 
+/* Runs a line that takes a limit (`canon`, `canon at #N` and `rewrite RULES`), with this limit in place of its own. Any
+   other line is refused (60 BadCommand). */
+void mlir_work_command_limited(mlir_work_session *session, const uint8_t *line, size_t line_length, uint32_t limit,
+                               mlir_work_answer *answer);
+
 /* Defines the user patterns of a text, as `mlir_work --patterns FILE` does: a pattern a line, as `double
    arith.addi(%a, %a) => arith.shli(%a, 1)`. Empty lines and lines that begin with `//` are skipped. The answer is
    MLIR_WORK_OK with the number of patterns; or the refusal of the first pattern that is refused, whose line begins at
@@ -224,6 +229,11 @@ static inline void mlir_work_patterns(mlir_work_session *session, const uint8_t 
   answer->shown = 0;
 }
 
+/* The commands `begin`, `commit` and `rollback`, with the same answers. */
+void mlir_work_begin(mlir_work_session *session, mlir_work_answer *answer);
+void mlir_work_commit(mlir_work_session *session, mlir_work_answer *answer);
+void mlir_work_rollback(mlir_work_session *session, mlir_work_answer *answer);
+
 /* The outcome of a run that `stop` stopped. The library's own answers never have it. */
 #define MLIR_WORK_STOPPED 64
 
@@ -241,46 +251,27 @@ typedef bool mlir_work_stop(void *context);
 static inline void mlir_work_rewrite_unless(mlir_work_session *session, const uint8_t *command, size_t command_length,
                                             uint32_t limit, uint32_t slice, mlir_work_stop *stop, void *context,
                                             mlir_work_answer *answer) {
-  static const char begin[] = "begin", commit[] = "commit", rollback[] = "rollback", word[] = " limit ";
   const uint32_t largest = 1000000; /* a larger limit is refused (50 BadLimit) */
-  uint8_t line[4096], digits[10];
   uint64_t made = 0;
-  mlir_work_answer last = {MLIR_WORK_REFUSED, MLIR_WORK_TOO_MANY, 0, 0};
-  *answer = last;
-  if (command_length > sizeof line - sizeof word - sizeof digits)
-    return;
-  mlir_work_command(session, (const uint8_t *)begin, sizeof begin - 1, answer);
+  mlir_work_answer last = {MLIR_WORK_STOPPED, 0, 0, 0};
+  mlir_work_begin(session, answer);
   if (answer->outcome != MLIR_WORK_OK)
     return;
-  for (;;) {
+  while (!stop(context)) {
     const uint32_t left = limit - (uint32_t)made;
-    uint32_t part = limit <= largest && slice < left ? (slice ? slice : 1) : left;
-    size_t length = 0, count = 0;
-    if (stop(context)) {
-      last.outcome = MLIR_WORK_STOPPED;
-      last.refusal = 0;
-      break;
-    }
-    for (; length < command_length; length++)
-      line[length] = command[length];
-    for (size_t i = 0; i < sizeof word - 1; i++)
-      line[length++] = (uint8_t)word[i];
-    do
-      digits[count++] = (uint8_t)('0' + part % 10);
-    while (part /= 10);
-    while (count)
-      line[length++] = digits[--count];
-    mlir_work_command(session, line, length, &last);
+    const uint32_t part = limit <= largest && slice < left ? (slice ? slice : 1) : left;
+    mlir_work_command_limited(session, command, command_length, part, &last);
     if (last.outcome != MLIR_WORK_CONVERGED && last.outcome != MLIR_WORK_LIMIT)
       break;
     made += last.number;
     if (last.outcome == MLIR_WORK_CONVERGED || made >= limit)
       break;
+    last.outcome = MLIR_WORK_STOPPED;
   }
   if (last.outcome == MLIR_WORK_CONVERGED || last.outcome == MLIR_WORK_LIMIT)
-    mlir_work_command(session, (const uint8_t *)commit, sizeof commit - 1, answer);
+    mlir_work_commit(session, answer);
   else
-    mlir_work_command(session, (const uint8_t *)rollback, sizeof rollback - 1, answer);
+    mlir_work_rollback(session, answer);
   *answer = last;
   answer->shown = 0;
   if (last.outcome != MLIR_WORK_REFUSED && last.outcome != MLIR_WORK_REFUSED_ON && last.outcome != MLIR_WORK_REFUSED_AT)

@@ -6,3 +6,4 @@ pub mod Rows
 pub mod Reached
 pub mod Trails
 pub mod Phases
+pub mod Packed

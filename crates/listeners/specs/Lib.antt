@@ -12,3 +12,4 @@ pub mod Marking
 pub mod Marks
 pub mod Lines
 pub mod UnreachedListener
+pub mod Operands

@@ -43,7 +43,7 @@ pub(crate) fn follow(
     match event {
         Event::Put { op, .. } => insert_operands(alloc, table, view, *op),
         Event::Take { op, .. } => {
-            table.take(alloc, *op);
+            table.take(*op);
             true
         }
         Event::SetOperand { op, .. } => insert_operands(alloc, table, view, *op),

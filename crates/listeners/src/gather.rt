@@ -109,7 +109,7 @@ fn push_slot(
     let Ok(number) = u32::try_from(id) else {
         return Err(AllocError);
     };
-    push_keys(OpId::new(number), &now.operands, keys)
+    push_keys(OpId::new(number), now.operands.as_slice(), keys)
 }
 
 /// Appends the keys of the uses of the changed operations in a list.
@@ -127,7 +127,7 @@ fn push_far(far: &BTreeMap<u32, OperandChange>, keys: &mut Vec<UseKey>) -> Resul
     ensures { OnOk result (keys.new.items ≡ keys.old.items ++ keys_of (changed_uses far.now.entries)) }
 {
     for (id, now) in far {
-        push_keys(OpId::new(*id), &now.operands, keys)?;
+        push_keys(OpId::new(*id), now.operands.as_slice(), keys)?;
     }
     Ok(())
 }

@@ -6,7 +6,7 @@ ghost use Rattle.listeners.specs.Others.{others};
 ghost use Rattle.listeners.specs.Tables.{table_uses};
 
 use crate::listing::Listing;
-use crate::operand_change::OperandChange;
+use crate::operand_change::{OperandChange, Operands};
 use ir_event::trees::value::Value;
 use ir_event::types::ids::OpId;
 use listeners_support::IdMap;
@@ -48,7 +48,7 @@ impl UseTable {
         ensures { OnTrue result (in_order (table_uses self.new)
             ≡ in_order (operand_uses op 0 operands.now ++ others op (table_uses self.old))) }
     {
-        let Ok(operands) = Vec::from_slice(alloc, operands) else {
+        let Ok(operands) = Operands::from_slice(alloc, operands) else {
             return false;
         };
         self.changed.ordered();
@@ -59,10 +59,10 @@ impl UseTable {
     }
 
     /// Removes the operands of an operation, if it has some. Succeeds also if memory runs out.
-    pub(crate) fn take(&mut self, alloc: Global, op: OpId)
+    pub(crate) fn take(&mut self, op: OpId)
         ensures { in_order (table_uses self.new) ≡ in_order (others op (table_uses self.old)) }
     {
-        let operands = Vec::new(alloc);
+        let operands = Operands::new();
         self.changed.ordered();
         match self.changed.insert(op.number(), OperandChange { operands }) {
             Ok(_) => {}

@@ -1,6 +1,7 @@
 pub mod Found
 pub mod Sizes
 pub mod Meant
+pub mod Unnamed
 pub mod Local
 pub mod Gathered
 pub mod Omitted

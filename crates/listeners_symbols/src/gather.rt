@@ -12,9 +12,12 @@ ghost use Rattle.ir_event.specs.Bounds.{operand_count};
 ghost use Rattle.ir_event.specs.Modules.{NodeIsOf, module_in};
 ghost use Rattle.listeners_symbols.specs.Roles.{call_of as call_from};
 ghost use Rattle.listeners_symbols.specs.Listeners.{kept_at};
+ghost use Rattle.listeners_symbols.specs.Nameless.{IsNamelessRole};
 ghost use Rattle.listeners_symbols.specs.Table.{CallIsOf, IsReadAs, IsRight, call_meaning, head_meaning, tables_for};
 ghost use Rattle.listeners_symbols.specs.Table.{tables_in, tree_in};
 
+use crate::boxed::Boxed;
+use crate::nameless::names_nothing;
 use crate::properties::{callee_of, function_of, is_private, name_of, symbol_of};
 use crate::references::references_of;
 use crate::role::{Call, Role, Tables};
@@ -118,7 +121,11 @@ fn call_with(
 }
 
 /// Returns the call of an operation, or `None` if it calls no symbol.
-fn call_of(alloc: Global, view: &mut View<'_>, node: &Node<'_>) -> Result<Option<Call>, AllocError>
+fn call_of(
+    alloc: Global,
+    view: &mut View<'_>,
+    node: &Node<'_>,
+) -> Result<Option<Boxed<Call>>, AllocError>
     requires { NodeIsOf view.old.world.now.ctx node.now }
     ensures call { IfOk result
         (λ k. option_map (call_meaning view.old.world.now.ctx) k
@@ -131,7 +138,26 @@ fn call_of(alloc: Global, view: &mut View<'_>, node: &Node<'_>) -> Result<Option
     let Some(callee) = callee_of(view.context(), node) else {
         return Ok(None);
     };
-    Ok(Some(call_with(alloc, view, node, callee)?))
+    let call = call_with(alloc, view, node, callee)?;
+    Ok(Some(Boxed::new(alloc, call)?))
+}
+
+/// Returns the role of an operation that names nothing, given its symbol tables and its call.
+fn nameless_role(alloc: Global, tables: &Tables, call: Option<Boxed<Call>>) -> Role
+    ensures { IsNamelessRole tables.now call result }
+{
+    Role {
+        parent: tables.parent,
+        home: tables.home,
+        table: tables.table,
+        is_table: false,
+        symbol: None,
+        name: None,
+        is_private: false,
+        references: Vec::new(alloc),
+        call,
+        function: None,
+    }
 }
 
 /// Returns the role of an operation, given its symbol tables and its call.
@@ -140,7 +166,7 @@ fn role_with(
     ctx: &Context,
     node: &Node<'_>,
     tables: &Tables,
-    call: Option<Call>,
+    call: Option<Boxed<Call>>,
 ) -> Result<Role, AllocError>
     requires node { NodeIsOf ctx.now node.now }
     requires call { IfSome call (CallIsOf ctx.now) }
@@ -148,6 +174,9 @@ fn role_with(
         → option_map (call_meaning ctx.now) call ≡ call_from (head_meaning ctx.now node.now.head) types
         → IsReadAs ctx.now (head_meaning ctx.now node.now.head) types tables.now r) }
 {
+    if names_nothing(ctx, node) {
+        return Ok(nameless_role(alloc, tables, call));
+    }
     let references = references_of(alloc, ctx, node)?;
     let function = function_of(alloc, ctx, node)?;
     Ok(Role {

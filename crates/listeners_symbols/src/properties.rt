@@ -12,6 +12,7 @@ ghost use Rattle.ir_event.specs.Modules.{NodeIsOf};
 ghost use Rattle.listeners_symbols.specs.Roles as roles;
 ghost use Rattle.listeners_symbols.specs.Table.{head_meaning, signature_meaning, SignatureIsOf};
 
+use crate::boxed::Boxed;
 use crate::role::Signature;
 use ir_event::types::context::Context;
 use ir_event::types::ids::{AttrId, NameId, TypeId};
@@ -21,6 +22,7 @@ use ir_event::types::word::Word;
 use listeners_support::node::Node;
 use listeners_support::properties::{entry, string_of};
 use op_registry::signature;
+use smallvec::SmallVec;
 use std::alloc::{AllocError, Global};
 
 /// Returns the name of the symbol that an operation defines, if it defines one.
@@ -152,7 +154,7 @@ pub(crate) fn function_of(
     alloc: Global,
     ctx: &Context,
     node: &Node<'_>,
-) -> Result<Option<Signature>, AllocError>
+) -> Result<Option<Boxed<Signature>>, AllocError>
     requires { NodeIsOf ctx.now node.now }
     ensures signature { IfOk result
         (λ s. option_map (signature_meaning ctx.now) s ≡ roles.signature_of (head_meaning ctx.now node.now.head)) }
@@ -161,7 +163,8 @@ pub(crate) fn function_of(
     let Some(types) = function_type(ctx, node) else {
         return Ok(None);
     };
-    let inputs = Vec::from_slice(alloc, types.inputs)?;
-    let outputs = Vec::from_slice(alloc, types.outputs)?;
-    Ok(Some(Signature { inputs, outputs }))
+    let inputs = SmallVec::from_slice(alloc, types.inputs)?;
+    let outputs = SmallVec::from_slice(alloc, types.outputs)?;
+    let signature = Boxed::new(alloc, Signature { inputs, outputs })?;
+    Ok(Some(signature))
 }

@@ -305,6 +305,7 @@ fn push_call_of(
     let Some(call) = &role.call else {
         return Ok(());
     };
+    let call = call.get();
     let found = resolve(roles, definitions, role.table, &call.callee);
     push_call(alloc, roles, user, call, found, out)
 }

@@ -96,5 +96,7 @@ pub(crate) fn fits(roles: &Roles, call: &Call, op: OpId) -> bool
     let Some(function) = &role.function else {
         return false;
     };
-    same_types(&function.inputs, &call.inputs) && same_types(&function.outputs, &call.outputs)
+    let function = function.get();
+    same_types(function.inputs.as_slice(), &call.inputs)
+        && same_types(function.outputs.as_slice(), &call.outputs)
 }

@@ -8,6 +8,7 @@ ghost use Rattle.std.specs.BTreeSet.{contains};
 ghost use Rattle.listeners_symbols.specs.Table.{Entered, IsPlain, role_numbers};
 ghost use Rattle.listeners_symbols.specs.Telling.{HasThose, HasThose-prop, has_some, hides, names, concerns_symbols};
 
+use crate::boxed::Boxed;
 use crate::role::Role;
 use ir_event::types::ids::OpId;
 use listeners_support::IdMap;
@@ -19,7 +20,7 @@ use std::collections::BTreeSet;
 /// A plain role, which contributes nothing to a report, has no entry unless the operation has regions.
 #[derive(Drop)]
 pub struct Roles {
-    pub all: IdMap<Role>,
+    pub all: IdMap<Boxed<Role>>,
     /// The operations that define, reference or call a symbol. The set may have more operations.
     pub symbol_ops: BTreeSet<OpId>,
     /// The private definitions. The set may have more operations.
@@ -61,33 +62,40 @@ impl Roles {
     pub fn get(&self, op: OpId) -> Option<&Role>
         ensures value { option_copied result ≡ idmap.get self.now.all op }
     {
-        self.all.get(op.number())
+        role_in(&self.all, op)
     }
 
     /// Enters the role of an operation, except a plain role of an operation without regions that has no entry. If
     /// memory runs out, the roles are unchanged.
-    pub fn enter(&mut self, op: OpId, role: Role, has_regions: bool) -> Result<(), AllocError>
+    pub fn enter(
+        &mut self,
+        alloc: Global,
+        op: OpId,
+        role: Role,
+        has_regions: bool,
+    ) -> Result<(), AllocError>
         ensures entered { OnOk result (Entered self.old.all self.new.all op role) }
     {
         if !has_regions && is_plain(&role) && !self.all.contains_key(op.number()) {
             return Ok(());
         }
+        let role = Boxed::new(alloc, role)?;
         self.insert(op, role)
     }
 
     /// Sets the role of an operation. If memory runs out, the roles are unchanged.
-    fn insert(&mut self, op: OpId, role: Role) -> Result<(), AllocError>
+    fn insert(&mut self, op: OpId, role: Boxed<Role>) -> Result<(), AllocError>
         ensures updates { OnOk result (idmap.Updates self.old.all self.new.all op (Some role)) }
     {
-        let symbol_ops = concerns_symbols(&role);
-        let hidden = hides(&role);
-        let naming = names(&role);
+        let symbol_ops = concerns_symbols(role.get());
+        let hidden = hides(role.get());
+        let naming = names(role.get());
         add_if(&mut self.symbol_ops, op, symbol_ops)?;
         add_if(&mut self.hidden, op, hidden)?;
         add_if(&mut self.naming, op, naming)?;
-        let reported = role_concerns_symbols(self.all.get(op.number()));
-        let hid = hides_of(self.all.get(op.number()));
-        let named = names_of(self.all.get(op.number()));
+        let reported = role_concerns_symbols(self.get(op));
+        let hid = hides_of(self.get(op));
+        let named = names_of(self.get(op));
         self.all.insert(op.number(), role)?;
         drop_unless(&mut self.symbol_ops, op, symbol_ops || !reported);
         drop_unless(&mut self.hidden, op, hidden || !hid);
@@ -100,14 +108,28 @@ impl Roles {
         ensures updates { idmap.Updates self.old.all self.new.all op None }
     {
         let gone = self.all.remove(op.number());
-        drop_unless(
-            &mut self.symbol_ops,
-            op,
-            !role_concerns_symbols(gone.as_ref()),
-        );
-        drop_unless(&mut self.hidden, op, !hides_of(gone.as_ref()));
-        drop_unless(&mut self.naming, op, !names_of(gone.as_ref()));
+        let gone = unboxed(gone.as_ref());
+        drop_unless(&mut self.symbol_ops, op, !role_concerns_symbols(gone));
+        drop_unless(&mut self.hidden, op, !hides_of(gone));
+        drop_unless(&mut self.naming, op, !names_of(gone));
     }
+}
+
+/// Returns the role, if there is one.
+fn unboxed(boxed: Option<&Boxed<Role>>) -> Option<&Role>
+    ensures { option_copied result ≡ option_copied boxed.entry }
+{
+    match boxed {
+        Some(boxed) => Some(boxed.get()),
+        None => None,
+    }
+}
+
+/// Returns the role of an operation, if the map has one.
+fn role_in(all: &IdMap<Boxed<Role>>, op: OpId) -> Option<&Role>
+    ensures { option_copied result ≡ idmap.get all.now op }
+{
+    unboxed(all.get(op.number()))
 }
 
 /// Returns whether an operation defines, references or calls a symbol.

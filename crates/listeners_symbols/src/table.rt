@@ -34,7 +34,7 @@ fn renew_by(
     ensures world { view.new.world.now ≡ view.old.world.now }
 {
     let role = gather(alloc, roles, view, op, node)?;
-    roles.enter(op, role, node.region_count() > 0)?;
+    roles.enter(alloc, op, role, node.region_count() > 0)?;
     Ok(())
 }
 

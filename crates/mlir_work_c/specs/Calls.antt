@@ -5,7 +5,9 @@ use Rattle.rewriter.specs.RewriterCalls.{AgreesOrStale}
 use Rattle.mlir_work_analyses.specs.Listeners.{any_analysis}
 use Rattle.mlir_work_c.specs.Answers.{closed, opened, not_opened}
 use Rattle.mlir_work_c.specs.Opened.{Opened, WhyNotOpened}
-use Rattle.mlir_work_c.specs.Stepped.{Stepped}
+use Rattle.mlir_work_script.specs.Commands.{line_says}
+use Rattle.mlir_work_c.specs.Limits.{limited}
+use Rattle.mlir_work_c.specs.Stepped.{Answered, Stepped, setting}
 use Rattle.mlir_work_c.specs.declared.answer.Answer.{Answer}
 use Rattle.mlir_work_c.specs.declared.session.Session.{Session}
 
@@ -42,3 +44,7 @@ Goes Does (Some s) a (Some t) = Does s a t
 -- a line has the effect that the machine gives it
 abbrev pub CommandGoes : Option Session → List ℕ → Answer → Option Session → Type 0
 CommandGoes old line a new = Goes (λ s b t. Stepped s line b t) old a new
+
+-- a line that takes a limit has the effect that the machine gives it with this limit; any other line is a bad command
+abbrev pub LimitedGoes : Option Session → List ℕ → ℕ → Answer → Option Session → Type 0
+LimitedGoes old line limit a new = Goes (λ s b t. Answered (setting s line) s (limited limit (line_says line)) b t) old a new

@@ -6,6 +6,7 @@ pub mod Edits
 pub mod Requested
 pub mod Answers
 pub mod Stepped
+pub mod Limits
 pub mod Opened
 pub mod Queries
 pub mod Reading

@@ -5,12 +5,12 @@ ghost use Rattle.rewriter.specs.RewriterCalls.{AgreesOrStale};
 ghost use Rattle.mlir_work_analyses.specs.Listeners.{any_analysis};
 ghost use Rattle.mlir_work_c.specs.Answers.{closed as no_session};
 ghost use Rattle.mlir_work_c.specs.Opened.{Opened, WhyNotOpened};
-ghost use Rattle.mlir_work_c.specs.Calls.{CommandGoes, IsHeld, OpenGoes, ShownOf};
+ghost use Rattle.mlir_work_c.specs.Calls.{CommandGoes, IsHeld, LimitedGoes, OpenGoes, ShownOf};
 
 use crate::answer::{Answer, closed, open_failed, opened};
 use crate::handle::Handle;
 use crate::open::{OpenError, open};
-use crate::session::{Session, read_shown, send_line};
+use crate::session::{Session, read_shown, send_limited, send_line};
 use ir_event::types::refusal::Refusal;
 use std::alloc::Global;
 
@@ -125,6 +125,28 @@ pub extern "C" fn mlir_work_command(
     }
     let found = held.slot.as_mut();
     *answer = send_line(alloc, found, line);
+}
+
+/// Runs a script line that takes a rewrite limit in the handle's session, with this limit in place of its own. Any other
+/// line is refused as a bad command.
+#[unsafe(no_mangle)]
+pub extern "C" fn mlir_work_command_limited(
+    alloc: Global,
+    held: &mut Handle,
+    line: &[u8],
+    limit: u32,
+    answer: &mut Answer,
+)
+    requires kept { IsHeld held.old.slot.value }
+    ensures goes { LimitedGoes held.old.slot.value line.now limit answer.new held.new.slot.value }
+    ensures kept { IsHeld held.new.slot.value }
+{
+    if !held.is_open() {
+        *answer = closed();
+        return;
+    }
+    let found = held.slot.as_mut();
+    *answer = send_limited(alloc, found, line, limit);
 }
 
 /// Copies the bytes that the last line showed, starting at `from`, and returns the number of copied bytes.

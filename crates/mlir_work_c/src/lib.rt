@@ -3,6 +3,7 @@
 //!
 //! - `session` runs one script line at a time in a session that lives between calls: a module, its marks, its seven
 //!   analyses and its pattern registry. Each line has the effect that it has in a script.
+//! - `limits` gives a rewriting command another limit.
 //! - `open` opens a session, `edits` edits its module without texts, and `answer` has the numbers of an answer.
 //! - `calls`, `editing`, `numbered`, `queries`, `reading` and `bulk` are the C functions. `handle`, `handle_slot` and
 //!   `raw_box` store a session in a C struct.
@@ -16,6 +17,7 @@ pub mod edits;
 mod handle;
 mod handle_slot;
 pub mod laws;
+mod limits;
 pub mod numbered;
 mod numbers;
 pub mod open;

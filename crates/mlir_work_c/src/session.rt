@@ -4,16 +4,18 @@ ghost use Rattle.rewriter.specs.RewriterCalls.{AgreesOrStale};
 ghost use Rattle.mlir_work_analyses.specs.Listeners.{any_analysis};
 ghost use Rattle.mlir_work_script.specs.Commands.{line_says, spoken_of};
 ghost use Rattle.mlir_work_run.specs.session.Output.{says_nothing};
+ghost use Rattle.mlir_work_c.specs.Limits.{limited};
 ghost use Rattle.mlir_work_c.specs.Stepped.{Answered, IsLeft, Said, Stepped, is_opaque, setting};
 
 use crate::answer::{Answer, answer_of, nothing, refused};
+use crate::limits::limited;
 use ir_event::types::refusal::Refusal;
 use mlir_work_analyses::any_analysis::AnyAnalysis;
 use mlir_work_run::command::{Line, read_line};
 use mlir_work_run::lines::split_line;
 use mlir_work_run::options::SessionOptions;
 use mlir_work_run::registry::PatternRegistry;
-use mlir_work_run::script::answer;
+use mlir_work_run::script::{answer, is_nothing};
 use rewriter::Bench;
 use std::alloc::Global;
 
@@ -93,31 +95,12 @@ fn say_line(
     ensures said { Said session_options.now session.old (line_says line.now) result session.new }
     ensures kept { AgreesOrStale any_analysis session.new.bench }
 {
-    match read_line(line) {
-        Line::Empty => {
-            leave(alloc, session);
-            return nothing();
-        }
-        Line::BadCommand => return obey_line(alloc, session, session_options, &Line::BadCommand),
-        Line::Command(command) => return obey_line(
-            alloc,
-            session,
-            session_options,
-            &Line::Command(command),
-        ),
-        Line::Session(session_command) => return obey_line(
-            alloc,
-            session,
-            session_options,
-            &Line::Session(session_command),
-        ),
-        Line::Registry(session_command) => return obey_line(
-            alloc,
-            session,
-            session_options,
-            &Line::Registry(session_command),
-        ),
+    let line = read_line(line);
+    if is_nothing(&line) {
+        leave(alloc, session);
+        return nothing();
     }
+    obey_line(alloc, session, session_options, &line)
 }
 
 /// Runs a script line in a session, with the effect that it has in a script run with `--brief`. An empty line or a
@@ -135,6 +118,18 @@ pub fn send_line(alloc: Global, session: &mut Session, line: &[u8]) -> Answer
     }
     leave(alloc, session);
     refused(Refusal::BadCommand)
+}
+
+/// Runs a line that takes a rewrite limit, with this limit in place of its own. Any other line is refused as a bad
+/// command.
+pub fn send_limited(alloc: Global, session: &mut Session, line: &[u8], limit: u32) -> Answer
+    requires kept { AgreesOrStale any_analysis session.old.bench }
+    ensures answered { Answered (setting session.old line.now) session.old (limited limit (line_says line.now)) result session.new }
+    ensures kept { AgreesOrStale any_analysis session.new.bench }
+{
+    let session_options = setting(session, line);
+    let line = limited(&read_line(line), limit);
+    obey_line(alloc, session, &session_options, &line)
 }
 
 /// Copies the bytes that the last line showed, starting at `from`, and returns the number of copied bytes.

@@ -5,16 +5,15 @@
 pub mod attach;
 mod attributes;
 pub mod commands;
-mod edits;
+pub mod edits;
 pub mod listing;
-mod marks;
+pub mod marks;
 mod notes;
 pub mod opening;
 mod operations;
 pub mod options;
 mod parse_error;
 pub mod pattern_commands;
-mod places;
 pub mod prints;
 mod replying;
 mod rewriting;

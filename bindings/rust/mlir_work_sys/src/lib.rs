@@ -165,6 +165,13 @@ extern "C" {
         answer: *mut Answer,
     );
     pub fn mlir_work_command(session: *mut Handle, line: *const u8, line_length: usize, answer: *mut Answer);
+    pub fn mlir_work_command_limited(
+        session: *mut Handle,
+        line: *const u8,
+        line_length: usize,
+        limit: u32,
+        answer: *mut Answer,
+    );
     pub fn mlir_work_read(session: *mut Handle, from: usize, into: *mut u8, into_length: usize) -> usize;
     pub fn mlir_work_close(session: *mut Handle);
     pub fn mlir_work_set_operand(
@@ -176,6 +183,9 @@ extern "C" {
     );
     pub fn mlir_work_replace(session: *mut Handle, old: *const Value, new: *const Value, answer: *mut Answer);
     pub fn mlir_work_erase(session: *mut Handle, operation: u32, answer: *mut Answer);
+    pub fn mlir_work_begin(session: *mut Handle, answer: *mut Answer);
+    pub fn mlir_work_commit(session: *mut Handle, answer: *mut Answer);
+    pub fn mlir_work_rollback(session: *mut Handle, answer: *mut Answer);
     pub fn mlir_work_move(session: *mut Handle, operation: u32, spot: *const Spot, answer: *mut Answer);
     pub fn mlir_work_has(session: *mut Handle, operation: u32) -> bool;
     pub fn mlir_work_root(session: *mut Handle) -> u64;

@@ -2,7 +2,15 @@ use Rattle.std.proofs.Common.{◌∙◌, ap}
 use Rattle.ir_event.specs.types.Terms.{name_term}
 use Rattle.ir_event.specs.types.Words.{is_table}
 use Rattle.listeners_symbols.proofs.Meant.{references_meant, call_meant, function_meant}
+use Rattle.std.proofs.lemmas.Bool.{OnTrue_at}
+use Rattle.listeners_symbols.proofs.Unnamed.{read_nameless}
+use Rattle.listeners_symbols.specs.Table.{head_meaning}
 use Rattle.listeners_symbols.proofs.gather.role_with.Goals as goal
+
+pub returns-then-names_nothing : goal.returns-then-names_nothing
+returns-then-names_nothing c types e =
+    let ctx = c.args.ctx.now in
+    read_nameless (head_meaning ctx c.args.node.now.head) (OnTrue_at c.if-names_nothing.true c.names_nothing.ensures) ctx types c.args.tables.now c.args.call c.nameless_role.result c.nameless_role.ensures c.requires.call e
 
 pub returns : goal.returns
 returns c types e =
