@@ -224,6 +224,11 @@ static inline void mlir_work_patterns(mlir_work_session *session, const uint8_t 
   answer->shown = 0;
 }
 
+/* The commands `begin`, `commit` and `rollback`, with the same answers. */
+void mlir_work_begin(mlir_work_session *session, mlir_work_answer *answer);
+void mlir_work_commit(mlir_work_session *session, mlir_work_answer *answer);
+void mlir_work_rollback(mlir_work_session *session, mlir_work_answer *answer);
+
 /* The outcome of a run that `stop` stopped. The library's own answers never have it. */
 #define MLIR_WORK_STOPPED 64
 
@@ -241,7 +246,7 @@ typedef bool mlir_work_stop(void *context);
 static inline void mlir_work_rewrite_unless(mlir_work_session *session, const uint8_t *command, size_t command_length,
                                             uint32_t limit, uint32_t slice, mlir_work_stop *stop, void *context,
                                             mlir_work_answer *answer) {
-  static const char begin[] = "begin", commit[] = "commit", rollback[] = "rollback", word[] = " limit ";
+  static const char word[] = " limit ";
   const uint32_t largest = 1000000; /* a larger limit is refused (50 BadLimit) */
   uint8_t line[4096], digits[10];
   uint64_t made = 0;
@@ -249,7 +254,7 @@ static inline void mlir_work_rewrite_unless(mlir_work_session *session, const ui
   *answer = last;
   if (command_length > sizeof line - sizeof word - sizeof digits)
     return;
-  mlir_work_command(session, (const uint8_t *)begin, sizeof begin - 1, answer);
+  mlir_work_begin(session, answer);
   if (answer->outcome != MLIR_WORK_OK)
     return;
   for (;;) {
@@ -278,9 +283,9 @@ static inline void mlir_work_rewrite_unless(mlir_work_session *session, const ui
       break;
   }
   if (last.outcome == MLIR_WORK_CONVERGED || last.outcome == MLIR_WORK_LIMIT)
-    mlir_work_command(session, (const uint8_t *)commit, sizeof commit - 1, answer);
+    mlir_work_commit(session, answer);
   else
-    mlir_work_command(session, (const uint8_t *)rollback, sizeof rollback - 1, answer);
+    mlir_work_rollback(session, answer);
   *answer = last;
   answer->shown = 0;
   if (last.outcome != MLIR_WORK_REFUSED && last.outcome != MLIR_WORK_REFUSED_ON && last.outcome != MLIR_WORK_REFUSED_AT)

@@ -679,6 +679,11 @@ public:
     accepted(answer);
   }
 
+  // The commands on marks. They throw Refused. A `Mark` calls them by itself.
+  void begin() { accepted(marked(mlir_work_begin, "begin")); }
+  void commit() { accepted(marked(mlir_work_commit, "commit")); }
+  void rollback() { accepted(marked(mlir_work_rollback, "rollback")); }
+
   // Inserts an operation without regions and returns it. The entries may be in any order. An inherent attribute is put
   // among the properties. A key that is given twice is refused.
   Operation insert(const Spot &spot, const Name &name, const std::vector<mlir_work_value> &operands,
@@ -796,6 +801,15 @@ private:
     take_word(line);
     return take_word(line);
   }
+  friend class Mark;
+  // Calls a command on marks and returns the answer, even if it is a refusal.
+  mlir_work_answer marked(void (*call)(mlir_work_session *, mlir_work_answer *), std::string_view word) {
+    mlir_work_answer answer;
+    call(&held_, &answer);
+    if (answer.outcome == MLIR_WORK_OK)
+      count(word);
+    return answer;
+  }
   // Updates the number of open marks after a command.
   void count(std::string_view word) {
     if (word == "begin")
@@ -815,13 +829,14 @@ class Mark {
 public:
   // Throws Refused if 16 marks are open.
   explicit Mark(Session &session) : session_(&session) {
-    session.command("begin");
+    session.begin();
     depth_ = session.marks();
   }
   Mark(const Mark &) = delete;
   Mark &operator=(const Mark &) = delete;
   ~Mark() {
-    while (session_ && session_->marks() >= depth_ && session_->answer("rollback").outcome == MLIR_WORK_OK) {
+    while (session_ && session_->marks() >= depth_ &&
+           session_->marked(mlir_work_rollback, "rollback").outcome == MLIR_WORK_OK) {
     }
   }
 
@@ -833,7 +848,7 @@ public:
     if (session_->marks() < depth_)
       throw std::logic_error("the mark was dropped before it was kept");
     while (session_->marks() >= depth_)
-      session_->command("commit");
+      session_->commit();
     session_ = nullptr;
   }
 

@@ -30,10 +30,10 @@ module _ {V : Type 0} where
   above_less j k [] l a = tt
   above_less j k (p ∷ ps) l a = ((let b = a.0 in omega (arith, l, b)), above_less j k ps l a.1)
 
-  look_here : (p : ℕ × V) (ps : List (ℕ × V)) → look p.0 (p ∷ ps) ≡ Some p.1
+  pub look_here : (p : ℕ × V) (ps : List (ℕ × V)) → look p.0 (p ∷ ps) ≡ Some p.1
   look_here p ps = ap (λ b. cond b (Some p.1) (look p.0 ps)) (eq-eqb p.0 p.0 refl)
 
-  look_past : (x : ℕ) (p : ℕ × V) (ps : List (ℕ × V)) → (x ≡ p.0 → ⊥) → look x (p ∷ ps) ≡ look x ps
+  pub look_past : (x : ℕ) (p : ℕ × V) (ps : List (ℕ × V)) → (x ≡ p.0 → ⊥) → look x (p ∷ ps) ≡ look x ps
   look_past x p ps ne = ap (λ b. cond b (Some p.1) (look x ps)) (ne_eqb x p.0 ne)
 
   -- sorted lists with the same components for each id are equal

@@ -2,6 +2,7 @@ pub mod Modules
 pub mod Step
 pub mod Rows
 pub mod Tags
+pub mod Subjects
 pub mod Heads
 pub mod Listener
 pub mod Notification

@@ -3,12 +3,15 @@ ghost use Rattle.std.specs.Prelude.{◌≡◌, true, OnErr, OnOk, MatchResult};
 ghost use Rattle.op_registry.specs.types.Things.{ContextModel};
 ghost use Rattle.ir_event.specs.Modules.{Module, context_model, module_in};
 ghost use Rattle.ir_event.specs.Rows.{Shows};
+ghost use Rattle.ir_event.specs.Subjects.{rows_about};
 ghost use Rattle.ir_event.specs.Listener.{Listener, SameAnalysis};
 ghost use Rattle.ir_event.specs.Notification.{IsNotified};
 ghost use Rattle.ir_event.specs.declared.row.ReportFault.TheVariants.{Stale, Memory as NoMemory};
 
 use crate::event::Event;
 use crate::row::{Kind, Memory, ReportFault, Row};
+use crate::subject::Subject;
+use crate::subject_rows::keep_rows_about;
 use crate::view::View;
 use crate::world::World;
 
@@ -41,6 +44,21 @@ pub trait Analysis: Drop {
     fn report(&self) -> Result<Vec<Row>, ReportFault>
         ensures agreed { (c : ContextModel) (m : Module) → (meaning self.now).agrees c m → MatchResult result (λ rows. Shows c rows.items ((meaning self.now).analysis m.tree)) (λ e. e ≡ NoMemory) }
         ensures stale { (meaning self.now).stale ≡ true → MatchResult result (λ _. ⊥) (λ e. e ≡ Stale) };
+
+    /// Returns the rows of the report that are about an operation or a value, in order, allocated by the allocator of
+    /// the listener. `world` shows the module. A listener with a table by operation answers from the table, and any
+    /// other selects the rows from its whole report.
+    fn report_about(&self, world: &World, subject: &Subject) -> Result<Vec<Row>, ReportFault>
+        ensures agreed { (meaning self.now).agrees (context_model world.now) (module_in world.now) → MatchResult result (λ rows. Shows (context_model world.now) rows.items (rows_about subject.now ((meaning self.now).analysis (module_in world.now).tree))) (λ e. e ≡ NoMemory) }
+        ensures stale { (meaning self.now).stale ≡ true → MatchResult result (λ _. ⊥) (λ e. e ≡ Stale) }
+    {
+        let mut rows = match self.report() {
+            Ok(rows) => rows,
+            Err(fault) => return Err(fault),
+        };
+        keep_rows_about(subject, &mut rows);
+        Ok(rows)
+    }
 }
 
 /// A boxed listener behaves as the listener in the box.
@@ -65,5 +83,9 @@ impl Analysis for Box<dyn Analysis> {
 
     fn report(&self) -> Result<Vec<Row>, ReportFault> {
         (**self).report()
+    }
+
+    fn report_about(&self, world: &World, subject: &Subject) -> Result<Vec<Row>, ReportFault> {
+        (**self).report_about(world, subject)
     }
 }

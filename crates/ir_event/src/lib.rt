@@ -12,6 +12,8 @@ mod of_module;
 pub mod panel;
 pub mod row;
 pub mod step_laws;
+pub mod subject;
+pub mod subject_rows;
 pub mod tag;
 mod undo;
 pub mod view;

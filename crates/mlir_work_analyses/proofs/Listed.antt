@@ -4,8 +4,9 @@ use Rattle.std.specs.Prelude.{filter, is_some}
 use Rattle.std.specs.List.{list_all}
 use Rattle.std.proofs.lemmas.Bool.{and_parts}
 use Rattle.std.proofs.lemmas.List.{map-append, take_all}
+use Rattle.mlir_work_script_base.specs.Kinds.{all_kinds}
 use Rattle.rewriter_machine.specs.Panels.{Shown}
-use Rattle.mlir_work_analyses.specs.Listeners.{is_listed, seven_kinds, seven_supply, shown_if}
+use Rattle.mlir_work_analyses.specs.Listeners.{is_listed, seven_supply, shown_if}
 
 -- each of these kinds has an analysis
 abbrev pub are_supplied : Bool → List ℕ → Bool
@@ -14,7 +15,7 @@ are_supplied opaque rest = list_all (λ k. is_some (seven_supply opaque k)) rest
 -- the analyses so far, followed by the listed ones of the remaining kinds, are the listed ones of all
 abbrev pub AreSoFar : Bool → List ℕ → List ℕ → List Shown → Type 0
 AreSoFar opaque listed rest all =
-    (map Some all ++ map (seven_supply opaque) (filter (is_listed listed) rest) ≡ map (seven_supply opaque) (filter (is_listed listed) seven_kinds))
+    (map Some all ++ map (seven_supply opaque) (filter (is_listed listed) rest) ≡ map (seven_supply opaque) (filter (is_listed listed) all_kinds))
     × (are_supplied opaque rest ≡ true)
 
 one : (t : Bool) (k : ℕ) (f : ℕ → Option Shown) (rest : List ℕ) (found : Option Shown) → f k ≡ found → is_some found ≡ true

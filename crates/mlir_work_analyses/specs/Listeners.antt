@@ -19,6 +19,7 @@ use Rattle.ir_verify.specs.Diagnostics.{diagnostics_of}
 use Rattle.effects.specs.Reports.{effects_rows, dead_rows}
 use Rattle.constants.specs.Rows.{constants_rows}
 use Rattle.listeners.specs.Unreached.{unreached_rows}
+use Rattle.mlir_work_script_base.specs.Kinds.{all_kinds}
 use Rattle.rewriter_machine.specs.Panels.{Shown, all_shown}
 use Rattle.mlir_work_analyses.specs.declared.any_analysis.AnyAnalysis.{AnyAnalysis}
 use Rattle.mlir_work_analyses.specs.declared.any_analysis.AnyAnalysis.TheVariants as code
@@ -54,13 +55,9 @@ seven_supply opaque kind =
     else if kind == 7 then unbegun 7 unreached_rows
     else None
 
--- the kinds of the seven analyses in order
-abbrev pub seven_kinds : List ℕ
-seven_kinds = 1 ∷ 2 ∷ 3 ∷ 4 ∷ 5 ∷ 6 ∷ 7 ∷ []
-
 -- all seven analyses in the order of their kinds; none has begun
 abbrev pub AreSeven : Bool → List AnyAnalysis → Type 0
-AreSeven opaque all = map Some (all_shown any_analysis all) ≡ map (seven_supply opaque) seven_kinds
+AreSeven opaque all = map Some (all_shown any_analysis all) ≡ map (seven_supply opaque) all_kinds
 
 -- whether a kind is listed
 abbrev pub is_listed : List ℕ → ℕ → Bool
@@ -69,7 +66,7 @@ is_listed listed kind = list_any (λ k. k == kind) listed
 -- the ones of the seven analyses whose kinds are listed, in the order of their kinds; none has begun
 abbrev pub AreListed : Bool → List ℕ → List AnyAnalysis → Type 0
 AreListed opaque listed all =
-    map Some (all_shown any_analysis all) ≡ map (seven_supply opaque) (filter (is_listed listed) seven_kinds)
+    map Some (all_shown any_analysis all) ≡ map (seven_supply opaque) (filter (is_listed listed) all_kinds)
 
 -- one analysis, if it is wanted and there is one
 abbrev pub shown_if : Bool → Option Shown → List Shown

@@ -16,6 +16,7 @@ use ir_verify::diagnostics::Diagnostics;
 use listeners::unreached::Unreached;
 use listeners::uses::Uses;
 use listeners::{Definers, Symbols};
+use mlir_work_script_base::kind::KINDS;
 use mlir_work_session_base::analysis_source::AnalysisSource;
 use std::alloc::{AllocError, Global};
 
@@ -159,17 +160,6 @@ pub fn all_listeners(alloc: Global, opaque: bool) -> Result<Vec<AnyAnalysis>, Al
     all.push(AnyAnalysis::Unreached(Unreached::new(alloc)))?;
     Ok(all)
 }
-
-/// The kinds of the seven analyses in order.
-const KINDS: [Kind; 7] = [
-    Kind::USES,
-    Kind::SYMBOLS,
-    Kind::DIAGNOSTICS,
-    Kind::EFFECTS,
-    Kind::DEAD,
-    Kind::CONSTANTS,
-    Kind::UNREACHED,
-];
 
 /// Returns whether a kind is listed.
 fn is_listed(listed: &[Kind], kind: Kind) -> bool

@@ -1,5 +1,5 @@
 -- What a handle slot is once a borrow of its session ends.
-use Rattle.std.specs.Prelude.{Option, Some, None}
+use Rattle.std.specs.Prelude.{Some}
 use Rattle.std.specs.Borrow.{Lends, MutBor, Fml}
 use Rattle.mlir_work_c.specs.declared.session.Session.{Session}
 use Rattle.mlir_work_c.specs.contracts.session.Session.{the_row as session_row}

@@ -1,6 +1,6 @@
-//! The C functions for edits by number. Each makes the edit of the command of the same name.
+//! The C functions for edits by number and for marks. Each has the effect of the command of the same name.
 ghost use Rattle.std.specs.Prelude.{◌≡◌, None, Some};
-ghost use Rattle.rewriter.specs.Commands.{Erase, Replace, SetOperand};
+ghost use Rattle.rewriter.specs.Commands.{Begin, Commit, Erase, Replace, Rollback, SetOperand};
 ghost use Rattle.mlir_work_c.specs.Calls.{IsHeld};
 ghost use Rattle.mlir_work_c.specs.Edits.{EditGoes, MoveGoes};
 ghost use Rattle.mlir_work_c_read.specs.Numbers.{value_of as show_value};
@@ -103,4 +103,49 @@ pub extern "C" fn mlir_work_move(
         return;
     };
     *answer = edits::move_op(alloc, found, OpId::new(operation), point);
+}
+
+/// `begin`: makes a mark of the module.
+#[unsafe(no_mangle)]
+pub extern "C" fn mlir_work_begin(alloc: Global, held: &mut Handle, answer: &mut Answer)
+    requires kept { IsHeld held.old.slot.value }
+    ensures goes { EditGoes held.old.slot.value Begin answer.new held.new.slot.value }
+    ensures kept { IsHeld held.new.slot.value }
+{
+    if !held.is_open() {
+        *answer = closed();
+        return;
+    }
+    let found = held.slot.as_mut();
+    *answer = edits::begin(alloc, found);
+}
+
+/// `commit`: drops the newest mark and keeps the edits since it.
+#[unsafe(no_mangle)]
+pub extern "C" fn mlir_work_commit(alloc: Global, held: &mut Handle, answer: &mut Answer)
+    requires kept { IsHeld held.old.slot.value }
+    ensures goes { EditGoes held.old.slot.value Commit answer.new held.new.slot.value }
+    ensures kept { IsHeld held.new.slot.value }
+{
+    if !held.is_open() {
+        *answer = closed();
+        return;
+    }
+    let found = held.slot.as_mut();
+    *answer = edits::commit(alloc, found);
+}
+
+/// `rollback`: undoes all edits since the newest mark, and drops the mark.
+#[unsafe(no_mangle)]
+pub extern "C" fn mlir_work_rollback(alloc: Global, held: &mut Handle, answer: &mut Answer)
+    requires kept { IsHeld held.old.slot.value }
+    ensures goes { EditGoes held.old.slot.value Rollback answer.new held.new.slot.value }
+    ensures kept { IsHeld held.new.slot.value }
+{
+    if !held.is_open() {
+        *answer = closed();
+        return;
+    }
+    let found = held.slot.as_mut();
+    *answer = edits::rollback(alloc, found);
 }

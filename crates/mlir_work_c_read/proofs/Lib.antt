@@ -4,7 +4,6 @@ mod Growing
 mod Joining
 mod Lengths
 mod Nodes
-mod Placed
 mod Recording
 mod Refusing
 mod Testing

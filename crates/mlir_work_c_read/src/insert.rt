@@ -5,13 +5,13 @@ ghost use Rattle.rewriter.specs.RewriterCalls.{AgreesOrStale, id_reply_of};
 ghost use Rattle.mlir_work_script_base.specs.InsertionPoints.{insertion_point_of};
 ghost use Rattle.mlir_work_c_read.specs.Edits.{InsertsHeader};
 
-use crate::places::place_for;
 use ir_event::analysis::Analysis;
 use ir_event::trees::sound::sound;
 use ir_event::trees::tree::TreeOp;
 use ir_event::types::ids::OpId;
 use ir_event::types::refusal::Refusal;
 use mlir_work_script_base::insertion_points::InsertionPoint;
+use mlir_work_script_base::places::place_for;
 use rewriter::Bench;
 use rewriter::laws::led_benches_are_kept;
 
@@ -35,7 +35,7 @@ pub fn insert<L: Analysis>(
     if !sound(&bench.world().ctx, header) {
         return Err(Refusal::BadCommand);
     }
-    let place = match place_for(bench.world(), point) {
+    let place = match place_for(bench.world(), None, point) {
         Ok(place) => place,
         Err(refusal) => return Err(refusal),
     };

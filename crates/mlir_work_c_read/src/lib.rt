@@ -17,7 +17,6 @@ pub mod insert;
 pub mod intern;
 pub mod numbers;
 pub mod operations;
-mod places;
 pub mod queries;
 pub mod records;
 pub mod rows;

@@ -16,8 +16,8 @@ pub mod run;
 mod write_refusal;
 
 pub use mlir_work_session::{
-    Bench, analysis_source, attach, cells, clauses, command, expected_refusal, greedy, input,
-    insertion_points, keys, kind, lines, numbers, options, outcome, reader, registry,
+    Bench, analysis_source, attach, cells, clauses, command, edits, expected_refusal, greedy,
+    input, insertion_points, keys, kind, lines, marks, numbers, options, outcome, reader, registry,
     registry_command, replies, reply, response, rule_name, script, session_command, sink, source,
     values, watched, words, writing,
 };

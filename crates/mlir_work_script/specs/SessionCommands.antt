@@ -13,7 +13,7 @@ use Rattle.mlir_work_script_base.specs.Words.{word_of, words_of, after_word}
 use Rattle.mlir_work_script.specs.RuleLists.{are_items, names_of}
 use Rattle.mlir_work_script.specs.declared.session_command.SessionCommand.{SessionCommand as Coded}
 use Rattle.mlir_work_script.specs.declared.session_command.SessionCommand.TheVariants as code
-use Rattle.mlir_work_script_base.specs.declared.subject.Subject.{Subject}
+use Rattle.ir_event.specs.declared.subject.Subject.{Subject}
 
 -- a session command
 pub data SessionCommand : Type 0 where

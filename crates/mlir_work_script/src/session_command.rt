@@ -7,12 +7,13 @@ ghost use Rattle.mlir_work_script.specs.RuleLists.{names_of};
 ghost use Rattle.mlir_work_script_base.specs.RuleNames.{name_of};
 
 use crate::rule_lists::are_items;
+use ir_event::subject::Subject;
 use ir_event::types::ids::OpId;
 use mlir_work_script_base::clauses::{Clauses, clauses_in, mode_named};
 use mlir_work_script_base::kind::{Kind, kind_named};
 use mlir_work_script_base::numbers::parse_number;
 use mlir_work_script_base::rule_name::{RuleName, rule_named};
-use mlir_work_script_base::subject::{Subject, subject_named};
+use mlir_work_script_base::subject::subject_named;
 use mlir_work_script_base::values::op_named;
 use mlir_work_script_base::words::split_word;
 

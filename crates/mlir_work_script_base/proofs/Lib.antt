@@ -11,3 +11,4 @@ pub mod Spanning
 pub mod Quotes
 pub mod Listed
 pub mod Wording
+mod Placed

@@ -1,11 +1,15 @@
 -- The words of the kinds of analyses.
-use Rattle.std.specs.Prelude.{ℕ, List, ◌++◌, ◌==◌, ◌&&◌, not, Option, Some, None, if◌then◌else◌, codes, drop, nat_lt}
+use Rattle.std.specs.Prelude.{ℕ, List, [], ◌∷◌, ◌++◌, ◌==◌, ◌&&◌, not, Option, Some, None, if◌then◌else◌, codes, drop, nat_lt}
 use Rattle.std.specs.Prelude.{nat_eq}
 use Rattle.std.specs.Fmt.{decimal}
 use Rattle.std.specs.List.{starts_with}
 use Rattle.std.specs.Option.{is_some}
 use Rattle.std.specs.Str.{bytes_eq}
 use Rattle.mlir_work_script_base.specs.Numbers.{number_of}
+
+-- the kinds of the program's analyses in order
+abbrev pub all_kinds : List ℕ
+all_kinds = 1 ∷ 2 ∷ 3 ∷ 4 ∷ 5 ∷ 6 ∷ 7 ∷ []
 
 -- the name of a kind, if it has one
 abbrev pub kind_name : ℕ → Option (List ℕ)

@@ -7,6 +7,17 @@ use crate::numbers::parse_number;
 pub use ir_event::row::Kind;
 use itoa::Buffer;
 
+/// The kinds of the program's analyses in order.
+pub const KINDS: [Kind; 7] = [
+    Kind::USES,
+    Kind::SYMBOLS,
+    Kind::DIAGNOSTICS,
+    Kind::EFFECTS,
+    Kind::DEAD,
+    Kind::CONSTANTS,
+    Kind::UNREACHED,
+];
+
 /// Returns the name of a kind, or `None` if it has no name. The word of a kind without a name is `kind` with its
 /// number.
 pub fn name_of(kind: Kind) -> Option<&'static [u8]>

@@ -5,6 +5,7 @@
 //! - `lines`, `words`, `items` and `cuts` split texts.
 //! - `numbers`, `values`, `subject`, `kind`, `keys`, `insertion_points`, `rule_name` and `clauses` parse the parts of
 //!   commands.
+//! - `places` resolves insertion points to places in a module.
 //! - `source`, `sink`, `watched`, `writing` and `cells` read and write bytes.
 #![tactic(auto)]
 
@@ -19,6 +20,7 @@ pub mod kind;
 pub mod laws;
 pub mod lines;
 pub mod numbers;
+pub mod places;
 pub mod rule_name;
 pub mod sink;
 pub mod source;

@@ -1,19 +1,9 @@
-//! The subjects of a partial report.
+//! The words of the subject of a partial report.
 ghost use Rattle.std.specs.Prelude.{◌≡◌};
 ghost use Rattle.mlir_work_script_base.specs.Subjects.{subject_in};
 
 use crate::values::{op_named, value_named};
-use ir_event::trees::value::Value;
-use ir_event::types::ids::OpId;
-
-/// An operation or a value of a module.
-#[derive(Clone, Copy, Debug, PartialEq, Eq)]
-pub enum Subject {
-    /// An operation, with its results and block arguments.
-    Op(OpId),
-    /// A value.
-    Val(Value),
-}
+use ir_event::subject::Subject;
 
 /// Parses an operation or a value: `#3`, `%v2.0`, `%a1.0.0`.
 pub fn subject_named(word: &[u8]) -> Option<Subject>

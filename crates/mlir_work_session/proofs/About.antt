@@ -2,15 +2,7 @@
 use Rattle.std.proofs.Common.{◌≡◌, ◌∙◌, sym, ap, refl, inl, inr, ℕ, List, [], Option, Some, None, Bool, true, false}
 use Rattle.std.specs.Option.{option_map}
 use Rattle.std.specs.List.{find}
-use Rattle.ir_event.specs.types.Things.{ContextModel}
-use Rattle.ir_event.specs.types.Terms.{name_term, type_term, attr_term}
 use Rattle.ir_event.specs.types.declared.refusal.Refusal.TheVariants.{Memory, NoSuchKind, Stale}
-use Rattle.ir_event.specs.trees.Tree.{Op}
-use Rattle.ir_event.specs.trees.Ids.{has_id}
-use Rattle.ir_event.specs.trees.declared.value.Value.{Value}
-use Rattle.ir_event.specs.tree_laws.Values.{has_value}
-use Rattle.ir_event.specs.trees.Meaning.{meaning as tree_meaning}
-use Rattle.ir_event.proofs.of_tree_laws.Contents.{map_has_id, map_has_value}
 use Rattle.ir_event.specs.declared.world.World.{World}
 use Rattle.ir_event.specs.Listener.{Listener}
 use Rattle.ir_event.specs.Modules.{module_in}
@@ -21,23 +13,15 @@ use Rattle.mlir_work_transforms.specs.rewriter.Commands.{Replied}
 use Rattle.mlir_work_transforms.specs.rewriter.Machine.{Done, Refused, Nothing, Rows}
 use Rattle.mlir_work_transforms.specs.rewriter.Panels.{is_kind, shown}
 use Rattle.mlir_work_script.specs.SessionCommands.{ReportOf}
-use Rattle.mlir_work_script_base.specs.declared.subject.Subject.{Subject}
-use Rattle.mlir_work_script_base.specs.declared.subject.Subject.TheVariants as subject
+use Rattle.ir_event.specs.declared.subject.Subject.{Subject}
 use Rattle.mlir_work_session_base.specs.RowText.{rows_text}
-use Rattle.mlir_work_session_base.specs.Subjects.{is_there, rows_about}
+use Rattle.ir_event.specs.Subjects.{is_there, rows_about}
 use Rattle.mlir_work_session.specs.Machine.{RunsSessionCommand, SessionSetting}
 use Rattle.mlir_work_session.proofs.Fulfilling.{fulfils_about}
 use Rattle.mlir_work_session.proofs.Panels.{find_shown}
 use Rattle.mlir_work_session.proofs.Reading.{module_seen}
 
--- an operation is in a tree of term numbers iff it is in the tree that the numbers denote
-pub op_means : (c : ContextModel) (x : ℕ) (t : Op) → is_there (subject.Op x) (tree_meaning c t) ≡ has_id x t
-op_means c x t = map_has_id (name_term c) (type_term c) (attr_term c) x t
-
-pub value_means : (c : ContextModel) (v : Value) (t : Op) → is_there (subject.Val v) (tree_meaning c t) ≡ has_value v t
-value_means c v t = map_has_value (name_term c) (type_term c) (attr_term c) v t
-
--- the same for the rewriter's module, which its IR state shows
+-- whether a subject is in the rewriter's module, which its IR state shows
 pub there_held : (h : TransactionModel) (w : World) → w.ctx ≡ h.ctx → w.store ≡ h.store → (s : Subject) (there : Bool) → is_there s (module_in w).tree ≡ there → is_there s (module_held h).tree ≡ there
 there_held h w ctx store s there e = ap (λ m. is_there s m.tree) (sym (module_seen h w ctx store)) ∙ e
 

@@ -11,8 +11,8 @@ use Rattle.mlir_work_script.specs.SessionCommands.{Attach, CanonAt, Fired, Sessi
 use Rattle.mlir_work_session_base.specs.IdsText.{ids_text}
 use Rattle.mlir_work_session_base.specs.OperationObjects.{all_objects_text, page_text}
 use Rattle.mlir_work_session.specs.Machine.{AsksFrom, AsksWhy, AttachesKind, RunsSessionCommand, SessionCommandAsks, SessionSetting, limit_or, session_command_bytes, AsksAbout, session_command_shows, shows_about}
-use Rattle.mlir_work_script_base.specs.declared.subject.Subject.{Subject}
-use Rattle.mlir_work_session_base.specs.Subjects.{absent, is_there}
+use Rattle.ir_event.specs.declared.subject.Subject.{Subject}
+use Rattle.ir_event.specs.Subjects.{absent, is_there}
 use Rattle.mlir_work_transforms.specs.registry.Replies.{IsBounded}
 use Rattle.mlir_work_transforms.specs.ConvertText.{conversion_text}
 use Rattle.mlir_work_transforms.specs.Converting.{command_aim, conversion}

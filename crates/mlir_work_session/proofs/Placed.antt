@@ -1,24 +1,20 @@
 -- An insertion point names the same place in a tree of term numbers and in the tree that the numbers denote.
-use Rattle.std.proofs.Common.{◌≡◌, ◌∙◌, ap, sym, refl, ℕ, zero, suc, eqb, true, false, Option, Some, None, cond}
-use Rattle.std.specs.Prelude.{is_some, option_map, option_and_then, Result, slice_get}
+use Rattle.std.proofs.Common.{◌≡◌, ◌∙◌, ap, sym, refl, ℕ, eqb, Option, Some, None, cond}
+use Rattle.std.specs.Prelude.{is_some, option_map, option_and_then, Result}
 use Rattle.std.specs.Option.{option_eq}
 use Rattle.ir_event.specs.types.Things.{ContextModel}
 use Rattle.ir_event.specs.types.Terms.{name_term, type_term, attr_term}
 use Rattle.ir_event.specs.types.declared.refusal.Refusal.{Refusal}
 use Rattle.ir_event.specs.trees.declared.place.Place.{Place}
-use Rattle.ir_event.specs.trees.Tree.{OpOf, Op, op, Regions, no_regions, region, empty, block, OpsOf, no_ops, next, regions}
-use Rattle.ir_event.specs.trees.Ids.{find, has_id}
+use Rattle.ir_event.specs.trees.Tree.{OpOf, Op, OpsOf, no_ops, next}
+use Rattle.ir_event.specs.trees.Ids.{has_id}
 use Rattle.ir_event.specs.trees.Maps.{map_tree, map_ops}
 use Rattle.ir_event.specs.trees.Meaning.{meaning}
 use Rattle.ir_event.specs.trees.Places.{place_of, first_id}
 use Rattle.ir_event.proofs.of_trees.Mapped.{map_place}
-use Rattle.ir_event.specs.tree_laws.Values.{region_at}
-use Rattle.ir_event.specs.tree_laws.Reads.{next_of, first_at, ops_in, ops_at}
-use Rattle.ir_event.proofs.of_tree_laws.Around.{absent_find}
+use Rattle.ir_event.specs.tree_laws.Reads.{next_of, first_at, ops_at}
 use Rattle.ir_event.proofs.of_tree_laws.Contents.{map_has_id, same_id, map_ops_at}
-use Rattle.ir_event.specs.store.Nodes.{Node, node_of, regions_arguments}
-use Rattle.ir_event.specs.store.Stored.{Stored, known}
-use Rattle.ir_event.proofs.Shown.{known_there}
+use Rattle.ir_event.specs.store.Stored.{Stored}
 use Rattle.mlir_work_transforms.specs.rewriter.Held.{TransactionModel, module_held}
 use Rattle.mlir_work_transforms.specs.rewriter.Points.{Point, Before, After, Start, End, passing, coming, trailing, next_to, in_block, point_place}
 
@@ -65,20 +61,3 @@ point_means c x point t = map_point (name_term c) (type_term c) (attr_term c) x 
 -- an insertion point in the rewriter's module resolves as in the store of its IR state
 pub point_next_to : (h : TransactionModel) (s : Stored) (x : Option ℕ) (point : Point) (r : Result Place Refusal) → s ≡ h.store → point_place x point s.module_of.tree ≡ r → point_place x point (module_held h).tree ≡ r
 point_next_to h s x point r same e = point_means h.ctx x point h.store.module_of.tree ∙ (ap (λ (s : Stored). point_place x point s.module_of.tree) (sym same) ∙ e)
-
--- the node's arguments say whether a region has a block
-blocks_reported : (r : ℕ) (rs : Regions) → is_some (option_and_then (λ a. a) (slice_get (regions_arguments rs) r)) ≡ is_some (option_and_then ops_in (region_at r rs))
-blocks_reported r no_regions = refl
-blocks_reported zero (region empty rs) = refl
-blocks_reported zero (region (block args os) rs) = refl
-blocks_reported (suc r) (region a rs) = blocks_reported r rs
-
-pub block_reported : (x r : ℕ) (s : Stored) (n : Node) → has_id x s.module_of.tree ≡ true → option_map node_of (known x s) ≡ Some n → is_some (option_and_then (λ a. a) (slice_get n.arguments r)) ≡ is_some (ops_at x r s.module_of.tree)
-block_reported x r s n there e = go (find x s.module_of.tree) (ap (option_map node_of) (sym (known_there x s there)) ∙ e)
-  where
-    go : (o : Option Op) → option_map node_of o ≡ Some n → is_some (option_and_then (λ a. a) (slice_get n.arguments r)) ≡ is_some (option_and_then (λ (o : Op). option_and_then ops_in (region_at r (regions o))) o)
-    go None f = absurd cc
-    go (Some (op h rs)) f = (let same : node_of (op h rs) ≡ n = cc in ap (λ (m : Node). is_some (option_and_then (λ a. a) (slice_get m.arguments r))) (sym same) ∙ blocks_reported r rs)
-
-pub no_block : (x r : ℕ) (t : Op) → has_id x t ≡ false → is_some (ops_at x r t) ≡ false
-no_block x r t absent = ap (λ o. is_some (option_and_then (λ (o : Op). option_and_then ops_in (region_at r (regions o))) o)) (absent_find x t absent)

@@ -15,7 +15,7 @@ pub use Rattle.mlir_work_transforms.specs.rewriter.Machine.{State}
 pub use Rattle.mlir_work_transforms.specs.registry.Replies.{response_of}
 use Rattle.mlir_work_transforms.specs.registry.Replies.{is_accepted}
 use Rattle.mlir_work_script.specs.SessionCommands.{Attach, CanonAt, Fired, SessionCommand, PrintIds, Rewrite, ShowAll, ShowFrom, Trace, TraceConvert, Why, ReportOf}
-use Rattle.mlir_work_script_base.specs.declared.subject.Subject.{Subject}
+use Rattle.ir_event.specs.declared.subject.Subject.{Subject}
 use Rattle.mlir_work_transforms.specs.greedy.Changes.{canonicalizing}
 use Rattle.mlir_work_transforms.specs.ConvertText.{conversion_text}
 use Rattle.mlir_work_transforms.specs.Converting.{command_aim, conversion}
@@ -32,7 +32,7 @@ use Rattle.ir_event.specs.trees.Meaning.{Operation}
 use Rattle.mlir_work_session_base.specs.IdsText.{ids_text}
 use Rattle.mlir_work_session_base.specs.OperationObjects.{all_objects_text, page_text}
 use Rattle.mlir_work_session_base.specs.RowText.{rows_text}
-use Rattle.mlir_work_session_base.specs.Subjects.{absent, is_there, rows_about}
+use Rattle.ir_event.specs.Subjects.{absent, is_there, rows_about}
 use Rattle.mlir_work_session.specs.declared.options.SessionOptions.{SessionOptions}
 
 -- the bytes that are shown below a reply

@@ -8,7 +8,6 @@ ghost use Rattle.mlir_work_session.specs.Machine.{RunsCommand, response_of};
 ghost use Rattle.mlir_work_session.specs.Output.{SessionOptions};
 
 use crate::attributes::name_of;
-use crate::places::place_for;
 use crate::reply::Reply;
 use crate::replying::reply_to;
 use ir_event::analysis::Analysis;
@@ -17,17 +16,13 @@ use ir_event::types::ids::OpId;
 use ir_event::types::refusal::Refusal;
 use mlir_work_script_base::insertion_points::InsertionPoint;
 use mlir_work_script_base::keys::Key;
+use mlir_work_script_base::places::place_for;
 use mlir_work_transforms::rewriter::Bench;
 use mlir_work_transforms::rewriter::laws::led_benches_are_kept;
 use std::alloc::Global;
 
 /// Sets an operand of an operation.
-pub(crate) fn set_operand<L: Analysis>(
-    bench: &mut Bench<L>,
-    op: OpId,
-    operand: u32,
-    value: Value,
-) -> Reply
+pub fn set_operand<L: Analysis>(bench: &mut Bench<L>, op: OpId, operand: u32, value: Value) -> Reply
     requires { AgreesOrStale L.meaning bench.old }
     ensures obeys { (session_options : SessionOptions) → RunsCommand session_options (state_of L.meaning bench.old) (SetOperand op operand value) (response_of result) [] (state_of L.meaning bench.new) }
     ensures kept { AgreesOrStale L.meaning bench.new }
@@ -38,7 +33,7 @@ pub(crate) fn set_operand<L: Analysis>(
 }
 
 /// Replaces all uses of one value by another value.
-pub(crate) fn replace<L: Analysis>(bench: &mut Bench<L>, old: Value, new: Value) -> Reply
+pub fn replace<L: Analysis>(bench: &mut Bench<L>, old: Value, new: Value) -> Reply
     requires { AgreesOrStale L.meaning bench.old }
     ensures obeys { (session_options : SessionOptions) → RunsCommand session_options (state_of L.meaning bench.old) (Replace old new) (response_of result) [] (state_of L.meaning bench.new) }
     ensures kept { AgreesOrStale L.meaning bench.new }
@@ -49,7 +44,7 @@ pub(crate) fn replace<L: Analysis>(bench: &mut Bench<L>, old: Value, new: Value)
 }
 
 /// Erases an operation and everything inside it.
-pub(crate) fn erase<L: Analysis>(bench: &mut Bench<L>, op: OpId) -> Reply
+pub fn erase<L: Analysis>(bench: &mut Bench<L>, op: OpId) -> Reply
     requires { AgreesOrStale L.meaning bench.old }
     ensures obeys { (session_options : SessionOptions) → RunsCommand session_options (state_of L.meaning bench.old) (Erase op) (response_of result) [] (state_of L.meaning bench.new) }
     ensures kept { AgreesOrStale L.meaning bench.new }
@@ -60,14 +55,14 @@ pub(crate) fn erase<L: Analysis>(bench: &mut Bench<L>, op: OpId) -> Reply
 }
 
 /// Moves an operation to an insertion point.
-pub(crate) fn move_op<L: Analysis>(bench: &mut Bench<L>, op: OpId, point: &InsertionPoint) -> Reply
+pub fn move_op<L: Analysis>(bench: &mut Bench<L>, op: OpId, point: &InsertionPoint) -> Reply
     requires { AgreesOrStale L.meaning bench.old }
     ensures obeys { (session_options : SessionOptions) → RunsCommand session_options (state_of L.meaning bench.old) (Move op (insertion_point_of point.now)) (response_of result) [] (state_of L.meaning bench.new) }
     ensures kept { AgreesOrStale L.meaning bench.new }
     ensures mode { bench.new.transaction.ctx.opaque ≡ bench.old.transaction.ctx.opaque }
 {
     led_benches_are_kept::<L>();
-    let place = match place_for(&bench.world().store, Some(op), point) {
+    let place = match place_for(bench.world(), Some(op), point) {
         Ok(place) => place,
         Err(refusal) => return Reply::Refused(refusal),
     };

@@ -5,16 +5,15 @@
 pub mod attach;
 mod attributes;
 pub mod commands;
-mod edits;
+pub mod edits;
 pub mod listing;
-mod marks;
+pub mod marks;
 mod notes;
 pub mod opening;
 mod operations;
 pub mod options;
 mod parse_error;
 pub mod pattern_commands;
-mod places;
 pub mod prints;
 mod replying;
 mod rewriting;
@@ -36,7 +35,7 @@ pub use mlir_work_script::{
 };
 pub use mlir_work_script_base::{
     cells, clauses, input, insertion_points, items, keys, kind, lines, numbers, rule_name, sink,
-    source, subject, values, watched, words, writing,
+    source, values, watched, words, writing,
 };
 pub use mlir_work_session_base::analysis_source;
 pub use mlir_work_transforms::greedy;

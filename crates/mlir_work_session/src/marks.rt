@@ -13,7 +13,7 @@ use mlir_work_transforms::rewriter::Bench;
 use mlir_work_transforms::rewriter::laws::led_benches_are_kept;
 
 /// Pushes a mark of the current module.
-pub(crate) fn begin<L: Analysis>(bench: &mut Bench<L>) -> Reply
+pub fn begin<L: Analysis>(bench: &mut Bench<L>) -> Reply
     requires { AgreesOrStale L.meaning bench.old }
     ensures obeys { (session_options : SessionOptions) → RunsCommand session_options (state_of L.meaning bench.old) Begin (response_of result) [] (state_of L.meaning bench.new) }
     ensures kept { AgreesOrStale L.meaning bench.new }
@@ -24,7 +24,7 @@ pub(crate) fn begin<L: Analysis>(bench: &mut Bench<L>) -> Reply
 }
 
 /// Pops the newest mark and keeps the edits since it.
-pub(crate) fn commit<L: Analysis>(bench: &mut Bench<L>) -> Reply
+pub fn commit<L: Analysis>(bench: &mut Bench<L>) -> Reply
     requires { AgreesOrStale L.meaning bench.old }
     ensures obeys { (session_options : SessionOptions) → RunsCommand session_options (state_of L.meaning bench.old) Commit (response_of result) [] (state_of L.meaning bench.new) }
     ensures kept { AgreesOrStale L.meaning bench.new }
@@ -35,7 +35,7 @@ pub(crate) fn commit<L: Analysis>(bench: &mut Bench<L>) -> Reply
 }
 
 /// Undoes all edits since the newest mark, and pops the mark.
-pub(crate) fn rollback<L: Analysis>(bench: &mut Bench<L>) -> Reply
+pub fn rollback<L: Analysis>(bench: &mut Bench<L>) -> Reply
     requires { AgreesOrStale L.meaning bench.old }
     ensures obeys { (session_options : SessionOptions) → RunsCommand session_options (state_of L.meaning bench.old) Rollback (response_of result) [] (state_of L.meaning bench.new) }
     ensures kept { AgreesOrStale L.meaning bench.new }

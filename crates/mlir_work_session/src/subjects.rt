@@ -1,32 +1,39 @@
 //! The report rows about one operation or one value.
-ghost use Rattle.std.specs.Prelude.{◌≡◌, ◌⊎◌, true, false, IfOk, IfErr};
+ghost use Rattle.std.specs.Prelude.{◌≡◌, ◌⊎◌, true, false, All, IfOk, IfErr};
 ghost use Rattle.ir_event.specs.Modules.{context_model, module_in};
+ghost use Rattle.ir_event.specs.Rows.{RowIsOf, rows_meaning};
+ghost use Rattle.ir_event.specs.Subjects.{rows_about};
 ghost use Rattle.mlir_work_transforms.specs.rewriter.RewriterCalls.{AgreesOrStale, state_of};
 ghost use Rattle.mlir_work_script.specs.SessionCommands.{ReportOf};
 ghost use Rattle.mlir_work_session_base.specs.RowText.{rows_text};
-ghost use Rattle.mlir_work_session_base.specs.Subjects.{is_there, rows_about};
 ghost use Rattle.mlir_work_session.specs.Machine.{RunsSessionCommand, SessionSetting, response_of};
 
 use crate::reply::Reply;
-use crate::shows::{ShownReply, reply_only, rows_of};
+use crate::shows::{ShownReply, reply_only};
 use ir_event::analysis::Analysis;
-use ir_event::row::ReportFault;
+use ir_event::row::{ReportFault, Row};
+use ir_event::subject::{Subject, absent, is_there};
 use ir_event::types::refusal::Refusal;
 use ir_event::world::World;
 use mlir_work_script_base::kind::Kind;
-use mlir_work_script_base::subject::Subject;
-use mlir_work_session_base::subjects::{absent, text_of_rows_about};
+use mlir_work_session_base::rows::text_of_rows;
 use mlir_work_transforms::rewriter::Bench;
 use std::alloc::Global;
 
-/// Returns whether an operation or a value is in the module.
-fn is_there(world: &World, subject: &Subject) -> bool
-    ensures { result ≡ is_there subject.now (module_in world.now).tree }
+/// Returns a listener's report rows about an operation or a value. The listener must agree with the module or be stale.
+fn rows_of_subject<L: Analysis>(
+    listener: &L,
+    world: &World,
+    subject: &Subject,
+) -> Result<Vec<Row>, ReportFault>
+    requires { (L.meaning listener.now).agrees (context_model world.now) (module_in world.now) ⊎ ((L.meaning listener.now).stale ≡ true) }
+    ensures rows { IfOk result (λ rows. rows_meaning (context_model world.now) rows.items ≡ rows_about subject.now ((L.meaning listener.now).analysis (module_in world.now).tree)) }
+    ensures fresh { IfOk result (λ rows. (L.meaning listener.now).stale ≡ false) }
+    ensures known { IfOk result (λ rows. All (RowIsOf (context_model world.now)) rows.items) }
+    ensures stale { IfErr result (λ e. e ≡ ReportFault.Stale → (L.meaning listener.now).stale ≡ true) }
+    ensures memory { IfErr result (λ e. e ≡ ReportFault.Memory → (L.meaning listener.now).stale ≡ false) }
 {
-    match subject {
-        Subject::Op(op) => world.store.in_tree(*op),
-        Subject::Val(value) => world.store.value_type(*value).is_some(),
-    }
+    listener.report_about(world, subject)
 }
 
 /// Returns the text of a listener's report rows about an operation or a value.
@@ -42,11 +49,11 @@ fn text_about<L: Analysis>(
     ensures stale { IfErr result (λ e. e ≡ ReportFault.Stale → (L.meaning listener.now).stale ≡ true) }
     ensures memory { IfErr result (λ e. e ≡ ReportFault.Memory → (L.meaning listener.now).stale ≡ false) }
 {
-    let rows = match rows_of(listener, world) {
+    let rows = match rows_of_subject(listener, world, subject) {
         Ok(rows) => rows,
         Err(fault) => return Err(fault),
     };
-    let Ok(text) = text_of_rows_about(alloc, &world.ctx, subject, &rows) else {
+    let Ok(text) = text_of_rows(alloc, &world.ctx, &rows) else {
         return Err(ReportFault::Memory);
     };
     Ok(text)

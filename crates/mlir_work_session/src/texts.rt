@@ -9,13 +9,13 @@ ghost use Rattle.mlir_work_session.specs.Machine.{RunsCommand, response_of};
 use crate::attributes::entry_of;
 use crate::operations::operation_of;
 use crate::options::SessionOptions;
-use crate::places::place_for;
 use crate::reply::Reply;
 use crate::replying::{reply_as, reply_to};
 use ir_event::analysis::Analysis;
 use ir_event::types::ids::OpId;
 use mlir_work_script_base::insertion_points::InsertionPoint;
 use mlir_work_script_base::keys::Key;
+use mlir_work_script_base::places::place_for;
 use mlir_work_transforms::rewriter::Bench;
 use mlir_work_transforms::rewriter::laws::led_benches_are_kept;
 use std::alloc::Global;
@@ -38,7 +38,7 @@ pub(crate) fn insert<L: Analysis>(
         Ok(tree) => tree,
         Err(reply) => return reply,
     };
-    let place = match place_for(&bench.world().store, None, point) {
+    let place = match place_for(bench.world(), None, point) {
         Ok(place) => place,
         Err(refusal) => return Reply::Refused(refusal),
     };

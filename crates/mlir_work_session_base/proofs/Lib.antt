@@ -1,6 +1,5 @@
 pub mod RowWalks
 pub mod Lines
-pub mod Abouts
 pub mod JsonText
 pub mod OperationWalk
 pub mod OperationObjects

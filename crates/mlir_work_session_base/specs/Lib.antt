@@ -1,6 +1,5 @@
 pub mod RowText
 pub mod IdsText
-pub mod Subjects
 pub mod PlacedOps
 pub mod OperationObjects
 pub mod OperationWalk

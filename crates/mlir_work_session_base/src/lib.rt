@@ -1,6 +1,6 @@
-//! The parts of a session that know no script: the text of report rows (`rows`, `subjects`), the text of a module
-//! with operation ids (`ids`), operations as JSON objects (`module_objects`, `operation_walk`, `operation_objects`, `json_text`), and
-//! listeners that are created by kind (`analysis_source`).
+//! The parts of a session that know no script: the text of report rows (`rows`), the text of a module
+//! with operation ids (`ids`), operations as JSON objects (`module_objects`, `operation_walk`, `operation_objects`, `json_text`),
+//! listeners that are created by kind (`analysis_source`), and whether an operation is in the module (`subjects`).
 #![tactic(auto)]
 
 pub mod analysis_source;

@@ -238,6 +238,41 @@ static int edits(void) {
   return 0;
 }
 
+/* Marks by calls answer as the lines do: a rollback undoes edits by lines and by numbers, a commit keeps them, and
+   without a mark both are refused. */
+static int marks(void) {
+  mlir_work_session session = MLIR_WORK_CLOSED, lines = MLIR_WORK_CLOSED;
+  mlir_work_answer answer;
+  mlir_work_begin(&session, &answer);
+  WANT(answer.outcome == MLIR_WORK_NO_SESSION && !answer.refusal && !answer.number && !answer.shown);
+  WANT(opened(&session, sums).outcome == MLIR_WORK_OK && opened(&lines, sums).outcome == MLIR_WORK_OK);
+  mlir_work_commit(&session, &answer);
+  WANT(answer.outcome == MLIR_WORK_REFUSED && answer.refusal == MLIR_WORK_NO_MARK);
+  mlir_work_rollback(&session, &answer);
+  WANT(answer.outcome == MLIR_WORK_REFUSED && answer.refusal == MLIR_WORK_NO_MARK);
+  WANT(said(&session, "print").shown);
+  mlir_work_begin(&session, &answer);
+  WANT(answer.outcome == MLIR_WORK_OK && !answer.shown);
+  mlir_work_erase(&session, 3, &answer);
+  WANT(answer.outcome == MLIR_WORK_OK && said(&session, "erase #2").outcome == MLIR_WORK_OK);
+  mlir_work_rollback(&session, &answer);
+  WANT(answer.outcome == MLIR_WORK_OK && mlir_work_has(&session, 2) && mlir_work_has(&session, 3));
+  WANT(said(&session, "begin").outcome == MLIR_WORK_OK);
+  mlir_work_erase(&session, 3, &answer);
+  mlir_work_commit(&session, &answer);
+  WANT(answer.outcome == MLIR_WORK_OK && !mlir_work_has(&session, 3));
+  WANT(said(&session, "rollback").refusal == MLIR_WORK_NO_MARK);
+  for (int i = 0; i < 17; i++) {
+    mlir_work_begin(&session, &answer);
+    const mlir_work_answer by_line = said(&lines, "begin");
+    WANT(answer.outcome == by_line.outcome && answer.refusal == by_line.refusal);
+  }
+  WANT(answer.refusal == MLIR_WORK_TOO_MANY_MARKS);
+  mlir_work_close(&session);
+  mlir_work_close(&lines);
+  return 0;
+}
+
 /* Edits by numbers that are at no place: the first and the greatest numbers, and values that aren't there. */
 static int edges(void) {
   static const struct {
@@ -391,5 +426,5 @@ static int many(void) {
 int main(void) {
   WANT(mlir_work_version() == MLIR_WORK_VERSION);
   return closed() || foreign() || refused() || lines() || odd_lines() || limits() || questions() || edits() ||
-         edges() || patterns() || tabs() || kept() || many();
+         marks() || edges() || patterns() || tabs() || kept() || many();
 }

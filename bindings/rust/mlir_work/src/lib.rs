@@ -224,7 +224,7 @@ impl Session {
     /// If `work` itself committed the mark or rolled it back, nothing is left to go back to: an error is returned as it
     /// is, and a success becomes refusal 35 (no mark is open).
     pub fn marked<T, E: From<Refused>>(&mut self, work: impl FnOnce(&mut Session) -> Result<T, E>) -> Result<T, E> {
-        self.command("begin")?;
+        self.mark_by(sys::mlir_work_begin, self.marks + 1)?;
         let mut mark = Mark { depth: self.marks, session: self };
         let done = work(mark.session)?;
         mark.commit()?;
@@ -332,6 +332,18 @@ impl Session {
         outcome(&answer).map(|_| ())
     }
 
+    /// Calls a command on marks. If it is accepted, `marks` marks are open.
+    fn mark_by(
+        &mut self,
+        call: unsafe extern "C" fn(*mut sys::Handle, *mut sys::Answer),
+        marks: usize,
+    ) -> Result<(), Refused> {
+        // SAFETY: the handle was opened, and no reference is null.
+        self.answered(|held, answer| unsafe { call(held, answer) })?;
+        self.marks = marks;
+        Ok(())
+    }
+
     fn say(&mut self, line: &[u8]) -> Result<sys::Answer, Refused> {
         let mut answer = sys::Answer::default();
         // SAFETY: the handle was opened, and a slice's pointer isn't null.
@@ -369,7 +381,7 @@ impl Mark<'_> {
             return Err(Refused { refusal: NO_MARK, operation: None, byte: None });
         }
         while self.session.marks >= self.depth {
-            self.session.command("commit")?;
+            self.session.mark_by(sys::mlir_work_commit, self.session.marks - 1)?;
         }
         Ok(())
     }
@@ -377,7 +389,11 @@ impl Mark<'_> {
 
 impl Drop for Mark<'_> {
     fn drop(&mut self) {
-        while self.session.marks >= self.depth && self.session.command("rollback").is_ok() {}
+        while self.session.marks >= self.depth {
+            if self.session.mark_by(sys::mlir_work_rollback, self.session.marks - 1).is_err() {
+                break;
+            }
+        }
     }
 }
 

@@ -176,6 +176,9 @@ extern "C" {
     );
     pub fn mlir_work_replace(session: *mut Handle, old: *const Value, new: *const Value, answer: *mut Answer);
     pub fn mlir_work_erase(session: *mut Handle, operation: u32, answer: *mut Answer);
+    pub fn mlir_work_begin(session: *mut Handle, answer: *mut Answer);
+    pub fn mlir_work_commit(session: *mut Handle, answer: *mut Answer);
+    pub fn mlir_work_rollback(session: *mut Handle, answer: *mut Answer);
     pub fn mlir_work_move(session: *mut Handle, operation: u32, spot: *const Spot, answer: *mut Answer);
     pub fn mlir_work_has(session: *mut Handle, operation: u32) -> bool;
     pub fn mlir_work_root(session: *mut Handle) -> u64;

@@ -2,7 +2,7 @@ use Rattle.std.proofs.Common.{◌≡◌, ◌⊎◌, true, false, rules, sym}
 use Rattle.mlir_work_transforms.specs.rewriter.Held.{module_held}
 use Rattle.ir_event.specs.Modules.{module_in}
 use Rattle.ir_event.specs.Panels.{is_kind as has_this_kind}
-use Rattle.mlir_work_session_base.specs.Subjects.{is_there}
+use Rattle.ir_event.specs.Subjects.{is_there}
 use Rattle.mlir_work_session.proofs.About.{about_none, about_rows, about_stale, about_unheld, rows_held, there_held}
 use Rattle.mlir_work_session.proofs.Fulfilling.{fulfils_no_subject}
 use Rattle.mlir_work_session.proofs.Panels.{find_has}

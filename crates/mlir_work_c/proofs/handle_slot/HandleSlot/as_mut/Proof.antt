@@ -6,7 +6,7 @@ use base.Fraction.{full_share}
 use mir.Syntax.{named}
 use mir.Raw.{raw as bare}
 use mir.Val.{Val, vptr}
-use base.Logic.{SProp, ent, sep, never, fst∗, id⊢}
+use base.Logic.{ent, sep, never, fst∗, id⊢}
 use base.Fml.{GName, Fml, fsep, flft, ftrue}
 use types.Logic.{Logic, sem}
 use types.Kit.{‵, raw, ◌⊛◌, some, later, at_ret, ◌$◌, ◌∵◌, !, qed, done, move, keep, drop, use1, split, split3, join, fsplit, fsplit3, fjoin, fpack, pick, await, rewrite, suffices, frame, group}
