@@ -5,9 +5,8 @@ that both programs read are put one after the other into one module, again and a
 usage: benchmarks/real_functions.py [--beside MLIR_OPT] [--runs COUNT] PROGRAM FOLDER [SIZE..]
 
 SIZE is how many operations a module has at least (10000 and 100000). A row has the processor time for an operation in
-microseconds, minus the time of an empty module, as the least of COUNT runs (7), the share of `mlir-opt`'s time, and the
-greatest memory for an operation in bytes, minus that of an empty module. `print` reads and prints, and `canon` also
-canonicalizes, without listeners and with all seven."""
+microseconds, minus the time of an empty module, as the least of COUNT runs (7), and the share of `mlir-opt`'s time.
+`print` reads and prints, and `canon` also canonicalizes, without listeners and with all seven."""
 import argparse
 import os
 import pathlib
@@ -59,16 +58,14 @@ def repeated(texts, size):
 
 
 def cost(command, runs):
-    """The least processor time of several runs in seconds, and the greatest memory in bytes."""
-    times, memory = [], 0
-    with open(os.devnull, "wb") as none:
-        for _ in range(runs):
-            with subprocess.Popen(command, stdout=none, stderr=none) as running:
-                _, _, used = os.wait4(running.pid, 0)
-                running.returncode = 0
-            times.append(used.ru_utime + used.ru_stime)
-            memory = max(memory, used.ru_maxrss * 1024)
-    return min(times), memory
+    """The least processor time of several runs, in seconds."""
+    times = []
+    for _ in range(runs):
+        with subprocess.Popen(command, stdout=subprocess.DEVNULL, stderr=subprocess.DEVNULL) as running:
+            _, _, used = os.wait4(running.pid, 0)
+            running.returncode = 0
+        times.append(used.ru_utime + used.ru_stime)
+    return min(times)
 
 
 def main():
@@ -83,7 +80,7 @@ def main():
     texts = modules(asked.folder, ([*here, "-e", "print"], [*there, CANONICALIZE]))
     rows = {"print": (["-e", "print"], []), "canon": (CANON, [CANONICALIZE]),
             "canon, no listeners": (["--analyses", "none", *CANON], [CANONICALIZE])}
-    columns = ("Operations", "Row", "here", "there", "share", "bytes here", "bytes there")
+    columns = ("Operations", "Row", "Here", "There", "Share")
     print(f"{len(texts)} modules\n| {' | '.join(columns)} |\n{'|---' * len(columns)}|")
     with tempfile.TemporaryDirectory() as room:
         files = {0: f"{room}/0.mlir"}
@@ -97,9 +94,8 @@ def main():
                 net = []
                 for command, more in zip((here, there), words):
                     base, full = (cost([*command, *more, files[it]], asked.runs) for it in (0, count))
-                    net.append(((full[0] - base[0]) / count * 1e6, (full[1] - base[1]) / count))
-                print(f"| {count:,} | {name} | {net[0][0]:.2f} | {net[1][0]:.2f} | {net[0][0] / net[1][0]:.2f}"
-                      f" | {net[0][1]:,.0f} | {net[1][1]:,.0f} |", flush=True)
+                    net.append((full - base) / count * 1e6)
+                print(f"| {count:,} | {name} | {net[0]:.2f} | {net[1]:.2f} | {net[0] / net[1]:.2f} |", flush=True)
 
 
 if __name__ == "__main__":
