@@ -43,10 +43,10 @@ grown : (s t : Stream) (xs ys out : List ℕ) → xs ≡ [] → Appends (Some (m
 grown s t xs ys out none e =
     let joined : mark t ++ ys ≡ mark s ++ out = e ∙ append_assoc (mark s) xs out ∙ ap (λ (zs : List ℕ). mark s ++ (zs ++ out)) none in
     let same = same_start t s ys out joined in
-    ((same.0, same.1.0), same.1.1)
+    ((same.0, same.1), same.2)
 
 kept : (s t : Stream) (xs ys : List ℕ) → xs ≡ [] → Keeps (Some (mark s ++ xs)) (Some (mark t ++ ys)) → Same s t × (ys ≡ [])
-kept s t xs ys none e = let same = same_start t s ys xs e in ((same.0, same.1.0), same.1.1 ∙ none)
+kept s t xs ys none e = let same = same_start t s ys xs e in ((same.0, same.1), same.2 ∙ none)
 
 grows_from : (s t n : Stream) (json : List ℕ) → Same s t → Grows t n json → Grows s n json
 grows_from s t n json same h = (subst (λ (o : Option (List ℕ)). Appends o n.contents json) same.0 h.0, h.1 ∙ same.1)
@@ -169,11 +169,11 @@ on_sound : (on broken : Bool) → (on && not broken) ≡ true → (on ≡ true) 
 on_sound on broken e = (and_first on (not broken) e, not_true broken (and_second on (not broken) e))
 
 pub final_sound : (taken left : Intake) (a b : Stream) (on broken : Bool) (status : ℕ) → (status ≡ 4 → ⊥) → LeavesAt taken left a b (on && not broken) status → broken ≡ false
-final_sound taken left a b on broken status other (inl h) = (on_sound on broken h.1.1.1).1
+final_sound taken left a b on broken status other (inl h) = (on_sound on broken h.3).1
 final_sound taken left a b on broken status other (inr h) = absurd (other h.0)
 
 pub final_whole : (taken left : Intake) (a b : Stream) (on : Bool) (status : ℕ) → (status ≡ 4 → ⊥) → LeavesAt taken left a b on status → IsReadWhole taken left
-final_whole taken left a b on status other (inl h) = h.1.0
+final_whole taken left a b on status other (inl h) = h.1
 final_whole taken left a b on status other (inr h) = absurd (other h.0)
 
 -- the flags of a watched writer before the run
@@ -202,9 +202,9 @@ pub final_leaves : {T : Type 0} (taken left : Intake) (s t n : Stream) (xs ys : 
     → LeavesAt taken left (text_stream s xs f) (text_stream t ys g) (on && not broken) status → LeavesSo taken left s n handed result
 final_leaves taken left s t n xs ys f g on broken handed status printed result start watched other wrote goes e (inr h) = absurd (other h.0)
 final_leaves taken left s t n xs ys f g on broken handed status printed result start watched other wrote goes e (inl h) =
-    let flag : (t.failed || g) ≡ false = h.1.1.0 ∙ quiet s f watched start in
+    let flag : (t.failed || g) ≡ false = h.2 ∙ quiet s f watched start in
     let same : t.failed ≡ s.failed = (or_parts t.failed g flag).0 ∙ sym watched in
-    last_leaves taken left s t n ys handed status printed result h.0 h.1.0 same wrote (handed_all on handed printed (on_sound on broken h.1.1.1).0 goes) e
+    last_leaves taken left s t n ys handed status printed result h.0 h.1 same wrote (handed_all on handed printed (on_sound on broken h.3).0 goes) e
 
 -- what the writer of lines says when it is given up
 abbrev pub Unprinted : Stream → Stream → List ℕ → Bool → Bool → Type 0
@@ -336,7 +336,7 @@ no_back (x ∷ xs) ys e = absurd cc
 part_printed : (P : Answers) (all : List (List ℕ)) (s t n : Stream) (front line : List ℕ) → (line ≡ [] → ⊥) → Reached P all s t (front ++ line) → AppendsPreceding t.contents n.contents (json_text (front ++ line)) → IsBroken (IsJsonOf P) all s n
 part_printed P all s t n front line some h wrote = elim h.answers [
   | inl none ↦ absurd (some (no_back front line none))
-  | inr answers ↦ (answers.0, answers.1.0, json_text (front ++ line), answers.1.1.0, (front ++ line, answers.1.1.1, refl), preceding_from s t n (json_text (front ++ line)) h.same wrote)
+  | inr answers ↦ (answers.0, answers.1, json_text (front ++ line), answers.2, (front ++ line, answers.3, refl), preceding_from s t n (json_text (front ++ line)) h.same wrote)
 ]
 
 last_printed : {T : Type 0} (P : Answers) (before : ℕ) (all : List (List ℕ)) (left : Intake) (s t n : Stream) (xs front line : List ℕ) (f g on handed : Bool) (ran result : Result ℕ Unanswered) (printed : Result T PrintFault)
@@ -352,9 +352,9 @@ last_printed P before all left s t n xs front line f g on handed ran result (Err
     let there = reached P before all left s t xs (front ++ line) f g on ran none watched end h in
     subst (λ (r : Result ℕ Unanswered). JsonEndedAt before (IsJsonOf P) all left s n handed r) (sym e) (inr (part_printed P all s t n front line (λ is. true≢false (sym (empty is))) there wrote.0))
 
-handed_further : {T : Type 0} {on broken handed : Bool} (printed : Result T PrintFault) → IfOk printed (λ _. on ≡ true → handed ≡ true) → IfOk printed (λ _. (on && not broken) ≡ true → handed ≡ true)
-handed_further {T} {on} {broken} {handed} (Ok done) goes = λ e. goes (and_first on (not broken) e)
-handed_further (Err x) goes = tt
+handed_further : {T : Type 0} (on broken handed : Bool) (printed : Result T PrintFault) → IfOk printed (λ _. on ≡ true → handed ≡ true) → IfOk printed (λ _. (on && not broken) ≡ true → handed ≡ true)
+handed_further on broken handed (Ok done) goes = λ e. goes (and_first on (not broken) e)
+handed_further on broken handed (Err x) goes = tt
 
 pub if_printed : {T : Type 0} (o : Option (List ℕ)) (P : List ℕ → Answers) (before : List ℕ → ℕ) (all : List ℕ → List (List ℕ)) (left : Intake) (s t n : Stream) (xs front line : List ℕ) (f g on broken handed : Bool) (ran result : Result ℕ Unanswered) (printed : Result T PrintFault)
     → xs ≡ [] → s.failed ≡ false → g ≡ false → PrintsAll t n (json_text (front ++ line)) printed → IfOk printed (λ _. on ≡ true → handed ≡ true) → (line ≡ [] → is_ok printed ≡ true) → EndsLive printed ran result
@@ -362,7 +362,7 @@ pub if_printed : {T : Type 0} (o : Option (List ℕ)) (P : List ℕ → Answers)
     → IfSome o (λ input. JsonEndedAt (before input) (IsJsonOf (P input)) (all input) left s n handed result)
 if_printed None P before all left s t n xs front line f g on broken handed ran result printed none watched end wrote goes empty e h = tt
 if_printed (Some input) P before all left s t n xs front line f g on broken handed ran result printed none watched end wrote goes empty e h =
-    last_printed (P input) (before input) (all input) left s t n xs front line f g (on && not broken) handed ran result printed none watched end wrote (handed_further printed goes) empty e h
+    last_printed (P input) (before input) (all input) left s t n xs front line f g (on && not broken) handed ran result printed none watched end wrote (handed_further on broken handed printed goes) empty e h
 
 same_fault : (left : Intake) (t n : Stream) (ys : List ℕ) (g : Bool) → n.failed ≡ t.failed → g ≡ false → HasFailedLive left (text_stream t ys g) → HasFailedLive left n
 same_fault left t n ys g same end (inl read) = inl read

@@ -1,5 +1,6 @@
 -- The JSON output of a run.
 use Rattle.std.specs.Prelude.{◌≡◌, ◌⊎◌, ℕ, List, Bool, true, Option, Result, Ok, Err, IsErr}
+use Rattle.std.specs.Io.KnownBytes.{Keeps}
 use Rattle.std.specs.declared.alloc.AllocError.{AllocError}
 use Rattle.mlir_work_run.specs.session.Panels.{Shown}
 use Rattle.mlir_work_run.specs.session.Reads.{Intake}
@@ -22,11 +23,11 @@ IsJsonOutput setting boxes input status json =
 abbrev pub IsJsonOf : (List (List ℕ) → ℕ → List ℕ → Type 0) → List (List ℕ) → ℕ → List ℕ → Type 0
 IsJsonOf P lines status json = (out : List ℕ) × P lines status out × (json ≡ json_text out)
 
--- the status and the output satisfy `P`, as those of a run of text; or memory ran out, and a prefix of an output was
--- written
+-- the status and the output satisfy `P`, as those of a run of text; or memory ran out, and nothing or a prefix of an
+-- output was written
 abbrev pub JsonRan : {E : Type 0} → (ℕ → List ℕ → Type 0) → Option (List ℕ) → Option (List ℕ) → Result ℕ E → Type 0
 JsonRan P old new (Ok status) = HasStatus P old new status
-JsonRan P old new (Err e) = (status : ℕ) × (out : List ℕ) × P status out × AppendsPreceding old new out
+JsonRan P old new (Err e) = Keeps old new ⊎ ((status : ℕ) × (out : List ℕ) × P status out × AppendsPreceding old new out)
 
 -- a prefix of an answer to the first lines was written
 abbrev pub IsBroken : (List (List ℕ) → ℕ → List ℕ → Type 0) → List (List ℕ) → Stream → Stream → Type 0

@@ -20,7 +20,7 @@ returns-then-refused-clause-live g c watched =
     (λ input. length (module_text input) + divider_bytes) (λ input. whole_lines (script_text input)) (g.R.Source.intake c.run_live-ran.new.reader)
     (g.W.Sink.stream start.start.value) (g.W.Sink.stream end.start.value) (g.W.Sink.stream c.into_inner-writer.result)
     (map items end.lines.items) end.line.items (text_of (map items start.lines.items) ++ start.line.items) start.failed end.failed (g.W.Sink.handed end.inner) end.broken (g.W.Sink.handed c.into_inner-writer.result) c.run_live-ran.result
-    (no_text items start.lines.items start.line.items c.new-printer.ensures.lines c.new-printer.ensures.line) c.into_inner-writer.ensures.cut (sym c.if-is_broken.ensures ∙ c.if-is_broken.true) c.run_live-ran.ensures.live)
+    (no_text items start.lines.items start.line.items c.new-printer.ensures.lines c.new-printer.ensures.line) c.into_inner-writer.ensures.cut (sym c.is_broken.ensures ∙ c.if-is_broken.true) c.run_live-ran.ensures.live)
 
 pub returns-then-refused-clause-whole : goal.returns-then-refused-clause-whole
 returns-then-refused-clause-whole g c watched =
@@ -33,7 +33,7 @@ returns-then-refused-clause-whole g c watched =
     (λ input. length (module_text input) + divider_bytes) (λ input. whole_lines (script_text input)) (g.R.Source.intake c.run_live-ran.new.reader)
     (g.W.Sink.stream start.start.value) (g.W.Sink.stream end.start.value) (g.W.Sink.stream c.into_inner-writer.result)
     (map items end.lines.items) end.line.items (text_of (map items start.lines.items) ++ start.line.items) start.failed end.failed (g.W.Sink.handed end.inner) end.broken (g.W.Sink.handed c.into_inner-writer.result) c.run_live-ran.result
-    (no_text items start.lines.items start.line.items c.new-printer.ensures.lines c.new-printer.ensures.line) c.into_inner-writer.ensures.cut (sym c.if-is_broken.ensures ∙ c.if-is_broken.true) c.run_live-ran.ensures.whole)
+    (no_text items start.lines.items start.line.items c.new-printer.ensures.lines c.new-printer.ensures.line) c.into_inner-writer.ensures.cut (sym c.is_broken.ensures ∙ c.if-is_broken.true) c.run_live-ran.ensures.whole)
 
 -- a write failed
 pub returns-then-is_broken-clause-live : goal.returns-then-is_broken-clause-live
@@ -41,7 +41,7 @@ returns-then-is_broken-clause-live g c watched =
     let items = λ (l : Vec ℕ Global). l.items in
     let start = c.new-printer.result in
     let end = c.run_live-ran.new.writer in
-    let is = sym c.if-is_broken.ensures ∙ c.if-is_broken.true in
+    let is = sym c.is_broken.ensures ∙ c.if-is_broken.true in
     let failed = broken_reports (g.W.Sink.stream end.start.value) (g.W.Sink.stream c.into_inner-writer.result) end.failed end.broken end.refused is (sym c.has_refused-refused.ensures ∙ c.if-refused.false) c.into_inner-writer.ensures.write in
     rw c.new-printer.ensures.start at
     (if_broken (g.R.Source.intake c.args.reader.now).remaining
@@ -56,7 +56,7 @@ returns-then-is_broken-clause-whole g c watched =
     let items = λ (l : Vec ℕ Global). l.items in
     let start = c.new-printer.result in
     let end = c.run_live-ran.new.writer in
-    let is = sym c.if-is_broken.ensures ∙ c.if-is_broken.true in
+    let is = sym c.is_broken.ensures ∙ c.if-is_broken.true in
     let failed = broken_reports (g.W.Sink.stream end.start.value) (g.W.Sink.stream c.into_inner-writer.result) end.failed end.broken end.refused is (sym c.has_refused-refused.ensures ∙ c.if-refused.false) c.into_inner-writer.ensures.write in
     rw c.new-printer.ensures.start at
     (if_broken (g.R.Source.intake c.args.reader.now).remaining
@@ -69,7 +69,7 @@ returns-then-is_broken-clause-whole g c watched =
 pub returns-then-is_broken-clause-fault : goal.returns-then-is_broken-clause-fault
 returns-then-is_broken-clause-fault g c four =
     let end = c.run_live-ran.new.writer in
-    inr (broken_reports (g.W.Sink.stream end.start.value) (g.W.Sink.stream c.into_inner-writer.result) end.failed end.broken end.refused (sym c.if-is_broken.ensures ∙ c.if-is_broken.true) (sym c.has_refused-refused.ensures ∙ c.if-refused.false) c.into_inner-writer.ensures.write)
+    inr (broken_reports (g.W.Sink.stream end.start.value) (g.W.Sink.stream c.into_inner-writer.result) end.failed end.broken end.refused (sym c.is_broken.ensures ∙ c.if-is_broken.true) (sym c.has_refused-refused.ensures ∙ c.if-refused.false) c.into_inner-writer.ensures.write)
 
 -- the end
 pub returns-clause-live : goal.returns-clause-live
@@ -81,11 +81,11 @@ returns-clause-live g c watched =
     (if_printed (g.R.Source.intake c.args.reader.now).remaining
     (IsLiveOf (setting_with g.L.AnalysisSource.supply c.args.options (registry_model c.args.registry)) (all_shown g.L.Analysis.meaning c.args.boxes.items))
     (λ input. length (module_text input) + divider_bytes) (λ input. whole_lines (script_text input)) (g.R.Source.intake c.run_live-ran.new.reader)
-    (g.W.Sink.stream start.start.value) (g.W.Sink.stream end.start.value) (g.W.Sink.stream c.finish.result.1)
-    (text_of (map items start.lines.items) ++ start.line.items) (text_of (map items end.lines.items)) end.line.items start.failed end.failed (g.W.Sink.handed end.inner) end.broken (g.W.Sink.handed c.finish.result.1)
-    c.run_live-ran.result c.ended_live.result c.finish.result.0
+    (g.W.Sink.stream start.start.value) (g.W.Sink.stream end.start.value) (g.W.Sink.stream c.finish-printed.result.1)
+    (text_of (map items start.lines.items) ++ start.line.items) (text_of (map items end.lines.items)) end.line.items start.failed end.failed (g.W.Sink.handed end.inner) end.broken (g.W.Sink.handed c.finish-printed.result.1)
+    c.run_live-ran.result c.ended_live.result c.finish-printed.result.0
     (no_text items start.lines.items start.line.items c.new-printer.ensures.lines c.new-printer.ensures.line) (ap (λ w. (g.W.Sink.stream w).failed) c.new-printer.ensures.start ∙ watched)
-    c.finish.ensures.unreported c.finish.ensures.printed c.finish.ensures.handed c.finish.ensures.empty c.ended_live.ensures c.run_live-ran.ensures.live)
+    c.finish-printed.ensures.unreported c.finish-printed.ensures.printed c.finish-printed.ensures.handed c.finish-printed.ensures.empty c.ended_live.ensures c.run_live-ran.ensures.live)
 
 pub returns-clause-whole : goal.returns-clause-whole
 returns-clause-whole g c watched =
@@ -96,15 +96,16 @@ returns-clause-whole g c watched =
     (if_printed (g.R.Source.intake c.args.reader.now).remaining
     (IsWholeUpTo (setting_with g.L.AnalysisSource.supply c.args.options (registry_model c.args.registry)) (all_shown g.L.Analysis.meaning c.args.boxes.items))
     (λ input. length (module_text input) + divider_bytes) (λ input. whole_lines (script_text input)) (g.R.Source.intake c.run_live-ran.new.reader)
-    (g.W.Sink.stream start.start.value) (g.W.Sink.stream end.start.value) (g.W.Sink.stream c.finish.result.1)
-    (text_of (map items start.lines.items) ++ start.line.items) (text_of (map items end.lines.items)) end.line.items start.failed end.failed (g.W.Sink.handed end.inner) end.broken (g.W.Sink.handed c.finish.result.1)
-    c.run_live-ran.result c.ended_live.result c.finish.result.0
+    (g.W.Sink.stream start.start.value) (g.W.Sink.stream end.start.value) (g.W.Sink.stream c.finish-printed.result.1)
+    (text_of (map items start.lines.items) ++ start.line.items) (text_of (map items end.lines.items)) end.line.items start.failed end.failed (g.W.Sink.handed end.inner) end.broken (g.W.Sink.handed c.finish-printed.result.1)
+    c.run_live-ran.result c.ended_live.result c.finish-printed.result.0
     (no_text items start.lines.items start.line.items c.new-printer.ensures.lines c.new-printer.ensures.line) (ap (λ w. (g.W.Sink.stream w).failed) c.new-printer.ensures.start ∙ watched)
-    c.finish.ensures.unreported c.finish.ensures.printed c.finish.ensures.handed c.finish.ensures.empty c.ended_live.ensures c.run_live-ran.ensures.whole)
+    c.finish-printed.ensures.unreported c.finish-printed.ensures.printed c.finish-printed.ensures.handed c.finish-printed.ensures.empty c.ended_live.ensures c.run_live-ran.ensures.whole)
 
 pub returns-clause-fault : goal.returns-clause-fault
 returns-clause-fault g c =
     let items = λ (l : Vec ℕ Global). l.items in
+    let start = c.new-printer.result in
     let end = c.run_live-ran.new.writer in
-    printed_fault (g.R.Source.intake c.run_live-ran.new.reader) (g.W.Sink.stream c.args.writer) (g.W.Sink.stream end.start.value) (g.W.Sink.stream c.finish.result.1)
-    (text_of (map items end.lines.items) ++ end.line.items) end.failed c.run_live-ran.result c.ended_live.result c.finish.result.0 c.finish.ensures.unreported c.finish.ensures.printed c.ended_live.ensures c.run_live-ran.ensures.fault
+    printed_fault (g.R.Source.intake c.run_live-ran.new.reader) (g.W.Sink.stream c.args.writer) (g.W.Sink.stream end.start.value) (g.W.Sink.stream c.finish-printed.result.1)
+    (text_of (map items start.lines.items) ++ start.line.items) (text_of (map items end.lines.items) ++ end.line.items) end.failed c.run_live-ran.result c.ended_live.result c.finish-printed.result.0 c.finish-printed.ensures.unreported c.finish-printed.ensures.printed c.ended_live.ensures c.run_live-ran.ensures.fault
