@@ -5,7 +5,7 @@ use Rattle.greedy.specs.Ruled.{pattern_set_of}
 use Rattle.greedy.proofs.Comings.{limit_low, limit_high, limit_fits, from_start_of, limit_reason, stop_reason, stops_alike}
 use Rattle.greedy.proofs.Noting.{left_none, left_same, noted_back, noted_whole}
 use Rattle.greedy.proofs.Applications.{pattern_set_lawful}
-use Rattle.greedy.proofs.run.run_patterns_traced.Goals as goal
+use Rattle.greedy.proofs.run.run.Goals as goal
 
 pub returns-then-limit-lt1-clause-refused : goal.returns-then-limit-lt1-clause-refused
 returns-then-limit-lt1-clause-refused g c = elim c.then-limit-lt1.either [
