@@ -1,7 +1,7 @@
 """Runs a module and a script by the rules, as the program does, at the top of the repository:
 
 python3 -m oracle [--brief] [--limit N] [--format FORMAT] [FLAG].. < INPUT
-python3 -m oracle [--brief] [--limit N] [FLAG].. --interactive < INPUT
+python3 -m oracle [--brief] [--limit N] [--format FORMAT] [FLAG].. --interactive < INPUT
 
     --opaque          types and attributes that aren't known are kept as they are spelled, and aliases and locations are
                       read
@@ -31,8 +31,6 @@ class Options:
         self.boxes = BOXES if self.boxes is None else self.boxes
         self.reader = aliases.Reader if "--opaque" in self.flags else rules.Reader
         self.explained = "--explain" in self.flags or self.format == "json"
-        if self.is_live and self.format:
-            raise ValueError
 
     def after(self, word, *rest):
         """Takes an option and returns the words after it. Raises `ValueError` if the word is no option."""
@@ -60,12 +58,16 @@ class Options:
                self.boxes)
         if self.is_live:
             for status, told in own.answers(live.lines_of(given), *how):
-                out.write(told)
+                out.write(self.printed(told))
                 out.flush()
             return status
         status, told = own.run(given.read(), *how)
-        out.write(json_lines.json_of(told) if self.format == "json" else told)
+        out.write(self.printed(told))
         return status
+
+    def printed(self, told):
+        """An output in the format that was asked for."""
+        return json_lines.json_of(told) if self.format == "json" else told
 
 
 def main(words):

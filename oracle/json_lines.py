@@ -263,7 +263,9 @@ def worded(line):
 
 
 def said(line):
-    """What a line says, without its end."""
+    """What a line says, without its end. An empty one ends an answer."""
+    if not line:
+        return {"end": True}
     first = line[:1]
     if first.isdigit():
         return reply(line)
@@ -271,7 +273,7 @@ def said(line):
         return row_of_operation(line)
     if first == b"%":
         return row_of_value(line)
-    if first and first in b' "}^':
+    if first in b' "}^':
         return {"module": shown(line)}
     return worded(line)
 

@@ -15,7 +15,7 @@ import tempfile
 
 import checkout  # noqa: F401
 
-from oracle import live, script  # noqa: E402
+from oracle import json_lines, live, script  # noqa: E402
 
 DIVIDER = b"// -----\n"
 MODULE = b"""\"func.func\"() <{function_type = (i32) -> i32, sym_name = \"f\"}> ({
@@ -112,6 +112,15 @@ def forms():
     yield from faulty_writes("forms", FORMS, answer, 8)
 
 
+def objects():
+    """Each form of reply and row as JSON, which is written line by line: each write has each fault. An input is read
+    whole before the first object is written."""
+    status, out = script.run(FORMS, True, explained=True)
+    yield from faulty_writes("objects", FORMS, (status, json_lines.json_of(out)), 8)
+    status, out = script.run(SHORT, True, explained=True)
+    yield from faulty_reads("objects-refused", SHORT, (status, json_lines.json_of(out)))
+
+
 def slices():
     """Inputs of a few bytes, with bytes that are no text: each read has each fault, and no read is made but those."""
     for number, text in enumerate(SLICES):
@@ -160,7 +169,22 @@ def lives():
             yield Case(f"{name}/read-{at}-is-interrupted", f"most=1 read={at}{INTERRUPTED}", text, due(answer))
 
 
-GROUPS = {("--brief",): (edits, short, forms, slices, busy, sizes), ("--brief", "--interactive"): (lives,)}
+def live_objects():
+    """The same as JSON: after a failed read the objects of the answers before it were written, and after a failed write
+    a prefix of the objects was."""
+    for at in range(1, len(LIVE) + 3):
+        seen = LIVE[:at - 1]
+        seen = seen[:seen.rfind(b"\n") + 1]
+        status, told = live.run(seen, explained=True) if DIVIDER in seen else (4, b"")
+        yield Case(f"live-objects/read-{at}-fails", f"most=1 read={at}", LIVE,
+                   due((status if at == len(LIVE) + 2 else 4, json_lines.json_of(told))))
+    status, out = live.run(LIVE, explained=True)
+    yield from faulty_writes("live-objects", LIVE, (status, json_lines.json_of(out)), 4)
+
+
+GROUPS = {("--brief",): (edits, short, forms, slices, busy, sizes), ("--brief", "--interactive"): (lives,),
+          ("--brief", "--format", "json"): (objects,),
+          ("--brief", "--interactive", "--format", "json"): (live_objects,)}
 
 
 class Ends:

@@ -14,7 +14,7 @@ import re
 
 import checkout  # noqa: F401
 
-from oracle import live, script
+from oracle import json_lines, live, script
 from oracle.lines import Table
 from tests.compare import refusals
 from tests.generate import about_cases, analyses_cases, conversion_cases, convert_trace_cases, decided, explained_cases
@@ -702,11 +702,12 @@ def command_lines():
     title("format-twice", "`--format` can be given once.")
     wrong("--format json --format text".split(),
           b"the argument '--format <FORMAT>' cannot be used multiple times" + usage + more)
-    title("format-with-interactive", "`--interactive` and `--format` exclude each other.")
-    for word in ("text", "json"):
-        wrong(["--interactive", "--format", word],
-              b"the argument '--interactive' cannot be used with '--format <FORMAT>'"
-              + usage.replace(b"[OPTIONS]", b"--interactive") + more)
+    title("format-with-interactive", "`--interactive` takes `--format`.")
+    looks = TEXT + DIVIDER + b"erase #2\nreport dead\n"
+    status, out = live.run(looks)
+    GOLDEN.case("--interactive --format text --brief".split(), looks, (status, out))
+    status, out = live.run(looks, explained=True)
+    GOLDEN.case("--interactive --format json --brief".split(), looks, (status, json_lines.json_of(out)))
     kinds = f"\n  [possible values: all, none, {', '.join(script.BOXES)}]\n".encode()
     title("unknown-analysis", "`--analyses` takes kinds, `all` and `none`, and the error lists them.")
     for words, word, tip in (("=ded", "ded", "dead"), (" uses,x", "x", ""), ("=Uses", "Uses", "uses"),
@@ -744,14 +745,15 @@ def command_lines():
     title("unreadable-pattern-file",
           "A file of patterns that can't be read is reported before other words are looked at.")
     for words in ("--patterns x", "--patterns=x", "--patterns x y -s z", "--patterns x -o /dev/null/y -e print",
-                  "--patterns x --patterns y", "--patterns x --interactive", "--patterns x --format json"):
+                  "--patterns x --patterns y", "--patterns x --interactive", "--patterns x --format json",
+                  "--patterns x --interactive --format json"):
         wrong(words.split(), b"x: found no such file: correct the name\n")
     title("pattern-file-of-no-file", "An empty name, `-`, a folder and a path below a device are no files of patterns.")
     for name in ("", "-", ".", "/dev/null/x"):
         wrong([f"--patterns={name}"], f"{name}: {unread(name)}\n".encode())
-    title("format-with-interactive-and-patterns", "A usage error is reported before files of patterns are read.")
-    wrong("--patterns x --interactive --format json".split(),
-          b"the argument '--interactive' cannot be used with '--format <FORMAT>'"
+    title("interactive-with-output-and-patterns", "A usage error is reported before files of patterns are read.")
+    wrong("--patterns x --interactive --output y".split(),
+          b"the argument '--interactive' cannot be used with '--output <FILE>'"
           + usage.replace(b"[OPTIONS]", b"--patterns <FILE> --interactive") + more)
     title("empty-pattern-file", "A file of patterns may be empty.")
     text = TEXT + DIVIDER + b"patterns\nreport uses\n"
@@ -817,6 +819,49 @@ def interactive():
     GOLDEN.case(["--brief", "--interactive"], pieces, (0, b"\n" + line))
     title("interactive-module-over-16-mib", "A module of 16,777,217 bytes is refused at its last byte.")
     GOLDEN.case(["--brief", "--interactive"], [(16777217, b"\n")], (3, b"module refused 11 TooMany at 16777216\n"))
+
+
+def interactive_json():
+    """The same as JSON: an object a line, and one at the end of each answer."""
+    def lived(text, *words, **options):
+        status, out = live.run(text, "--brief" in words, explained=True, **options)
+        objects = json_lines.json_of(out)
+        # (each object ends a line, and an answer is as many objects as it has lines)
+        assert objects.count(b"\n") == out.count(b"\n"), text
+        GOLDEN.case(["--interactive", "--format", "json", *words], text, (status, objects),
+                    name="brief" if "--brief" in words else "full")
+
+    looks = b"report uses\n// none\n\nprint\njump\n\xff\nreport dead\nwhy #3"
+    edits = (b"set-operand #3 0 %v2.0\nbegin\nerase #3\nset-attr #3 k 256 : i8\nmove #9 end #1 0\n"
+             b"expect 22 erase #2\ninsert end #0 0 \"t.u\"(%v2.0\nrollback\nprint ids\n")
+    patterns = (b"pattern p arith.muli(%a, 0) => 0\npattern q arith.addi(%a, %b) => %a\ncheck all\npatterns\n"
+                b"rewrite q trace\ncanon fired limit 1\n")
+    for name, text, sentence in (
+            ("empty-input", b"", "An empty input is a module, whose answer is its end."),
+            ("module-refused", b'"a"(\n' + DIVIDER + looks,
+             "If the module is refused, its refusal is the only object."),
+            ("module-unsupported", b'"a"() {x = 1.0 : f32} : () -> ()\n' + DIVIDER,
+             "The refusal of a module names the unsupported construct."),
+            ("looks", TEXT + DIVIDER + looks,
+             "Reports, a module and refusals are objects, and each answer has an end."),
+            ("edits", TEXT + DIVIDER + edits, "Edits have the objects of their replies and of all rows."),
+            ("patterns", TEXT + DIVIDER + patterns, "Patterns, checks, traces and counts are objects."),
+            ("divider-in-script", TEXT + DIVIDER + DIVIDER + b"print\n", "A comment has no answer, and no object.")):
+        title(f"interactive-json-{name}", f"{sentence[:-1]}, with `--interactive --format json`.")
+        for words in ((), ("--brief",)):
+            lived(text, *words)
+    title("interactive-json-strict", "With `--strict` an unproved pattern makes the status 1, also as JSON.")
+    lived(TEXT + DIVIDER + patterns, "--brief", "--strict", strict=True)
+    title("interactive-json-prefixes", "Each prefix of a short input has the objects of the lines that are there.")
+    short = b'%0 = "t.a"() : () -> i8\n' + DIVIDER + b"erase #1\nprint\n"
+    answers = [live.run(short[:count], explained=True) for count in range(len(short))]
+    answers = [(status, json_lines.json_of(out)) for status, out in answers]
+    GOLDEN.case(["--brief", "--interactive", "--format", "json"], short, golden.cut_text(answers), True)
+    title("interactive-json-line-over-16-mib",
+          "A line of 16,777,217 bytes ends the run with status 4, after the objects of the answers before it.")
+    pieces = [(1, DIVIDER + b"report dead\n//"), (MOST_LINE - 2, b" "), (1, b"\nreport dead\n")]
+    GOLDEN.case(["--brief", "--interactive", "--format", "json"], pieces,
+                (4, b'{"end":true}\n{"n":1,"reply":"ok"}\n{"end":true}\n'))
 
 
 def over_limits():
@@ -887,6 +932,7 @@ GOLDEN_PARTS = {
              beginnings, byte_limits, interactive),
     "pages": (refused, worked),
     "command_line": (command_lines,),
+    "json": (interactive_json,),
 }
 
 

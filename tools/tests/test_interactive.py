@@ -15,7 +15,7 @@ import support
 from support import ROOT, program
 
 from mlir_work.script import is_counted
-from oracle import live
+from oracle import json_lines, live
 
 SECONDS = 60
 MODULE = b'%a = "t.a"() : () -> i32\n"t.b"(%a) : (i32) -> ()\n'
@@ -59,6 +59,15 @@ class Running:
             if not more:
                 found = re.match(b".*", self.kept, re.S)
                 break
+            self.kept += more
+        self.kept = self.kept[found.end():]
+        return found[0]
+
+    def objects(self):
+        """The objects of its next answer, up to the one that ends it."""
+        while not (found := re.match(rb'(?:(?!\{"end":true\}).*\n)*\{"end":true\}\n', self.kept)):
+            more = self.read()
+            assert more, (self.kept, "nothing more came")
             self.kept += more
         self.kept = self.kept[found.end():]
         return found[0]
@@ -121,6 +130,21 @@ class Interactive(unittest.TestCase):
                         found.append(running.answer())
                 self.assertEqual(found, told)
                 self.assertEqual(running.end(), (b"", status))
+
+    def test_an_answer_of_objects_comes_before_the_next_line(self):
+        for options in (["--brief"], []):
+            with self.subTest(options):
+                answers = list(live.answers((MODULE + DIVIDER + b"".join(SCRIPT)).splitlines(keepends=True),
+                                            "--brief" in options, explained=True))
+                running = self.begun(*options, "--format", "json")
+                running.tell(MODULE + DIVIDER)
+                found = [running.objects()]
+                for line in SCRIPT:
+                    running.tell(line)
+                    if said(line):
+                        found.append(running.objects())
+                self.assertEqual(found, [json_lines.json_of(told) for _, told in answers])
+                self.assertEqual(running.end(), (b"", answers[-1][0]))
 
     def test_what_was_written_is_what_a_whole_run_writes(self):
         running, text = self.opened("--brief"), MODULE + DIVIDER

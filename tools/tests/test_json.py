@@ -46,10 +46,33 @@ class Program(unittest.TestCase):
                             env={**os.environ, **more})
         return it.returncode, it.stdout, it.stderr
 
-    def test_run(self):
-        words, given, wanted = (re.sub("(?m)^    ", "", it) for it in RUN.search(PAGE).groups())
-        self.assertEqual(words, "--brief --format json")
-        self.assertEqual(self.ran("--format", "json", given=given.encode()), (1, wanted.encode(), b""))
+    def used(self, *words, given):
+        """The status of a run, and the most memory that it had at once, in KiB."""
+        before, more = support.words()
+        with tempfile.TemporaryFile() as file:
+            file.write(given)
+            file.seek(0)
+            it = subprocess.Popen([*before, "--brief", *words], stdin=file, stdout=subprocess.DEVNULL,
+                                  env={**os.environ, **more})
+            _, status, usage = os.wait4(it.pid, 0)
+            it.returncode = os.waitstatus_to_exitcode(status)
+        return it.returncode, usage.ru_maxrss
+
+    def test_a_large_module_takes_no_more_memory_as_json(self):
+        """The objects of a module of 16 MiB are written line by line: a run takes at most 1 MiB more than with text."""
+        line = b'"t.a"() {n = "' + b"x" * 200 + b'"} : () -> ()\n'
+        given = line * (2**24 // len(line)) + b"// -----\nprint\nreport uses\nerase #1\n"
+        (status, text), (same, objects) = (self.used(*words, given=given) for words in ([], ["--format", "json"]))
+        self.assertEqual((status, same), (0, 0))
+        self.assertLess(objects - text, 1024)
+
+    def test_runs(self):
+        runs = RUN.findall(PAGE)
+        self.assertEqual([words for words, _, _ in runs],
+                         ["--brief --format json", "--brief --format json --interactive"])
+        for status, run in zip((1, 0), runs):
+            words, given, wanted = (re.sub("(?m)^    ", "", it) for it in run)
+            self.assertEqual(self.ran(*words.split()[1:], given=given.encode()), (status, wanted.encode(), b""))
 
     def test_formats(self):
         status, text, _ = self.ran()
@@ -57,6 +80,13 @@ class Program(unittest.TestCase):
         status, text, _ = self.ran("--explain")
         self.assertEqual(self.ran("--format=json"), (status, json_lines.json_of(text), b""))
         self.assertEqual(self.ran("--format=json", "--explain"), (status, json_lines.json_of(text), b""))
+
+    def test_answers(self):
+        for words in ([], ["--opaque"]):
+            status, text, _ = self.ran("--interactive", "--explain", *words)
+            told = self.ran("--interactive", "--format", "json", *words)
+            self.assertEqual(told, (status, json_lines.json_of(text), b""))
+            self.assertEqual(told[1].count(b'{"end":true}\n'), 3)
 
     def test_files(self):
         _, text, _ = self.ran("--explain")
@@ -69,15 +99,16 @@ class Program(unittest.TestCase):
             self.assertEqual(out.read_bytes(), json_lines.json_of(text))
 
     def test_wrong_words(self):
-        for words in (["--format"], ["--format", "xml"], ["--format", "JSON"], ["--format=json", "--interactive"],
-                      ["--format=text", "--format=json"]):
+        for words in (["--format"], ["--format", "xml"], ["--format", "JSON"], ["--format=text", "--format=json"],
+                      ["--format=json", "--interactive", "-e", "print"]):
             status, out, told = self.ran(*words)
             self.assertEqual((status, out), (2, b""), words)
             self.assertIn(b"error:", told)
 
     def test_ends(self):
-        with open("/dev/full", "wb") as full:
-            self.assertEqual(self.ran("--format", "json", to=full)[0], 4)
+        for words in ([], ["--interactive"]):
+            with open("/dev/full", "wb") as full:
+                self.assertEqual(self.ran("--format", "json", *words, to=full)[0], 4)
         self.assertEqual(self.ran("--format", "json", given=b"(")[:2],
                          (3, b'{"offset":0,"refused":2,"word":"Unexpected"}\n'))
 

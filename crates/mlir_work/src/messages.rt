@@ -10,6 +10,13 @@ use mlir_work_cli::text_tokens::{token_at, write_found};
 use mlir_work_cli::unsupported::UnsupportedConstruct;
 use mlir_work_cli::words::trim;
 use std::alloc::{AllocError, Global};
+use std::io::Write;
+
+/// Writes a message to standard error. Nothing can be done if that fails.
+pub(crate) fn tell(rt: &HostRuntime, message: &[u8]) {
+    let mut end = rt.stderr();
+    let _ = end.write_all(message);
+}
 
 /// Returns what was expected in a module, and what to do.
 fn wanted(refusal: Refusal) -> &'static str {

@@ -4,3 +4,4 @@ mod Ending
 mod Precedings
 mod Rows
 mod Program
+pub mod FileLists

@@ -23,7 +23,7 @@ on_at (Err f) preceding more new e ih = absurd cc
 same_registry : (registry new : RegistryModel) (more : List (List ℕ)) → defined_by registry [] ≡ Ok new → defined_by registry more ≡ defined_by new more
 same_registry registry new more e = let same : registry ≡ new = cc in rw same refl
 
-read_on : (registry new : RegistryModel) (preceding more : List (List ℕ)) → defined_by registry preceding ≡ Ok new → defined_by registry (preceding ++ more) ≡ defined_by new more
+pub read_on : (registry new : RegistryModel) (preceding more : List (List ℕ)) → defined_by registry preceding ≡ Ok new → defined_by registry (preceding ++ more) ≡ defined_by new more
 read_on registry new [] more e = same_registry registry new more e
 read_on registry new (line ∷ lines) more e = on_at (line_defined registry line) lines more new e (λ m h. read_on m new lines more h)
 

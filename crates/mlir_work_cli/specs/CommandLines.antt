@@ -33,7 +33,7 @@ list_of rows = unwrap_or (first_of (codes "analyses") rows) (codes "all")
 abbrev pub excludes_interactive : List Row → Bool
 excludes_interactive rows =
     is_given rows (codes "module") || (is_given rows (codes "script") || (is_given rows (codes "command")
-    || (is_given rows (codes "output") || (is_given rows (codes "split") || is_given rows (codes "format")))))
+    || (is_given rows (codes "output") || is_given rows (codes "split"))))
 
 -- whether the values of the arguments are known, and none excludes another
 abbrev pub is_consistent : List Row → Bool

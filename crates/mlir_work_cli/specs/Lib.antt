@@ -1,7 +1,11 @@
 pub mod Json
 pub mod Inputs
+pub mod Files
+pub mod Runs
 pub mod Patterns
 pub mod Readings
+pub mod Starts
+pub mod Formats
 pub mod Positions
 pub mod ListedKinds
 pub mod Arguments

@@ -3,7 +3,7 @@ use Rattle.std.specs.Prelude.{ℕ, zero, suc, List, [], ◌∷◌, ◌++◌, ◌
 use Rattle.std.specs.List.{list_all}
 use Rattle.std.specs.Str.{bytes_eq}
 use Rattle.mlir_work_script_base.specs.Cuts.{after, before}
-use Rattle.mlir_work_script_base.specs.Kinds.{kind_name, kind_of}
+use Rattle.mlir_work_script_base.specs.Kinds.{all_kinds, kind_name, kind_of}
 
 abbrev pub is_comma : ℕ → Bool
 is_comma b = b == 44
@@ -20,10 +20,6 @@ items_up_to (suc n) list =
 -- all items of a list; it has at most as many commas as bytes
 abbrev pub items_of : List ℕ → List (List ℕ)
 items_of list = items_up_to (length list) list
-
--- the kinds of all analyses of the program in order
-abbrev pub all_kinds : List ℕ
-all_kinds = 1 ∷ 2 ∷ 3 ∷ 4 ∷ 5 ∷ 6 ∷ 7 ∷ []
 
 abbrev pub one_kind : Option ℕ → List ℕ
 one_kind None = []

@@ -221,8 +221,7 @@ fn exclusive_interactive<'a>(alloc: Global) -> Result<Arg<'a>, AllocError> {
         .conflicts_with("script")?
         .conflicts_with("command")?
         .conflicts_with("output")?
-        .conflicts_with("split")?
-        .conflicts_with("format")
+        .conflicts_with("split")
 }
 
 /// Declares the command line of the program for the texts of its errors. It also has the values of `--analyses` and

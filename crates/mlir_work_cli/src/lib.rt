@@ -3,22 +3,27 @@
 //! - `arguments` declares the arguments of the command line, `arg_values` reads their values, `options` parses the
 //!   command line, and `text` holds the texts of `--help`.
 //! - `listed_kinds` parses the list of analyses to attach.
-//! - `inputs` builds one input from the files and commands of the command line.
-//! - `reading` reads a file of user patterns, one a line, into the pattern registry.
-//! - `json` writes the output of a run as JSON.
+//! - `files` reads the files that the command line names, and `inputs` builds one input from a module and scripts.
+//! - `pattern_files` reads the files of user patterns, and `reading` defines the patterns of a text, one a line.
+//! - `runs` says which run the command line asks for, and runs several inputs one after another.
+//! - `formats` runs an input, or answers lines, in the format of the command line, and `json` does so in JSON.
 //! - `positions` finds lines and columns of a text.
 #![tactic(auto)]
 
 mod arg_values;
 mod arguments;
+pub mod files;
+pub mod formats;
 pub mod input_laws;
 pub mod inputs;
 pub mod json;
 pub mod listed_kinds;
 pub mod options;
 pub mod pattern_file_laws;
+pub mod pattern_files;
 pub mod positions;
 pub mod reading;
+pub mod runs;
 mod text;
 
 pub use ir_event::trees::count;

@@ -6,19 +6,8 @@ ghost use Rattle.mlir_work_cli.specs.ListedKinds.{listed_kinds};
 
 use crate::text;
 use mlir_work_script_base::cuts::cut_at;
-use mlir_work_script_base::kind::{Kind, kind_named, name_of};
+use mlir_work_script_base::kind::{KINDS, Kind, kind_named, name_of};
 use std::alloc::{AllocError, Global};
-
-/// The kinds of all analyses of the program in order.
-const KINDS: [Kind; 7] = [
-    Kind::USES,
-    Kind::SYMBOLS,
-    Kind::DIAGNOSTICS,
-    Kind::EFFECTS,
-    Kind::DEAD,
-    Kind::CONSTANTS,
-    Kind::UNREACHED,
-];
 
 /// Returns whether a list has a comma.
 fn has_comma(list: &[u8]) -> bool

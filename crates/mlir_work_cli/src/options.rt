@@ -110,7 +110,6 @@ fn excludes_interactive(matches: &ArgMatches<'_>) -> bool
         || is_given(matches, "command")
         || is_given(matches, "output")
         || is_given(matches, "split")
-        || is_given(matches, "format")
 }
 
 /// Returns whether arguments exclude each other.

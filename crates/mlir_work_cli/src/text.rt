@@ -258,7 +258,8 @@ any command a line says how many operations were read.
 
 With `--format json` each of these lines, of the module's lines and of the rows
 is an object, as {\"about\":[\"#3\"],\"n\":1,\"refused\":22,\"word\":\"HasUses\"}
-(docs/JSON.md), and refusals are explained. `--interactive` excludes it.
+(docs/JSON.md), and refusals are explained. With `--interactive` the object
+{\"end\":true} ends an answer.
 
 Kinds:
   uses         the uses of each value: the value, the operation that uses it,
@@ -297,7 +298,7 @@ Exit status:
      was to be attached, or a check failed; docs/REFUSALS.md says what each
      number of a refusal means
   2  the command line or a file that it names is wrong, as by a pattern that is
-     refused, or memory ran out at the start
+     refused, or memory ran out at the start, or for an object of JSON
   3  the module was refused, as in `module refused 3 UnknownValue at 9`: the
      number and word of the reason, and the byte of the error
   4  a read or a write failed; with `--interactive` also if memory ran out for a

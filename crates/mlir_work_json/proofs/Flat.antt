@@ -5,7 +5,7 @@ use Rattle.serde_json.specs.Data.{Data, Members, no_members, member, put, depth,
 use Rattle.serde_json.specs.Read.{max_depth}
 use Rattle.serde_json.specs.View.{items_of}
 use Rattle.serde_json.specs.Written.{has_float, items_have_float, members_have_float}
-use Rattle.mlir_work_json.specs.Items.{Item, Text, Number, Texts, Member, text_data, data_of, add_members}
+use Rattle.mlir_work_json.specs.Items.{Item, Text, Number, Texts, Flag, Member, text_data, data_of, add_members}
 use Rattle.mlir_work_json.specs.Lines.{line_members, members_data}
 use Rattle.std.proofs.lemmas.Bool.{or_from, or_parts}
 
@@ -31,6 +31,7 @@ floats_item : (i : Item) → has_float (data_of i) ≡ false
 floats_item (Text word) = refl
 floats_item (Number n) = refl
 floats_item (Texts words) = floats_texts words
+floats_item Flag = refl
 
 floats_all : (ms : List Member) (found : Members) → members_have_float found ≡ false → members_have_float (add_members ms found) ≡ false
 floats_all [] found h = h
@@ -60,6 +61,7 @@ depth_item : (i : Item) → depth (data_of i) ≤ 1
 depth_item (Text word) = omega arith
 depth_item (Number n) = omega arith
 depth_item (Texts words) = let flat = depth_texts words in omega arith
+depth_item Flag = omega arith
 
 depth_all : (ms : List Member) (found : Members) → members_depth found ≤ 1 → members_depth (add_members ms found) ≤ 1
 depth_all [] found h = h

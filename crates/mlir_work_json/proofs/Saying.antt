@@ -50,16 +50,16 @@ drop_preceding (x ∷ xs) y ys = drop_preceding xs y ys
 drop_whole : (xs : List ℕ) → drop (length xs + 1) xs ≡ []
 drop_whole xs = grind (arith, common_steps)
 
-cell_whole : (w rest : List ℕ) → is_whole w ≡ true → cell (w ++ 32 ∷ rest) ≡ w
+pub cell_whole : (w rest : List ℕ) → is_whole w ≡ true → cell (w ++ 32 ∷ rest) ≡ w
 cell_whole w rest h = ap (λ n. take n (w ++ 32 ∷ rest)) (whole_len w rest h) ∙ take_preceding w (32 ∷ rest)
 
-after_whole : (w rest : List ℕ) → is_whole w ≡ true → trailing (w ++ 32 ∷ rest) ≡ rest
+pub after_whole : (w rest : List ℕ) → is_whole w ≡ true → trailing (w ++ 32 ∷ rest) ≡ rest
 after_whole w rest h = ap (λ n. drop (n + 1) (w ++ 32 ∷ rest)) (whole_len w rest h) ∙ (ap (λ n. drop n (w ++ 32 ∷ rest)) (add-one (length w)) ∙ drop_preceding w 32 rest)
 
 cell_last : (w : List ℕ) → is_whole w ≡ true → cell w ≡ w
 cell_last w h = ap (λ n. take n w) (whole_len_last w h) ∙ take_all (length w) w (omega arith)
 
-after_last : (w : List ℕ) → is_whole w ≡ true → trailing w ≡ []
+pub after_last : (w : List ℕ) → is_whole w ≡ true → trailing w ≡ []
 after_last w h = ap (λ n. drop (n + 1) w) (whole_len_last w h) ∙ drop_whole w
 
 -- a word followed by a blank is the first cell
@@ -104,7 +104,7 @@ numbers_stay n s =
 
 -- ---- replies
 
-decimal_whole : (n : ℕ) → n < 2 ^ 32 → is_whole (decimal n) ≡ true
+pub decimal_whole : (n : ℕ) → n < 2 ^ 32 → is_whole (decimal n) ≡ true
 decimal_whole n s = digits_whole (decimal n) (digits_decimal numerals n (omega arith))
 
 reply_is : (w answer : List ℕ) (n : ℕ) → all_ascii_digits w ≡ true → 0 < length w → number_of w ≡ Some n → line_members (w ++ 32 ∷ answer) ≡ (codes "n", Number n) ∷ answer_members answer

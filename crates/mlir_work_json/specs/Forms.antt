@@ -6,7 +6,7 @@ use Rattle.mlir_work_json.specs.Cuts.{trailing, after_second, cell, second}
 use Rattle.mlir_work_json.specs.Numbers.{number_of}
 use Rattle.mlir_work_json.specs.Replies.{says_width}
 use Rattle.mlir_work_json.specs.declared.form.LineKind.{LineKind}
-use Rattle.mlir_work_json.specs.declared.form.LineKind.TheVariants.{Reply, Heading, ModuleRefused, AttachRefused, Module, Use, Constant, Dead, Unreached, Diagnostic, Effect, Definition, Reference, Unresolved, Mismatch, Reason, NotLegalised, AppliedRule, AppliedPattern, FiredRule, FiredPattern, Unproved, Checked, Pattern, Outcome, Other}
+use Rattle.mlir_work_json.specs.declared.form.LineKind.TheVariants.{Reply, Heading, ModuleRefused, AttachRefused, Module, Use, Constant, Dead, Unreached, Diagnostic, Effect, Definition, Reference, Unresolved, Mismatch, Reason, NotLegalised, AppliedRule, AppliedPattern, FiredRule, FiredPattern, Unproved, Checked, Pattern, Outcome, End, Other}
 use Rattle.mlir_work_script_base.specs.Cuts.{before, after}
 use Rattle.mlir_work_script_base.specs.Values.{is_dot}
 
@@ -138,7 +138,7 @@ word_form line =
     else refusal_form (cell line)
 
 abbrev pub form_of : List ℕ → LineKind
-form_of [] = Other
+form_of [] = End
 form_of (b ∷ bs) =
     if is_ascii_digit b then Reply
     else if b == 35 then op_form (trailing (b ∷ bs))

@@ -1,19 +1,20 @@
 -- The object of a line: members with their keys.
-use Rattle.std.specs.Prelude.{◌≡◌, ℕ, List, [], ◌∷◌, map, Option, Some, None, OnOk, Result, String}
+use Rattle.std.specs.Prelude.{◌≡◌, ℕ, List, [], ◌∷◌, map, Option, Some, None, OnOk, Result, String, true}
 use Rattle.std.specs.Str.Lossy.{utf8_lossy}
 use Rattle.std.specs.BTreeMap.{BTreeMap}
 use Rattle.std.specs.declared.alloc.AllocError.{AllocError}
 use Rattle.std.specs.declared.alloc.Global.{Global}
-use Rattle.serde_json.specs.Data.{Data, number, unsigned, string, array, Members, put}
+use Rattle.serde_json.specs.Data.{Data, boolean, number, unsigned, string, array, Members, put}
 use Rattle.serde_json.specs.View.{items_of, members_view}
 use Rattle.serde_json.specs.declared.value.Value.{Value}
 use Rattle.mlir_work_json.specs.Numbers.{number_of}
 
--- the value of a member: a text, a number, or a list of texts
+-- the value of a member: a text, a number, a list of texts, or `true`
 pub data Item : Type 0 where
   Text : List ℕ → Item
   Number : ℕ → Item
   Texts : List (List ℕ) → Item
+  Flag : Item
 
 -- a key with its value
 abbrev pub Member : Type 0
@@ -41,6 +42,7 @@ abbrev pub data_of : Item → Data
 data_of (Text word) = text_data word
 data_of (Number n) = number (unsigned n)
 data_of (Texts words) = array (items_of (map text_data words))
+data_of Flag = boolean true
 
 -- members are set one by one; the object keeps them ordered by their keys
 abbrev pub add_members : List Member → Members → Members

@@ -4,4 +4,6 @@ pub mod Items
 pub mod Forms
 pub mod Replies
 pub mod Rows
+pub mod RowLaws
 pub mod Lines
+pub mod Printing

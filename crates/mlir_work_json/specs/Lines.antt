@@ -6,11 +6,11 @@ use Rattle.serde_json.specs.Read.{read}
 use Rattle.serde_json.specs.Written.{compact_text}
 use Rattle.mlir_work_json.specs.Cuts.{parts}
 use Rattle.mlir_work_json.specs.Forms.{form_of}
-use Rattle.mlir_work_json.specs.Items.{Member, text, add_members}
+use Rattle.mlir_work_json.specs.Items.{Flag, Member, text, add_members}
 use Rattle.mlir_work_json.specs.Replies.{reply_members, heading_members, unparsed_members, unattached_members}
 use Rattle.mlir_work_json.specs.Rows.{use_members, constant_members, dead_members, unreached_members, diagnostic_members, effect_members, definition_members, reference_members, unresolved_members, mismatch_members, reason_members, stayed_members, rewritten_members, applied_members, fired_rule_members, fired_pattern_members, unproved_members, checked_members, pattern_members, outcome_members}
 use Rattle.mlir_work_json.specs.declared.form.LineKind.{LineKind}
-use Rattle.mlir_work_json.specs.declared.form.LineKind.TheVariants.{Reply, Heading, ModuleRefused, AttachRefused, Module, Use, Constant, Dead, Unreached, Diagnostic, Effect, Definition, Reference, Unresolved, Mismatch, Reason, NotLegalised, AppliedRule, AppliedPattern, FiredRule, FiredPattern, Unproved, Checked, Pattern, Outcome, Other}
+use Rattle.mlir_work_json.specs.declared.form.LineKind.TheVariants.{Reply, Heading, ModuleRefused, AttachRefused, Module, Use, Constant, Dead, Unreached, Diagnostic, Effect, Definition, Reference, Unresolved, Mismatch, Reason, NotLegalised, AppliedRule, AppliedPattern, FiredRule, FiredPattern, Unproved, Checked, Pattern, Outcome, End, Other}
 use Rattle.mlir_work_script_base.specs.Lines.{is_newline}
 
 -- the members of a line of this kind
@@ -40,6 +40,7 @@ form_members Unproved line = unproved_members line
 form_members Checked line = checked_members line
 form_members Pattern line = pattern_members line
 form_members Outcome line = outcome_members line
+form_members End line = (codes "end", Flag) ∷ []
 form_members Other line = text (codes "text") line ∷ []
 
 -- the members of a line

@@ -63,6 +63,8 @@ pub enum LineKind {
     Pattern,
     /// A row of a check: a variable or a result, with its value.
     Outcome,
+    /// The empty line at the end of an answer of a live run.
+    End,
     /// Not an output line.
     Other,
 }
@@ -326,7 +328,7 @@ pub(crate) fn form_of(line: &[u8]) -> LineKind
     ensures { result ≡ form_of line.now }
 {
     let Some(first) = line.first() else {
-        return LineKind::Other;
+        return LineKind::End;
     };
     if first.is_ascii_digit() {
         return LineKind::Reply;

@@ -5,6 +5,10 @@ ghost use Rattle.mlir_work_json.specs.Items.{Number, Texts, text};
 ghost use Rattle.mlir_work_json.specs.Lines.{line_members};
 ghost use Rattle.mlir_work_json.specs.Numbers.{number_of};
 ghost use Rattle.mlir_work_json.specs.Replies.{answer_members, place_members};
+ghost use Rattle.mlir_work_json.specs.RowLaws.{IsSmall};
+ghost use Rattle.mlir_work_json.specs.Rows.{kind};
+ghost use Rattle.mlir_work_script_base.specs.Values.{op_text, value_text};
+ghost use Rattle.ir_event.specs.trees.declared.value.Value.{Value};
 
 /// A printed number parses as the same number.
 pub fn numbers_stay()
@@ -26,4 +30,18 @@ pub fn refusals_have_words()
 /// Each word of the note of a refusal is one cell.
 pub fn words_are_cells()
     ensures { (word rest : List ℕ) → is_whole word ≡ true → cells (word ++ 32 ∷ rest) ≡ word ∷ cells rest }
+{}
+
+/// The object of a row of `uses` has the value, the operation and the number of the operand that the row prints.
+pub fn uses_are_read_back()
+    ensures { (v : Value) (user operand : ℕ) → IsSmall v → user < 2 ^ 32 → operand < 2 ^ 32
+        → line_members (value_text v ++ 32 ∷ (op_text user ++ 32 ∷ decimal operand))
+        ≡ kind (codes "uses") ∷ text (codes "value") (value_text v) ∷ text (codes "user") (op_text user) ∷ (codes "operand", Number operand) ∷ [] }
+{}
+
+/// The object of a row of `dead` or `diagnostics` has the operation, and the rule, that the row prints.
+pub fn operations_are_read_back()
+    ensures dead { (op : ℕ) → op < 2 ^ 32 → line_members (op_text op) ≡ kind (codes "dead") ∷ text (codes "op") (op_text op) ∷ [] }
+    ensures diagnostics { (op rule : ℕ) → op < 2 ^ 32 → line_members (op_text op ++ 32 ∷ (codes "V" ++ decimal rule))
+        ≡ kind (codes "diagnostics") ∷ text (codes "op") (op_text op) ∷ text (codes "rule") (codes "V" ++ decimal rule) ∷ [] }
 {}

@@ -3,9 +3,12 @@
 
 mod cuts;
 mod form;
+mod history;
 pub mod laws;
 mod members;
 mod numbers;
+pub mod printer;
+pub mod printing;
 mod replies;
 mod rows;
 pub mod text;

@@ -2,7 +2,7 @@
 ghost use Rattle.std.specs.Prelude.{◌≡◌, ◌==◌, [], ◌∷◌, map, IfOk};
 ghost use Rattle.serde_json.specs.View.{view};
 ghost use Rattle.mlir_work_json.specs.Cuts.{cells, parts};
-ghost use Rattle.mlir_work_json.specs.Items.{HasMembers, Texts, text, numeral, text_data};
+ghost use Rattle.mlir_work_json.specs.Items.{Flag, HasMembers, Texts, text, numeral, text_data};
 
 use crate::cuts::cut_cell;
 use crate::numbers::parse_number;
@@ -46,6 +46,13 @@ pub(crate) fn set_number(
         Some(n) => put(object, alloc, key, Value::from(n)),
         None => set_text(object, alloc, key, word),
     }
+}
+
+/// Sets a member to `true`.
+pub(crate) fn set_flag(object: &mut Object, alloc: Global, key: &str) -> Result<(), AllocError>
+    ensures { HasMembers result object.old object.new ((key.now, Flag) ∷ []) }
+{
+    put(object, alloc, key, Value::Bool(true))
 }
 
 /// Returns the parts of a text as JSON strings. The byte `end` ends a part.

@@ -9,7 +9,7 @@ ghost use Rattle.mlir_work_json.specs.Lines.{begins_object, form_members, json_l
 ghost use Rattle.mlir_work_script_base.specs.Lines.{is_newline};
 
 use crate::form::{LineKind, form_of};
-use crate::members::{Object, set_text};
+use crate::members::{Object, set_flag, set_text};
 use crate::replies::{add_attach_refused, add_module_refused, set_heading, set_reply};
 use crate::rows::{
     add_not_legalised, set_applied, set_checked, set_constant, set_dead, set_definition,
@@ -57,6 +57,7 @@ fn set_form(
         LineKind::Checked => set_checked(object, alloc, line),
         LineKind::Pattern => set_pattern(object, alloc, line),
         LineKind::Outcome => set_outcome(object, alloc, line),
+        LineKind::End => set_flag(object, alloc, "end"),
         LineKind::Other => set_text(object, alloc, "text", line),
     }
 }
