@@ -81,6 +81,24 @@ HAND = [
     ("bound-not-constant", loop('"t.l"()', number(3)), 4, "open-loop"),
     ("goes-on", loop(number(0), number(3)), 4, "open-loop"), ("condition-not-false", WHILE, 2, "stop-loop"),
     ("block-not-clean", BRANCH, 2, "open-branch"), ("no-index", X + TWO + SUM, 3, "lower-index")]
+BAD_END = '"scf.yield"(%i) : (index) -> ()'
+END = '"scf.yield"(%a) : (index) -> ()'
+USED_LOOP = loop('"t.l"()', '"t.u"()', f'"memref.dealloc"(%m) : (memref<i32>) -> ()\n  {END}')
+for old, new in (("%l = ", '%m = "t.m"() : () -> memref<i32>\n%l = '),
+                 ('"scf.for"(%l, %u, %e)', '%r = "scf.for"(%l, %u, %e, %l)'), ("%i: index", "%i: index, %a: index"),
+                 ("(index, index, index) -> ()", "(index, index, index, index) -> index")):
+    USED_LOOP = USED_LOOP.replace(old, new, 1)
+USED_LOOP += '"t.v"(%r) : (index) -> ()\n'
+# Operations at which two conditions of a rule don't hold: the first one is reported. A block that isn't read isn't
+# asked about.
+FIRST = [
+    ("used", "erase-dead", USED_LOOP, 5), ("bound-not-constant", "open-loop", loop('"t.l"()', number(3), BAD_END), 4),
+    ("block-not-clean", "open-loop", loop(number(0), number(3), BAD_END), 4),
+    ("applies", "open-loop", loop(number(3), number(0), BAD_END), 4),
+    ("first-not-constant", "open-branch", BRANCH.replace('"arith.constant"() <{value = true}>', '"t.c"()'), 2),
+    ("block-not-clean", "stop-loop", WHILE.replace("(%c) : (i1)", "(%c, %c) : (i1, i1)"), 2),
+    ("no-index", "lower-loop", loop('"t.l"()', '"t.u"()', BAD_END).replace("index", "i32"), 4),
+    ("block-not-clean", "lower-loop", loop('"t.l"()', '"t.u"()', BAD_END), 4), ("no-index", "lower-choice", BRANCH, 2)]
 TOLD_OF_SUM = """why #3 1 erase-dead applies
 why #3 2 fold-to-constant operand-not-constant
 why #3 3 swap-constant first-not-constant
@@ -116,6 +134,15 @@ def by_hand(cases):
                 "`why` without a rule reports each rule for the operation's name, and nothing for others.")
     out = cases.both(over(X + TWO + SUM, "why #3", "why #1", "why #0", "why #2 lower-index"))
     assert out == f"1 ok\n{TOLD_OF_SUM}2 ok\n3 ok\n4 ok\nwhy #2 28 lower-index no-index\n", out
+
+
+def first_of_two(cases):
+    """The first condition that doesn't hold, where a later one doesn't hold either."""
+    for number, (word, rule, module, op) in enumerate(FIRST, 1):
+        cases.title(f"why-first-{number}", f"`why` reports `{word}` for `{rule}`, the first condition that decides.")
+        at = rewrites.WORDS.index(rule) + 1
+        out = cases.run(over(module, f"why #{op} {rule}"))
+        assert out == f"1 ok\nwhy #{op} {at} {rule} {word}\n", out
 
 
 def rules(cases):
@@ -211,7 +238,7 @@ def as_json(cases):
                        "canon at #3", "why #3"), brief, form="json")
 
 
-FILES = {"runs/asking": (by_hand, alone, refused, opaque, lived, by_chance), "rules/asked": (rules,),
+FILES = {"runs/asking": (by_hand, first_of_two, alone, refused, opaque, lived, by_chance), "rules/asked": (rules,),
          "json/asking": (as_json,)}
 
 

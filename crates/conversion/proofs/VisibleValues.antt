@@ -28,8 +28,8 @@ use Rattle.conversion_base.specs.Makes.{made_by}
 use Rattle.conversion_base.specs.Reconciling.{index_edits, index_rewrite}
 use Rattle.conversion_base.proofs.Collapsing.{one_made}
 use Rattle.conversion_base.specs.Rule.{Rule}
-use Rattle.patterns_reasons.specs.Reasons.{reason_of}
-use Rattle.patterns_reasons.specs.Reason.{Reason}
+use Rattle.conversion_base.specs.Reasons.{reason_of}
+use Rattle.conversion_base.specs.Reason.{Reason}
 use Rattle.conversion_base.specs.Rewrites.{Rewrite, none, refused, becomes, carried_out, rewrite_by}
 use Rattle.conversion.specs.Benches.{LedOn, transaction_of, seen}
 use Rattle.conversion.specs.States.{Answers, Committed, IsFull, IsOutOfCapacity, Leads, Refuses, RolledBack, marked}

@@ -15,4 +15,4 @@ pub use Rattle.conversion_base.specs.RuleNames
 pub use Rattle.patterns.specs.runs.Runs
 pub use Rattle.patterns.specs as patterns
 pub use Rattle.patterns.specs.rewriter
-pub use Rattle.patterns_reasons.specs as reasons
+pub use Rattle.conversion_base.specs as reasons

@@ -5,8 +5,8 @@ use Rattle.ir_event.specs.Modules.{Module}
 use Rattle.conversion_base.specs.Legalization.{Outcome, legalised, failed, aborted, legalization_of, standing}
 use Rattle.conversion_base.specs.Rule.{Rule}
 use Rattle.conversion_base.specs.Targets.{Aim, is_accepted}
-use Rattle.patterns_reasons.specs.Reasons.{reason_of}
-use Rattle.patterns_reasons.specs.Reason.{Reason}
+use Rattle.conversion_base.specs.Reasons.{reason_of}
+use Rattle.conversion_base.specs.Reason.{Reason}
 use Rattle.conversion.specs.declared.match_failure.MatchFailure.{MatchFailure}
 use Rattle.conversion.specs.declared.match_failure.MatchFailure.TheVariants.{NoRule, ConditionFails, MakesIllegal}
 

@@ -11,7 +11,7 @@ ghost use Rattle.conversion.specs.States.{Answers, Leads};
 
 use crate::conversion_rewriter::ConversionRewriter;
 use crate::defining_ops::defining_ops;
-use conversion_base::casts::{index_edits, is_cast, is_inner_cast, is_unused};
+use conversion_base::casts::{index_edits, is_cast, is_inner_cast};
 use conversion_base::rule::Rule;
 use conversion_base::target::Target;
 use conversion_base::{legal, target_checks};
@@ -24,6 +24,7 @@ use patterns::rewriter::finish::close_mark;
 use patterns::runs::Bench;
 use patterns::runs::apply_edits::apply_edits;
 use patterns::runs::edit::Edit;
+use patterns::runs::region_rules::dead::is_unused;
 use std::alloc::Global;
 
 /// Applies a rule at `op`, if `op` is in the module. Returns whether the rule applied.

@@ -10,15 +10,15 @@ ghost use Rattle.conversion_base.specs.Rewrites.{rewrite_of};
 ghost use Rattle.conversion_base.specs.RuleNames.{is_converting};
 ghost use Rattle.conversion_base.specs.Targets.{IsAimIn, IsNamedIn, target_model, is_accepted, is_legal};
 ghost use Rattle.conversion_base.specs.Reconciling.{collapse, index_rewrite, is_cast};
-ghost use Rattle.patterns_reasons.specs.Reasons.{reason_of};
+ghost use Rattle.conversion_base.specs.Reasons.{reason_of};
 ghost use Rattle.conversion.specs.Walks.{Gives};
 ghost use Rattle.conversion.specs.States.{State, Answers, Committed, Leads, RolledBack, marked, marked_transaction};
 
+use conversion_base::reason::Reason;
 use conversion_base::rule::Rule;
 use conversion_base::target::Target;
 use ir_event::types::ids::OpId;
 use ir_event::types::refusal::Refusal;
-use patterns_reasons::reason::Reason;
 use std::alloc::Global;
 
 /// A rewriter. A call that is refused leaves the module and the marks unchanged.

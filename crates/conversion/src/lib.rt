@@ -18,7 +18,7 @@ pub mod tracer;
 mod walk;
 mod why;
 
+pub use conversion_base as reasons;
 pub use conversion_base::{applied_rule, laws, names, rule, target};
 pub use patterns;
 pub use patterns::rewriter;
-pub use patterns_reasons as reasons;

@@ -1,7 +1,7 @@
 //! The reason why an operation can't be legalized.
 
+use conversion_base::reason::Reason;
 use conversion_base::rule::Rule;
-use patterns_reasons::reason::Reason;
 
 /// Why the last rule that was tried doesn't legalize an operation.
 #[derive(Clone, Copy)]

@@ -1,13 +1,13 @@
 //! Applies the rules that a conversion may try to a rewriter's module.
 use crate::bench::apply_rule;
 use crate::conversion_rewriter::RuleApplier;
+use conversion_base::match_failure::failing_reason;
+use conversion_base::reason::Reason;
 use conversion_base::rule::Rule;
 use ir_event::analysis::Analysis;
 use ir_event::types::ids::OpId;
 use ir_event::types::refusal::Refusal;
 use patterns::runs::Bench;
-use patterns_reasons::match_failure::failing_reason;
-use patterns_reasons::reason::Reason;
 use std::alloc::Global;
 
 impl<L: Analysis> RuleApplier for Bench<L> {

@@ -7,7 +7,8 @@ pub mod Listed
 pub mod Makes
 pub mod Named
 pub mod Readings
+pub mod Reasoned
 pub mod Recast
 pub mod Repeated
+pub mod ReportedReasons
 pub mod Shown
-pub mod Unused

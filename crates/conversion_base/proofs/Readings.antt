@@ -103,22 +103,6 @@ cast_is_there c x t b e f =
     let o = cast_there x (meaning c t) (sym e ∙ f) in
     sym (map_has_id (name_term c) (type_term c) (attr_term c) x t) ∙ (found_id x (meaning c t) o.0 o.1).0
 
--- ---- uses
-
-pub unused_meant : (c : ContextModel) (x : ℕ) (t : Op) → is_unused x (meaning c t) ≡ is_unused x t
-unused_meant c x t = map_every (name_term c) (type_term c) (attr_term c) _ _ own t
-  where
-    own : (o : Op) → list_all (λ v. not (is_result_of x v)) (head (meaning c o)).operands ≡ list_all (λ v. not (is_result_of x v)) (head o).operands
-    own (op h rs) = refl
-
-pub some_used : (x k : ℕ) (t : Op) (r : Option (ℕ × ℕ)) → MatchOption r (uses_of (Result x k) t ≡ []) (λ u. is_use u.0 u.1 (uses_of (Result x k) t) ≡ true) → (b : Bool) → b ≡ is_some r → b ≡ true → is_unused x t ≡ false
-some_used x k t None m b e f = absurd (true≢false (sym f ∙ e))
-some_used x k t (Some u) m b e f = go (uses_of (Result x k) t) refl m
-  where
-    go : (us : List (ℕ × ℕ)) → uses_of (Result x k) t ≡ us → is_use u.0 u.1 us ≡ true → is_unused x t ≡ false
-    go [] g h = absurd (true≢false (sym h))
-    go (v ∷ us) g h = one_used x k t v (subst (In v) (sym g) (inl refl))
-
 -- ---- types
 
 pub of_type_some : (c : ContextModel) (t : Op) (v : Value) (ty : ℕ) (u : TypeTerm) → Some ty ≡ type_of_value v t → (b : Bool) → b ≡ same_type (type_term c ty) u → b ≡ is_of_type (meaning c t) u v

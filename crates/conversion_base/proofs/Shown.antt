@@ -58,23 +58,3 @@ few_shown isolated x t wellformed n e =
     let w = found x t n e in
     let s = found_stands x t w.here w.is in
     subst (λ (m : Node). (length m.arguments ≤ 16) × (length m.head.results ≤ 256)) (sym w.same) (few w.here (ap op_fits (sym s.3) ∙ (from_wellformed isolated t wellformed).fits s.0 s.1))
-
--- its results
-results_in : (o : Op) (k : ℕ) → is_some (slice_get (head o).results k) ≡ true → k < length (node_of o).head.results
-results_in (op h rs) k e = go (slice_get h.results k) refl e
-  where
-    go : (f : Option ℕ) → slice_get h.results k ≡ f → is_some f ≡ true → k < length h.results
-    go None e h = absurd (true≢false (sym h))
-    go (Some y) e i = slice_get_within h.results k y e
-
-pub counted : (x k : ℕ) (t : Op) (n : Node) → Some n ≡ option_map node_of (find x t) → has_value (Result x k) t ≡ true → k < length n.head.results
-counted x k t n e h =
-    let w = found x t n e in
-    subst (λ (m : Node). k < length m.head.results) (sym w.same) (results_in w.here k (sym (ap (λ o. is_some (option_and_then (λ (z : Op). slice_get (head z).results k) o)) w.is) ∙ h))
-
-pub not_counted : (x k : ℕ) (t : Op) → None ≡ option_map node_of (find x t) → has_value (Result x k) t ≡ true → ⊥
-not_counted x k t e h = go (find x t) e h
-  where
-    go : (o : Option Op) → None ≡ option_map node_of o → is_some (option_and_then (λ (z : Op). slice_get (head z).results k) o) ≡ true → ⊥
-    go None e h = true≢false (sym h)
-    go (Some o) e h = absurd cc

@@ -4,6 +4,7 @@ pub mod Reconciling
 pub mod Listing
 pub mod Conversion
 pub mod Numbers
+pub mod Reasons
 pub mod Repeats
 pub use Rattle.patterns_base.specs.Looks
 pub use Rattle.patterns_base.specs.Makes
@@ -15,3 +16,5 @@ pub use Rattle.patterns_base.specs.Contents
 pub use Rattle.patterns_base.specs.Edits
 pub use Rattle.patterns_base.specs.Lists
 pub use Rattle.patterns_base.specs.Machine
+pub use Rattle.patterns_lowering.specs.region_rules.Conditions
+pub use Rattle.patterns_lowering.specs.region_rules.Reason

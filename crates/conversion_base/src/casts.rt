@@ -1,14 +1,11 @@
 //! Queries of the unrealized casts that a conversion leaves between types, and the edits that reconcile them.
-ghost use Rattle.std.specs.Prelude.{◌≡◌, ◌<◌, ◌&&◌, ℕ, true, not, eqb, IfOk, IfSome, option_map};
+ghost use Rattle.std.specs.Prelude.{◌≡◌, ◌&&◌, true, not, eqb, IfOk, IfSome, option_map};
 ghost use Rattle.ir_event.specs.types.Things.{ContextModel, IsType};
 ghost use Rattle.ir_event.specs.types.Terms.{type_term};
 ghost use Rattle.ir_event.specs.types.SameTypes.{same_type};
 ghost use Rattle.ir_event.specs.trees.Tree.{head};
 ghost use Rattle.ir_event.specs.trees.Ids.{has_id};
-ghost use Rattle.ir_event.specs.trees.declared.value.Value.TheVariants.{Result as result_of};
-ghost use Rattle.ir_event.specs.tree_laws.Values.{has_value};
 ghost use Rattle.ir_event.specs.Modules.{NodeIsOf, module_in};
-ghost use Rattle.effects.specs.Dead.{is_unused};
 ghost use Rattle.patterns_base.specs.Lists.{AllFit, edits_meaning};
 ghost use Rattle.patterns_base.specs.Looks.{is_of_type};
 ghost use Rattle.patterns_base.specs.Made.{i64};
@@ -53,31 +50,6 @@ pub fn is_inner_cast(world: &World, op: OpId) -> bool
     ensures { result ≡ (is_cast op (module_in world.now).tree && not (eqb (head (module_in world.now).tree).id op)) }
 {
     is_cast(world, op) && !is_root(world, op)
-}
-
-/// Returns the number of results of an operation of the module.
-fn result_count(world: &World, op: OpId) -> u32
-    ensures { (k : ℕ) → has_value (result_of op k) world.now.store.module_of.tree ≡ true → k < result }
-{
-    match world.shown(op) {
-        Some(node) => node.results().len() as u32,
-        None => 0,
-    }
-}
-
-/// Returns whether no result of `op` has a use.
-pub fn is_unused(world: &World, op: OpId) -> bool
-    ensures { result ≡ is_unused op (module_in world.now).tree }
-{
-    let count = result_count(world, op);
-    let mut number = 0;
-    'results: while number < count {
-        if world.store.first_use(Value::Result(op, number)).is_some() {
-            return false;
-        }
-        number += 1;
-    }
-    true
 }
 
 /// Returns whether a type is `i64`.

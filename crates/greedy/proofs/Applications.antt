@@ -15,7 +15,7 @@ use Rattle.patterns_base.specs.declared.rule.Rule.{Rule}
 use Rattle.patterns_base.specs.RuleNames.{is_canonical}
 use Rattle.patterns_base.specs.Looks.{insertion_of, insertion_point}
 use Rattle.patterns_base.specs.Rewrites.{Rewrite, none, refused, becomes, edits_of, rewrite_by, rewrite_of}
-use Rattle.patterns_base.specs.Canonicalization.{or_else, first_rule}
+use Rattle.patterns_base.specs.Canonicalization.{or_else, first_rule, greedy_rules}
 use Rattle.patterns.proofs.Firsts.{none_then}
 use Rattle.patterns.specs.FirstMatching.{first_matching_rule, rule_or}
 use Rattle.patterns.specs.Rows.{AreCanonical}
@@ -25,17 +25,20 @@ use Rattle.user_patterns_data.specs.Depth.{is_shallow}
 use Rattle.user_patterns_apply.specs.Own.{user_pattern_edits, user_pattern_rewrite}
 use Rattle.greedy.specs.Listing.{Stayed}
 use Rattle.greedy.specs.Orders.{Orderly}
-use Rattle.greedy.specs.Ruled.{MayTry, rules_in, pattern_set_of}
-use Rattle.greedy.specs.PatternSet.{MayUseAll, RuleOrPatternModel, MayUse, OfUserPattern, OfRule, rewrite_by_entry, patterns_of, pattern_set_from, by_or, by_rules, first_applicable_rewrite, first_matching_entry, traced_as}
+use Rattle.greedy.specs.Ruled.{IsReady, IsReadyFor, MayTry, model_of, pattern_set_of, tried_at}
+use Rattle.greedy.specs.Work.{Right}
+use Rattle.greedy.specs.PatternSet.{MayUseAll, PatternSetModel, RuleOrPatternModel, MayUse, OfUserPattern, OfRule, rewrite_by_entry, patterns_of, pattern_set_from, by_or, by_rules, first_applicable_rewrite, first_matching_entry, traced_as}
 use Rattle.greedy.specs.Applications.{IsApplied, IsLawful}
 use Rattle.greedy.specs.declared.applied_rewrite.AppliedPattern.{AppliedPattern}
 use Rattle.greedy.specs.declared.applied_rewrite.AppliedPattern.TheVariants as by
 use Rattle.greedy.specs.declared.pattern_set.PatternSet.{PatternSet}
-use Rattle.greedy.specs.declared.pattern_set.PatternSet.TheVariants.{Rules, Patterns}
+use Rattle.greedy.specs.declared.pattern_set.Entries.{Entries}
+use Rattle.greedy.specs.declared.pattern_set.Entries.TheVariants.{Canonicalization, Rules, Patterns}
 use Rattle.greedy.proofs.Comings.{IsCount, edits_count, either_refused, not_refused, rules_count}
 use Rattle.greedy.proofs.Law.{carried, edits_orderly, first_orderly, rewrite_tried}
 use Rattle.greedy.proofs.UserPatternsAlike.{user_patterns_planned, user_pattern_rootless}
 use Rattle.greedy.proofs.Rootless.{no_edits as rootless_edits, no_rules, unplaced}
+use Rattle.greedy.proofs.OnlyAt.{only_lawful}
 use Rattle.greedy.proofs.Ruling.{canonical_rules}
 use Rattle.greedy.proofs.Scans.{by_none, no_edits, no_rewrite, none_still, or_none, becomes_none, refused_none}
 
@@ -191,7 +194,24 @@ entries_lawful rest may = record {
   applied = λ m x. (all_unfired 0 rest m x, all_none 0 rest m x);
 }
 
+-- the rules and patterns of a run
+pub entries_lawful_of : (t : Entries) → MayTry t → IsLawful (model_of t)
+entries_lawful_of Canonicalization may = rules_lawful greedy_rules canonical_rules
+entries_lawful_of (Rules rows) may = rules_lawful rows.now.rules.now may.canonical
+entries_lawful_of (Patterns list) may = entries_lawful (patterns_of list.now) may
+
 -- every pattern set of a run
-pub pattern_set_lawful : (t : PatternSet) → MayTry t → IsLawful (pattern_set_of t)
-pattern_set_lawful (Rules rules) may = rules_lawful (rules_in rules) (canonical_rules rules may)
-pattern_set_lawful (Patterns list) may = entries_lawful (patterns_of list.now) may
+tried_lawful : (o : Option ℕ) (a : PatternSetModel) → IsLawful a → IsLawful (tried_at o a)
+tried_lawful None a l = l
+tried_lawful (Some x) a l = only_lawful x a l
+
+pub pattern_set_lawful : (t : PatternSet) → MayTry t.entries → IsLawful (pattern_set_of t)
+pattern_set_lawful t may = tried_lawful t.at (model_of t.entries) (entries_lawful_of t.entries may)
+
+ready_for : (o : Option ℕ) (a : PatternSetModel) (passed : ℕ) (again : List ℕ) (m : Module) → Right a passed again m → IsReadyFor o a passed again m
+ready_for None a passed again m r = r
+ready_for (Some x) a passed again m r = tt
+
+-- a right worklist is right for a run
+pub is_ready : (t : PatternSet) (passed : ℕ) (again : List ℕ) (m : Module) → Right (model_of t.entries) passed again m → IsReady t passed again m
+is_ready t passed again m r = ready_for t.at (model_of t.entries) passed again m r

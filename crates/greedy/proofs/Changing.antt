@@ -1,6 +1,6 @@
 -- A run of the driver is the transformation that the state machine defines for a canonicalization or for a rewriting
 -- by a pattern set.
-use Rattle.std.proofs.Common.{◌≡◌, refl, ap, sym, ◌∙◌, ◌⊎◌, inl, inr, ℕ, true, false, cond, Result, Ok, Err}
+use Rattle.std.proofs.Common.{◌≡◌, refl, ap, sym, ◌∙◌, ◌⊎◌, inl, inr, ℕ, true, false, cond, [], Result, Ok, Err}
 use Rattle.std.specs.Prelude.{IfOk, IfErr, OnErr}
 use Rattle.ir_event.specs.types.declared.refusal.Refusal.{Refusal}
 use Rattle.ir_event.specs.types.declared.refusal.Refusal.TheVariants.{BadLimit, Full, Memory}
@@ -9,23 +9,21 @@ use Rattle.ir_event.specs.Listener.{Listener}
 use Rattle.ir_event.specs.Modules.{Module}
 use Rattle.rewriter_machine.specs.Machine.{State, Answer, Change, Reply, DoneWith, Refused, Nothing, Transformation, due, due_change, IsAnswer, IsFullSo}
 use Rattle.rewriter_machine.specs.Panels.{AllAge}
-use Rattle.patterns.specs.rewriter.RewriterCalls.{Benched, Does, state_of}
+use Rattle.patterns.specs.rewriter.RewriterCalls.{Benched, Does, Led, state_of}
 use Rattle.patterns.specs.rewriter.Held.{module_held, open_marks}
-use Rattle.patterns_base.specs.Canonicalization.{Canonical, ended, aborted, canonical_from, canonicalization_of}
+use Rattle.patterns.proofs.Notified.{notified_stays}
+use Rattle.patterns_base.specs.Canonicalization.{Canonical, ended, aborted, greedy_rules}
 use Rattle.greedy.specs.declared.outcome.Outcome.{Outcome as Ended}
 use Rattle.greedy.specs.declared.outcome.Outcome.TheVariants.{Converged, Limit}
-use Rattle.greedy.specs.Outcomes.{count_of, ending_of, is_limit, IsCanonical, IsReason, IsReasonBy, IsReasonFor, IsRewriting}
+use Rattle.greedy.specs.Outcomes.{count_of, ending_of, is_limit, IsReasonBy, IsReasonFor, IsRewriting}
 use Rattle.greedy.specs.Changes.{outcome_of, made_of, canonicalizing, outcome_meaning, canonical_reply, rewriting}
 use Rattle.greedy.specs.Rewriting.{rewriting_of, rewritten_from}
-use Rattle.greedy.specs.PatternSet.{PatternSetModel}
+use Rattle.greedy.specs.PatternSet.{PatternSetModel, by_rules}
+use Rattle.greedy.proofs.SameRules.{same_rewriting}
 
 outcomes : (o : Ended) → outcome_of (count_of o) (ending_of o) ≡ outcome_meaning o
 outcomes (Converged k) = refl
 outcomes (Limit k) = refl
-
-no_limit : (limit : ℕ) (m : Module) → is_limit limit ≡ false → canonicalization_of limit m ≡ aborted BadLimit
-unfolding canonicalization_of
-no_limit limit m e = ap (λ b. cond b (canonical_from limit 0 m) (aborted BadLimit)) e
 
 no_limit_by : (pattern_set : PatternSetModel) (limit : ℕ) (m : Module) → is_limit limit ≡ false → rewriting_of pattern_set limit m ≡ aborted BadLimit
 unfolding rewriting_of
@@ -87,16 +85,27 @@ module _ (made : Module → Canonical) (limit : ℕ) (bad : (m : Module) → is_
       no_want e = absurd cc
 
 module _ {B : Type 0} (meaning : B → Listener) where
-  pub changes : (limit : ℕ) (a b : Benched B) (r : Result Ended Refusal) (full : Type 0) → IfOk r (λ o. IsCanonical limit (module_held a.transaction) o (module_held b.transaction)) → OnErr r (module_held b.transaction ≡ module_held a.transaction) → IfErr r (λ e. IsReason limit (module_held a.transaction) full e)
-      → open_marks b.transaction ≡ open_marks a.transaction → AllAge (state_of meaning a).panel (state_of meaning b).panel → Does meaning (Change (canonicalizing limit)) (canonical_reply r) a b
-  changes limit a b r full ok err why marks ages = run_changes (canonicalization_of limit) limit (no_limit limit) meaning a b r full ok err why marks ages
-
   pub changes_by : (pattern_set : PatternSetModel) (limit : ℕ) (a b : Benched B) (r : Result Ended Refusal) (full : Type 0) → IfOk r (λ o. IsRewriting pattern_set limit (module_held a.transaction) o (module_held b.transaction)) → OnErr r (module_held b.transaction ≡ module_held a.transaction) → IfErr r (λ e. IsReasonBy pattern_set limit (module_held a.transaction) full e)
       → open_marks b.transaction ≡ open_marks a.transaction → AllAge (state_of meaning a).panel (state_of meaning b).panel → Does meaning (Change (rewriting pattern_set limit)) (canonical_reply r) a b
   changes_by pattern_set limit a b r full ok err why marks ages = run_changes (rewriting_of pattern_set limit) limit (no_limit_by pattern_set limit) meaning a b r full ok err why marks ages
 
-pub canon_full : (limit : ℕ) (s : State) (r : Result Ended Refusal) (full : Type 0) → IfErr r (λ e. IsReason limit s.held full e) → IsFullSo full s (canonicalizing limit) (canonical_reply r)
-canon_full limit s r full why = run_full (canonicalization_of limit) limit (no_limit limit) s r full why
-
 pub full_by : (pattern_set : PatternSetModel) (limit : ℕ) (s : State) (r : Result Ended Refusal) (full : Type 0) → IfErr r (λ e. IsReasonBy pattern_set limit s.held full e) → IsFullSo full s (rewriting pattern_set limit) (canonical_reply r)
 full_by pattern_set limit s r full why = run_full (rewriting_of pattern_set limit) limit (no_limit_by pattern_set limit) s r full why
+
+-- rewriting by the rules of canonicalization is the transformation of canonicalization
+pub canonicalizing_is : (limit : ℕ) → rewriting (by_rules greedy_rules) limit ≡ canonicalizing limit
+canonicalizing_is limit = λ i. record { transformed = λ m. made_of (same_rewriting limit m i); interns = true }
+
+-- ---- memory ran out before a run
+module _ {B : Type 0} (meaning : B → Listener) (a : Benched B) where
+  pub led_none : Led meaning a a
+  led_none = ([], notified_stays meaning a)
+
+  pub memory_changes : (pattern_set : PatternSetModel) (limit : ℕ) → AllAge (state_of meaning a).panel (state_of meaning a).panel → Does meaning (Change (rewriting pattern_set limit)) (Refused Memory) a a
+  memory_changes pattern_set limit ages = record { answer = inr (refl, inl refl); panel = ages }
+
+pub memory_full : (pattern_set : PatternSetModel) (limit : ℕ) (s : State) (full : Type 0) → IsFullSo full s (rewriting pattern_set limit) (Refused Memory)
+memory_full pattern_set limit s full is = absurd (no_want is)
+  where
+    no_want : Refused Memory ≡ Refused Full → ⊥
+    no_want e = absurd cc

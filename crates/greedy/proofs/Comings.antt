@@ -1,5 +1,5 @@
 -- Results of runs of rewrites.
-use Rattle.std.proofs.Common.{◌≡◌, ◌≢◌, refl, ap, sym, ◌∙◌, subst, ℕ, zero, suc, ◌+◌, ◌-◌, ◌≤◌, ◌<◌, inl, inr, ◌⊎◌, Bool, true, false, cond, ◌&&◌, List, [], ◌∷◌, Option, Some, None, true≢false, arith}
+use Rattle.std.proofs.Common.{◌≡◌, ◌≢◌, refl, ap, sym, ◌∙◌, ℕ, zero, suc, ◌+◌, ◌-◌, ◌≤◌, ◌<◌, inl, inr, ◌⊎◌, Bool, true, false, cond, ◌&&◌, List, [], ◌∷◌, Option, Some, None, true≢false, arith}
 use Rattle.std.specs.Prelude.{nat_le}
 use Rattle.std.proofs.lemmas.Bool.{le-leb, lt-leb}
 use Rattle.ir_event.specs.types.declared.refusal.Refusal.{Refusal}
@@ -11,12 +11,10 @@ use Rattle.rewriter_machine.specs.Contents.{Edit}
 use Rattle.patterns_base.specs.declared.rule.Rule.{Rule}
 use Rattle.patterns_base.specs.Makes.{made_by}
 use Rattle.patterns_base.specs.Rewrites.{Rewrite, none, refused, becomes, edits_of, rewrite_by, rewrite_of}
-use Rattle.patterns_base.specs.Canonicalization.{Canonical, or_else, first_rule, greedy_rules, End, converged, limited, aborted, ended, end_of, go_on, most_rewrites}
-use Rattle.greedy.specs.Outcomes.{Applied, Refuses, MarksRewrite, IsCanonical, IsReason, IsReasonBy, IsReasonFor, IsRewriting, Stop, count_of, ending_of, is_limit}
-use Rattle.greedy.specs.PatternSet.{PatternSetModel, by_rules}
+use Rattle.patterns_base.specs.Canonicalization.{or_else, first_rule, End, converged, limited, aborted, ended, end_of, go_on, most_rewrites}
+use Rattle.greedy.specs.Outcomes.{Applied, Refuses, MarksRewrite, IsReasonBy, Stop, is_limit}
+use Rattle.greedy.specs.PatternSet.{PatternSetModel}
 use Rattle.greedy.specs.Rewriting.{first_by, next_by, rewritten_from, rewriting_of}
-use Rattle.greedy.specs.declared.outcome.Outcome.{Outcome}
-use Rattle.greedy.proofs.SameRules.{same_rewriting}
 
 pub limited_by : (a : Rewrite) → a ≢ none → end_of a ≡ limited
 limited_by none n = absurd (n refl)
@@ -203,10 +201,3 @@ module _ (pattern_set : PatternSetModel) where
         not_bad (inl f) h = let k : Memory ≡ BadLimit = sym f ∙ h in absurd cc
         not_bad (inr (inl f)) h = count_no_limit e (stop_count limit 0 m e f) h
         not_bad (inr (inr f)) h = let k : Full ≡ BadLimit = sym f.0 ∙ h in absurd cc
-
--- ---- by the rules of canonicalization
-pub canonical_comes : (limit : ℕ) (m n : Module) (o : Outcome) → IsRewriting (by_rules greedy_rules) limit m o n → IsCanonical limit m o n
-canonical_comes limit m n o h = sym (same_rewriting limit m) ∙ h
-
-pub canonical_reason : (limit : ℕ) (m : Module) (full : Type 0) (e : Refusal) → IsReasonBy (by_rules greedy_rules) limit m full e → IsReason limit m full e
-canonical_reason limit m full e h = subst (λ (due : Canonical). IsReasonFor due limit full e) (same_rewriting limit m) h

@@ -37,8 +37,9 @@ pub mod Edits
 pub mod Starts
 pub mod Rootless
 pub mod Law
+pub mod OnlyAt
 pub mod Applications
 pub mod Attempting
 mod Following
 mod Beyond
-mod Traces
+pub mod Traces

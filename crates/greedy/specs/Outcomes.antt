@@ -4,8 +4,7 @@ use Rattle.ir_event.specs.types.declared.refusal.Refusal.{Refusal}
 use Rattle.ir_event.specs.types.declared.refusal.Refusal.TheVariants.{Memory, BadLimit, Full}
 use Rattle.ir_event.specs.Modules.{Module}
 use Rattle.patterns_base.specs.Rewrites.{Rewrite, none, refused, becomes}
-use Rattle.patterns_base.specs.Canonicalization.{Canonical, End, converged, limited, aborted, ended}
-use Rattle.patterns_base.specs.Canonicalization.{canonicalization_of, most_rewrites}
+use Rattle.patterns_base.specs.Canonicalization.{Canonical, End, converged, limited, aborted, ended, most_rewrites}
 use Rattle.greedy.specs.Rewriting.{rewritten_from, rewriting_of}
 use Rattle.greedy.specs.PatternSet.{PatternSetModel}
 use Rattle.greedy.specs.declared.outcome.Outcome.{Outcome}
@@ -49,10 +48,6 @@ Stop a limit m is_full e = (e ≡ Memory) ⊎ ((rewritten_from a limit 0 m ≡ a
 abbrev pub IsRewriting : PatternSetModel → ℕ → Module → Outcome → Module → Type 0
 IsRewriting a limit m o n = rewriting_of a limit m ≡ ended n (count_of o) (ending_of o)
 
--- canonicalizing module m ends with an outcome and module n
-abbrev pub IsCanonical : ℕ → Module → Outcome → Module → Type 0
-IsCanonical limit m o n = canonicalization_of limit m ≡ ended n (count_of o) (ending_of o)
-
 -- whether a limit is within the allowed range
 abbrev pub is_limit : ℕ → Bool
 is_limit limit = nat_le 1 limit && nat_le limit most_rewrites
@@ -62,10 +57,6 @@ is_limit limit = nat_le 1 limit && nat_le limit most_rewrites
 pub record IsReasonFor (due : Canonical) (limit : ℕ) (is_full : Type 0) (e : Refusal) : Type 0 where
   pub limited : (e ≡ BadLimit) ↔ (is_limit limit ≡ false)
   pub others : is_limit limit ≡ true → (e ≡ Memory) ⊎ ((due ≡ aborted e) ⊎ ((e ≡ Full) × is_full))
-
--- why the canonicalization of module m is refused
-abbrev pub IsReason : ℕ → Module → Type 0 → Refusal → Type 0
-IsReason limit m is_full e = IsReasonFor (canonicalization_of limit m) limit is_full e
 
 -- why rewriting module m by a pattern set is refused
 abbrev pub IsReasonBy : PatternSetModel → ℕ → Module → Type 0 → Refusal → Type 0

@@ -1,5 +1,5 @@
 -- The pattern set of a run: rules, or rules and user patterns, in an order.
-use Rattle.std.specs.Prelude.{◌≡◌, ℕ, ◌+◌, List, [], ◌∷◌, map, true, All, Option, Some, None, option_map, if◌then◌else◌, ⊤}
+use Rattle.std.specs.Prelude.{◌≡◌, ℕ, eqb, ◌+◌, List, [], ◌∷◌, map, true, All, Option, Some, None, option_map, if◌then◌else◌, ⊤}
 use Rattle.ir_event.specs.Modules.{Module}
 use Rattle.patterns_base.specs.declared.rule.Rule.{Rule}
 use Rattle.patterns_base.specs.RuleNames.{is_canonical}
@@ -22,6 +22,13 @@ pub record PatternSetModel : Type 0 where
 -- the rules of a list, in its order
 abbrev pub by_rules : List Rule → PatternSetModel
 by_rules rs = record { comes = first_rule rs; fires = λ m x. option_map by.Rule (first_matching_rule rs m x) }
+
+-- a set that is tried at one operation only
+abbrev pub only_at : ℕ → PatternSetModel → PatternSetModel
+only_at x a = record {
+  comes = λ m y. if eqb y x then a.comes m y else none;
+  fires = λ m y. if eqb y x then a.fires m y else None;
+}
 
 -- ---- rules and patterns
 

@@ -7,25 +7,20 @@ ghost use Rattle.ir_event.specs.trees.Tree.{head};
 ghost use Rattle.ir_event.specs.tree_laws.Reads.{precedes};
 ghost use Rattle.ir_event.specs.Modules.{Module};
 ghost use Rattle.rewriter_machine.specs.Machine.{OpenMark};
-ghost use Rattle.patterns.specs.FirstMatching.{first_matching_rule};
 ghost use Rattle.patterns.specs.rewriter.Held.{TransactionModel};
 ghost use Rattle.patterns.specs.rewriter.Rolling.{Dropped};
 ghost use Rattle.patterns.specs.runs.Runs.{Noted};
-ghost use Rattle.patterns_base.specs.Canonicalization.{first_rule};
 ghost use Rattle.greedy.specs.Noting.{marked};
 ghost use Rattle.greedy.specs.Outcomes.{Applied, Refuses};
 ghost use Rattle.greedy.specs.Following.{following};
 ghost use Rattle.greedy.specs.Orders.{IsBeyond};
 ghost use Rattle.greedy.specs.Listing.{TouchedUpTo};
-ghost use Rattle.greedy.specs.Ruled.{MayRun, rules_in};
-ghost use Rattle.greedy.specs.PatternSet.{patterns_of, first_matching_entry, first_applicable_rewrite};
+ghost use Rattle.greedy.specs.Ruled.{MayTry, model_of};
 
 use crate::applied_rewrite::AppliedPattern;
-use crate::pattern_set::RuleOrPattern;
-use crate::rules::RuleSet;
+use crate::pattern_set::Entries;
 use ir_event::types::ids::OpId;
 use ir_event::types::refusal::Refusal;
-use patterns_base::rule::Rule;
 use std::alloc::Global;
 
 /// A rewriter that can apply rules and user patterns.
@@ -104,45 +99,22 @@ pub trait GreedyRewriter {
     fn next_id(&self) -> u32
         ensures { result ≡ (held self.now).next };
 
-    /// Applies the first of a run's rules that applies at an operation. Returns that rule, or `None` if none applies.
-    fn first(
-        &mut self,
-        alloc: Global,
-        rules: &RuleSet<'_>,
-        op: OpId,
-    ) -> Result<Option<Rule>, Refusal>
-        requires there { has_id op (held self.old).tree ≡ true }
-        requires ruled { MayRun rules.now }
-        ensures ok { IfOk result
-            (λ r. Applied (first_rule (rules_in rules.now) (held self.old) op) (is_some r) (held self.old)
-            (held self.new)) }
-        ensures applied { IfOk result (λ r. r ≡ first_matching_rule (rules_in rules.now) (held self.old) op) }
-        ensures err { OnErr result (held self.new ≡ held self.old) }
-        ensures refused { IfErr result
-            (λ e. Refuses (first_rule (rules_in rules.now) (held self.old) op) (full self.new) e) }
-        ensures noted { OnOk result
-            (marks self.old ≢ [] → (events self.old ≤ events self.new)
-            × (before self.new (events self.old) ≡ held self.old)) }
-        ensures marks { marks self.new ≡ marks self.old }
-        ensures journal { Noted (transaction self.old) (transaction self.new) }
-        ensures onward { onward self.old self.new };
-
     /// Applies the first of some rules and user patterns that applies at an operation. Returns the applied entry, or
     /// `None` if none applies.
-    fn apply_first_pattern(
+    fn apply_first(
         &mut self,
         alloc: Global,
-        candidates: &[RuleOrPattern<'_>],
+        entries: &Entries<'_>,
         op: OpId,
     ) -> Result<Option<AppliedPattern>, Refusal>
-        requires { has_id op (held self.old).tree ≡ true }
+        requires there { has_id op (held self.old).tree ≡ true }
+        requires may { MayTry entries.now }
         ensures ok { IfOk result
-            (λ r. Applied (first_applicable_rewrite (patterns_of candidates.now) (held self.old) op) (is_some r) (held self.old)
-            (held self.new)) }
-        ensures applied { IfOk result (λ r. r ≡ first_matching_entry 0 (patterns_of candidates.now) (held self.old) op) }
+            (λ r. Applied ((model_of entries.now).comes (held self.old) op) (is_some r) (held self.old) (held self.new)) }
+        ensures applied { IfOk result (λ r. r ≡ (model_of entries.now).fires (held self.old) op) }
         ensures err { OnErr result (held self.new ≡ held self.old) }
         ensures refused { IfErr result
-            (λ e. Refuses (first_applicable_rewrite (patterns_of candidates.now) (held self.old) op) (full self.new) e) }
+            (λ e. Refuses ((model_of entries.now).comes (held self.old) op) (full self.new) e) }
         ensures noted { OnOk result
             (marks self.old ≢ [] → (events self.old ≤ events self.new)
             × (before self.new (events self.old) ≡ held self.old)) }

@@ -17,7 +17,6 @@ mod parents;
 pub mod pattern_set;
 mod push;
 mod reach;
-pub mod rules;
 pub mod run;
 pub mod tracer;
 mod users;

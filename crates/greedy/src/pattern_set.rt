@@ -1,6 +1,7 @@
 //! The rules and user patterns that a run tries.
 
-use crate::rules::RuleSet;
+use ir_event::types::ids::OpId;
+use patterns::rules_by_name::RulesByName;
 use patterns_base::rule::Rule;
 use user_patterns_data::pattern::Pattern;
 
@@ -11,11 +12,21 @@ pub enum RuleOrPattern<'a> {
     UserPattern(&'a Pattern),
 }
 
-/// What a run tries at each operation, in order.
+/// What a run tries at an operation, in order.
 #[derive(Clone, Copy)]
-pub enum PatternSet<'a> {
-    /// Only rules.
-    Rules(RuleSet<'a>),
-    /// Rules and user patterns.
+pub enum Entries<'a> {
+    /// The rules of canonicalization, by ascending number.
+    Canonicalization,
+    /// The rules of a list.
+    Rules(&'a RulesByName<'a>),
+    /// The rules and user patterns of a list.
     Patterns(&'a [RuleOrPattern<'a>]),
+}
+
+/// What a run tries, and where.
+#[derive(Clone, Copy)]
+pub struct PatternSet<'a> {
+    pub entries: Entries<'a>,
+    /// The only operation at which the run tries the entries, or `None` if it tries them at all operations.
+    pub at: Option<OpId>,
 }

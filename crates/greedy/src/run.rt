@@ -5,13 +5,11 @@ ghost use Rattle.ir_event.specs.types.declared.refusal.Refusal.TheVariants.{Memo
 ghost use Rattle.ir_event.specs.trees.Ids.{has_id};
 ghost use Rattle.ir_event.specs.trees.Tree.{head};
 ghost use Rattle.ir_event.specs.tree_laws.Reads.{precedes};
-ghost use Rattle.patterns_base.specs.Canonicalization.{greedy_rules};
-ghost use Rattle.patterns.specs.Rows.{AreCanonical};
-ghost use Rattle.greedy.specs.Outcomes.{Applied, ComeTo, IsCanonical, IsReason, IsReasonBy, IsRewriting, Refuses, Stop};
+ghost use Rattle.greedy.specs.Outcomes.{Applied, ComeTo, IsReasonBy, IsRewriting, Refuses, Stop};
 ghost use Rattle.greedy.specs.Outcomes.{MarksRewrite};
 ghost use Rattle.greedy.specs.Rewriting.{next_by};
-ghost use Rattle.greedy.specs.Ruled.{MayTry, pattern_set_of};
-ghost use Rattle.greedy.specs.PatternSet.{MayUseAll, PatternSetModel, patterns_of, pattern_set_from, by_rules};
+ghost use Rattle.greedy.specs.Ruled.{IsReady, MayTry, model_of, pattern_set_of};
+ghost use Rattle.greedy.specs.PatternSet.{PatternSetModel, only_at};
 ghost use Rattle.greedy.specs.Applications.{StaysAway};
 ghost use Rattle.patterns.specs.rewriter.Moves.{Recorded};
 ghost use Rattle.patterns.specs.runs.Runs.{Noted};
@@ -21,17 +19,13 @@ ghost use Rattle.greedy.specs.Listing.{TouchedUpTo};
 ghost use Rattle.greedy.specs.Tracing.{applied_next, trace_of};
 
 use crate::applied_rewrite::AppliedRewrite;
-use crate::first::apply_first;
 use crate::greedy_rewriter::GreedyRewriter;
 use crate::outcome::Outcome;
-use crate::pattern_set::{PatternSet, RuleOrPattern};
-use crate::rules::RuleSet;
-use crate::tracer::{NoTracer, Tracer};
+use crate::pattern_set::{Entries, PatternSet};
+use crate::tracer::Tracer;
 use crate::worklist::{Site, Worklist, drop_erased, is_apart, pop, push};
 use ir_event::types::ids::OpId;
 use ir_event::types::refusal::Refusal;
-use patterns::rules_by_name::RulesByName;
-use patterns_base::rule::Rule;
 use std::alloc::Global;
 use std::mem;
 
@@ -145,26 +139,25 @@ fn preceding_of<R: GreedyRewriter>(bench: &R, passed: OpId, now: OpId, op: OpId)
     Some(passed)
 }
 
-/// Makes one rewrite: at the first operation in pre-order at which an entry of the pattern set applies, with the first
-/// such entry. Returns the record of the rewrite, or `None` if no entry applies at any operation.
+/// Makes one rewrite: at the first operation in pre-order at which an entry applies, with the first such entry. Returns
+/// the record of the rewrite, or `None` if no entry applies at any operation.
 fn one<R: GreedyRewriter>(
     alloc: Global,
     bench: &mut R,
-    pattern_set: &PatternSet<'_>,
+    entries: &Entries<'_>,
     work: &mut Worklist,
-    examined: &mut u64,
 ) -> Result<Option<AppliedRewrite>, Refusal>
     requires marked { R.marks bench.old ≢ [] }
-    requires ruled { MayTry pattern_set.now }
-    requires right { Right (pattern_set_of pattern_set.now) work.old.passed work.old.again.items (R.held bench.old) }
+    requires ruled { MayTry entries.now }
+    requires right { Right (model_of entries.now) work.old.passed work.old.again.items (R.held bench.old) }
     ensures ok { IfOk result
-        (λ f. Applied (next_by (pattern_set_of pattern_set.now) (R.held bench.old)) (is_some f) (R.held bench.old)
+        (λ f. Applied (next_by (model_of entries.now) (R.held bench.old)) (is_some f) (R.held bench.old)
         (R.held bench.new)) }
-    ensures applied { IfOk result (λ f. f ≡ applied_next (pattern_set_of pattern_set.now) (R.held bench.old)) }
+    ensures applied { IfOk result (λ f. f ≡ applied_next (model_of entries.now) (R.held bench.old)) }
     ensures refused { IfErr result
-        (λ e. Refuses (next_by (pattern_set_of pattern_set.now) (R.held bench.old)) (R.full bench.new) e) }
+        (λ e. Refuses (next_by (model_of entries.now) (R.held bench.old)) (R.full bench.new) e) }
     ensures right { IfOk result (λ f. is_some f ≡ true
-        → Right (pattern_set_of pattern_set.now) work.new.passed work.new.again.items (R.held bench.new)) }
+        → Right (model_of entries.now) work.new.passed work.new.again.items (R.held bench.new)) }
     ensures marks { R.marks bench.new ≡ R.marks bench.old }
     ensures journal { Noted (R.transaction bench.old) (R.transaction bench.new) }
     ensures onward { R.onward bench.old bench.new }
@@ -175,11 +168,10 @@ fn one<R: GreedyRewriter>(
         let passed = last;
         last = work.passed;
         if let Some(before) = preceding_of(bench, passed, last, op) {
-            *examined = examined.saturating_add(1);
             let from = bench.journal_len();
             let next = bench.next_id();
             let apart = is_apart(bench, work, op);
-            match apply_first(alloc, bench, pattern_set, op) {
+            match bench.apply_first(alloc, entries, op) {
                 Ok(Some(by)) => {
                     let stays = bench.in_tree(op);
                     let applied = AppliedRewrite {
@@ -208,6 +200,73 @@ fn one<R: GreedyRewriter>(
     Ok(None)
 }
 
+/// Makes one rewrite at `op`, with the first entry that applies there. Returns the record of the rewrite, or `None` if no
+/// entry applies or the operation isn't in the module.
+fn one_at<R: GreedyRewriter>(
+    alloc: Global,
+    bench: &mut R,
+    entries: &Entries<'_>,
+    op: OpId,
+) -> Result<Option<AppliedRewrite>, Refusal>
+    requires { MayTry entries.now }
+    ensures ok { IfOk result
+        (λ f. Applied (next_by (only_at op (model_of entries.now)) (R.held bench.old)) (is_some f) (R.held bench.old)
+        (R.held bench.new)) }
+    ensures applied { IfOk result (λ f. f ≡ applied_next (only_at op (model_of entries.now)) (R.held bench.old)) }
+    ensures refused { IfErr result
+        (λ e. Refuses (next_by (only_at op (model_of entries.now)) (R.held bench.old)) (R.full bench.new) e) }
+    ensures marks { R.marks bench.new ≡ R.marks bench.old }
+    ensures journal { Noted (R.transaction bench.old) (R.transaction bench.new) }
+    ensures onward { R.onward bench.old bench.new }
+{
+    if !bench.in_tree(op) {
+        return Ok(None);
+    }
+    let from = bench.next_id();
+    match bench.apply_first(alloc, entries, op) {
+        Ok(Some(by)) => {
+            let stays = bench.in_tree(op);
+            Ok(Some(AppliedRewrite {
+                by,
+                op,
+                from,
+                until: bench.next_id(),
+                stays,
+            }))
+        }
+        Ok(None) => Ok(None),
+        Err(refusal) => Err(refusal),
+    }
+}
+
+/// Makes the next rewrite of a run. Returns its record, or `None` if no entry of the pattern set applies.
+fn next<R: GreedyRewriter>(
+    alloc: Global,
+    bench: &mut R,
+    pattern_set: &PatternSet<'_>,
+    work: &mut Worklist,
+) -> Result<Option<AppliedRewrite>, Refusal>
+    requires marked { R.marks bench.old ≢ [] }
+    requires ruled { MayTry pattern_set.now.entries }
+    requires right { IsReady pattern_set.now work.old.passed work.old.again.items (R.held bench.old) }
+    ensures ok { IfOk result
+        (λ f. Applied (next_by (pattern_set_of pattern_set.now) (R.held bench.old)) (is_some f) (R.held bench.old)
+        (R.held bench.new)) }
+    ensures applied { IfOk result (λ f. f ≡ applied_next (pattern_set_of pattern_set.now) (R.held bench.old)) }
+    ensures refused { IfErr result
+        (λ e. Refuses (next_by (pattern_set_of pattern_set.now) (R.held bench.old)) (R.full bench.new) e) }
+    ensures right { IfOk result (λ f. is_some f ≡ true
+        → IsReady pattern_set.now work.new.passed work.new.again.items (R.held bench.new)) }
+    ensures marks { R.marks bench.new ≡ R.marks bench.old }
+    ensures journal { Noted (R.transaction bench.old) (R.transaction bench.new) }
+    ensures onward { R.onward bench.old bench.new }
+{
+    match pattern_set.at {
+        None => one(alloc, bench, &pattern_set.entries, work),
+        Some(op) => one_at(alloc, bench, &pattern_set.entries, op),
+    }
+}
+
 /// Converts the refusal of an attempt. Every refusal but `Memory` means that an entry of the pattern set applies.
 fn applies_or_memory(refusal: Refusal) -> Result<bool, Refusal>
     ensures ok { IfOk result (λ any. (any ≡ true) × (refusal ≢ NoMemory)) }
@@ -219,16 +278,15 @@ fn applies_or_memory(refusal: Refusal) -> Result<bool, Refusal>
     }
 }
 
-/// Returns whether an entry of the pattern set applies at any operation. The module is restored afterwards.
+/// Returns whether an entry of the pattern set applies. The module is restored afterwards.
 fn applies<R: GreedyRewriter>(
     alloc: Global,
     bench: &mut R,
     pattern_set: &PatternSet<'_>,
     work: &mut Worklist,
-    examined: &mut u64,
 ) -> Result<bool, Refusal>
-    requires ruled { MayTry pattern_set.now }
-    requires right { Right (pattern_set_of pattern_set.now) work.old.passed work.old.again.items (R.held bench.old) }
+    requires ruled { MayTry pattern_set.now.entries }
+    requires right { IsReady pattern_set.now work.old.passed work.old.again.items (R.held bench.old) }
     ensures ok { IfOk result (λ any. MarksRewrite (next_by (pattern_set_of pattern_set.now) (R.held bench.old)) any) }
     ensures held { R.held bench.new ≡ R.held bench.old }
     ensures marks { R.marks bench.new ≡ R.marks bench.old }
@@ -240,7 +298,7 @@ fn applies<R: GreedyRewriter>(
         Ok(()) => {}
         Err(_) => return Err(Refusal::Memory),
     }
-    let done = one(alloc, bench, pattern_set, work, examined);
+    let done = next(alloc, bench, pattern_set, work);
     bench.rollback();
     match done {
         Ok(applied) => Ok(applied.is_some()),
@@ -254,13 +312,12 @@ fn rewrites<R: GreedyRewriter, T: Tracer>(
     bench: &mut R,
     pattern_set: &PatternSet<'_>,
     work: &mut Worklist,
-    examined: &mut u64,
     limit: u32,
     trace: &mut T,
 ) -> Result<Outcome, Refusal>
     requires marked { R.marks bench.old ≢ [] }
-    requires ruled { MayTry pattern_set.now }
-    requires right { Right (pattern_set_of pattern_set.now) work.old.passed work.old.again.items (R.held bench.old) }
+    requires ruled { MayTry pattern_set.now.entries }
+    requires right { IsReady pattern_set.now work.old.passed work.old.again.items (R.held bench.old) }
     ensures ok { IfOk result (λ o. ComeTo (pattern_set_of pattern_set.now) limit (R.held bench.old) o (R.held bench.new)) }
     ensures trace { OnOk result (T.traced (trace_of (pattern_set_of pattern_set.now) limit (R.held bench.old)) trace.old trace.new) }
     ensures refused { IfErr result (λ e. Stop (pattern_set_of pattern_set.now) limit (R.held bench.old) (R.full bench.new) e) }
@@ -270,7 +327,7 @@ fn rewrites<R: GreedyRewriter, T: Tracer>(
 {
     let mut count = 0;
     'rewrites: while count < limit {
-        match one(alloc, bench, pattern_set, work, examined) {
+        match next(alloc, bench, pattern_set, work) {
             Ok(Some(applied)) => match trace.record_rewrite(applied) {
                 Ok(()) => {}
                 Err(refusal) => return Err(refusal),
@@ -280,7 +337,7 @@ fn rewrites<R: GreedyRewriter, T: Tracer>(
         }
         count += 1;
     }
-    match applies(alloc, bench, pattern_set, work, examined) {
+    match applies(alloc, bench, pattern_set, work) {
         Ok(true) => Ok(Outcome::Limit(count)),
         Ok(false) => Ok(Outcome::Converged(count)),
         Err(_) => Err(Refusal::Memory),
@@ -292,12 +349,11 @@ fn rewritten<R: GreedyRewriter, T: Tracer>(
     alloc: Global,
     bench: &mut R,
     pattern_set: &PatternSet<'_>,
-    examined: &mut u64,
     limit: u32,
     trace: &mut T,
 ) -> Result<Outcome, Refusal>
     requires marked { R.marks bench.old ≢ [] }
-    requires ruled { MayTry pattern_set.now }
+    requires ruled { MayTry pattern_set.now.entries }
     ensures ok { IfOk result (λ o. ComeTo (pattern_set_of pattern_set.now) limit (R.held bench.old) o (R.held bench.new)) }
     ensures trace { OnOk result (T.traced (trace_of (pattern_set_of pattern_set.now) limit (R.held bench.old)) trace.old trace.new) }
     ensures refused { IfErr result (λ e. Stop (pattern_set_of pattern_set.now) limit (R.held bench.old) (R.full bench.new) e) }
@@ -311,21 +367,24 @@ fn rewritten<R: GreedyRewriter, T: Tracer>(
         again: Vec::new(alloc),
         near: Vec::new(alloc),
     };
-    rewrites(alloc, bench, pattern_set, &mut work, examined, limit, trace)
+    rewrites(alloc, bench, pattern_set, &mut work, limit, trace)
 }
 
 /// Applies the pattern set until no entry applies, or until `limit` rewrites are made. Each step takes the first
 /// operation in pre-order at which an entry applies, and applies the first such entry. Passes each rewrite to `trace`.
-/// Returns the outcome and the number of operations that the run examined. If the run is refused, nothing changes.
-pub fn run_patterns_traced<R: GreedyRewriter, T: Tracer>(
+/// If the run is refused, nothing changes, and the recorded rewrites mean nothing.
+///
+/// Errors: `BadLimit` if the limit isn't within 1 to 1,000,000; `Full` or `IdsExhausted` if a rewrite would exceed the
+/// limit of operations or of ids; `Full` if the context is full; `Memory` if memory runs out.
+pub fn run<R: GreedyRewriter, T: Tracer>(
     alloc: Global,
     bench: &mut R,
     pattern_set: &PatternSet<'_>,
     limit: u32,
     trace: &mut T,
-) -> Result<(Outcome, u64), Refusal>
-    requires { MayTry pattern_set.now }
-    ensures ok { IfOk result (λ o. IsRewriting (pattern_set_of pattern_set.now) limit (R.held bench.old) o.0 (R.held bench.new)) }
+) -> Result<Outcome, Refusal>
+    requires { MayTry pattern_set.now.entries }
+    ensures ok { IfOk result (λ o. IsRewriting (pattern_set_of pattern_set.now) limit (R.held bench.old) o (R.held bench.new)) }
     ensures trace { OnOk result (T.traced (trace_of (pattern_set_of pattern_set.now) limit (R.held bench.old)) trace.old trace.new) }
     ensures err { OnErr result (R.held bench.new ≡ R.held bench.old) }
     ensures refused { IfErr result
@@ -342,209 +401,14 @@ pub fn run_patterns_traced<R: GreedyRewriter, T: Tracer>(
         Ok(()) => {}
         Err(_) => return Err(Refusal::Memory),
     }
-    let mut examined = 0;
-    match rewritten(alloc, bench, pattern_set, &mut examined, limit, trace) {
+    match rewritten(alloc, bench, pattern_set, limit, trace) {
         Ok(outcome) => {
             bench.commit();
-            Ok((outcome, examined))
+            Ok(outcome)
         }
         Err(refusal) => {
             bench.rollback();
             Err(refusal)
         }
-    }
-}
-
-/// Applies the pattern set until no entry applies, or until `limit` rewrites are made. Each step takes the first
-/// operation in pre-order at which an entry applies, and applies the first such entry. Returns the outcome and the
-/// number of operations that the run examined. If the run is refused, nothing changes.
-pub fn run_patterns_limited<R: GreedyRewriter>(
-    alloc: Global,
-    bench: &mut R,
-    pattern_set: &PatternSet<'_>,
-    limit: u32,
-) -> Result<(Outcome, u64), Refusal>
-    requires { MayTry pattern_set.now }
-    ensures ok { IfOk result (λ o. IsRewriting (pattern_set_of pattern_set.now) limit (R.held bench.old) o.0 (R.held bench.new)) }
-    ensures err { OnErr result (R.held bench.new ≡ R.held bench.old) }
-    ensures refused { IfErr result
-        (λ e. IsReasonBy (pattern_set_of pattern_set.now) limit (R.held bench.old) (R.full bench.new) e) }
-    ensures marks { R.marks bench.new ≡ R.marks bench.old }
-    ensures journal { MatchResult result (λ _. Noted (R.transaction bench.old) (R.transaction bench.new))
-        (λ _. Recorded [] (R.transaction bench.old) (R.transaction bench.new)) }
-    ensures onward { R.onward bench.old bench.new }
-{
-    match run_patterns_traced(alloc, bench, pattern_set, limit, &mut NoTracer) {
-        Ok(counted) => Ok(counted),
-        Err(refusal) => Err(refusal),
-    }
-}
-
-/// Applies the rules of a list until none applies, or until `limit` rewrites are made. Each step takes the first
-/// operation in pre-order at which a rule applies, and applies the first such rule of the list. Passes each rewrite to
-/// `trace`. If the run is refused, nothing changes.
-pub fn run_list_traced<R: GreedyRewriter, T: Tracer>(
-    alloc: Global,
-    bench: &mut R,
-    rules: &[Rule],
-    limit: u32,
-    trace: &mut T,
-) -> Result<Outcome, Refusal>
-    requires { AreCanonical rules.now }
-    ensures ok { IfOk result (λ o. IsRewriting (by_rules rules.now) limit (R.held bench.old) o (R.held bench.new)) }
-    ensures trace { OnOk result (T.traced (trace_of (by_rules rules.now) limit (R.held bench.old)) trace.old trace.new) }
-    ensures err { OnErr result (R.held bench.new ≡ R.held bench.old) }
-    ensures refused { IfErr result (λ e. IsReasonBy (by_rules rules.now) limit (R.held bench.old) (R.full bench.new) e) }
-    ensures marks { R.marks bench.new ≡ R.marks bench.old }
-    ensures journal { MatchResult result (λ _. Noted (R.transaction bench.old) (R.transaction bench.new))
-        (λ _. Recorded [] (R.transaction bench.old) (R.transaction bench.new)) }
-    ensures onward { R.onward bench.old bench.new }
-{
-    if limit < 1 || limit > 1_000_000 {
-        return Err(Refusal::BadLimit);
-    }
-    let Ok(rows) = RulesByName::new(alloc, rules) else {
-        return Err(Refusal::Memory);
-    };
-    match run_patterns_traced(
-        alloc,
-        bench,
-        &PatternSet::Rules(RuleSet::List(&rows)),
-        limit,
-        trace,
-    ) {
-        Ok((outcome, _)) => Ok(outcome),
-        Err(refusal) => Err(refusal),
-    }
-}
-
-/// Applies the rules of a list until none applies, or until `limit` rewrites are made. Each step takes the first
-/// operation in pre-order at which a rule applies, and applies the first such rule of the list. If the run is refused,
-/// nothing changes.
-pub fn run_list<R: GreedyRewriter>(
-    alloc: Global,
-    bench: &mut R,
-    rules: &[Rule],
-    limit: u32,
-) -> Result<Outcome, Refusal>
-    requires { AreCanonical rules.now }
-    ensures ok { IfOk result (λ o. IsRewriting (by_rules rules.now) limit (R.held bench.old) o (R.held bench.new)) }
-    ensures err { OnErr result (R.held bench.new ≡ R.held bench.old) }
-    ensures refused { IfErr result (λ e. IsReasonBy (by_rules rules.now) limit (R.held bench.old) (R.full bench.new) e) }
-    ensures marks { R.marks bench.new ≡ R.marks bench.old }
-    ensures journal { MatchResult result (λ _. Noted (R.transaction bench.old) (R.transaction bench.new))
-        (λ _. Recorded [] (R.transaction bench.old) (R.transaction bench.new)) }
-    ensures onward { R.onward bench.old bench.new }
-{
-    run_list_traced(alloc, bench, rules, limit, &mut NoTracer)
-}
-
-/// Applies the rules and user patterns of a list until none applies, or until `limit` rewrites are made. Each step
-/// takes the first operation in pre-order at which an entry applies, and applies the first such entry. Passes each
-/// rewrite to `trace`. If the run is refused, nothing changes.
-pub fn run_list_of_patterns_traced<R: GreedyRewriter, T: Tracer>(
-    alloc: Global,
-    bench: &mut R,
-    candidates: &[RuleOrPattern<'_>],
-    limit: u32,
-    trace: &mut T,
-) -> Result<Outcome, Refusal>
-    requires { MayUseAll (patterns_of candidates.now) }
-    ensures ok { IfOk result
-        (λ o. IsRewriting (pattern_set_from (patterns_of candidates.now)) limit (R.held bench.old) o (R.held bench.new)) }
-    ensures trace { OnOk result
-        (T.traced (trace_of (pattern_set_from (patterns_of candidates.now)) limit (R.held bench.old)) trace.old trace.new) }
-    ensures err { OnErr result (R.held bench.new ≡ R.held bench.old) }
-    ensures refused { IfErr result
-        (λ e. IsReasonBy (pattern_set_from (patterns_of candidates.now)) limit (R.held bench.old) (R.full bench.new) e) }
-    ensures marks { R.marks bench.new ≡ R.marks bench.old }
-    ensures journal { MatchResult result (λ _. Noted (R.transaction bench.old) (R.transaction bench.new))
-        (λ _. Recorded [] (R.transaction bench.old) (R.transaction bench.new)) }
-    ensures onward { R.onward bench.old bench.new }
-{
-    match run_patterns_traced(
-        alloc,
-        bench,
-        &PatternSet::Patterns(candidates),
-        limit,
-        trace,
-    ) {
-        Ok((outcome, _)) => Ok(outcome),
-        Err(refusal) => Err(refusal),
-    }
-}
-
-/// Applies the rules of canonicalization until none applies, or until `limit` rewrites are made. Each step takes the
-/// first operation in pre-order at which a rule applies, and applies the highest-priority rule. Passes each rewrite to
-/// `trace`. If the run is refused, nothing changes.
-pub fn run_traced<R: GreedyRewriter, T: Tracer>(
-    alloc: Global,
-    bench: &mut R,
-    limit: u32,
-    trace: &mut T,
-) -> Result<Outcome, Refusal>
-    ensures ok { IfOk result (λ o. IsCanonical limit (R.held bench.old) o (R.held bench.new)) }
-    ensures trace { OnOk result (T.traced (trace_of (by_rules greedy_rules) limit (R.held bench.old)) trace.old trace.new) }
-    ensures err { OnErr result (R.held bench.new ≡ R.held bench.old) }
-    ensures refused { IfErr result (λ e. IsReason limit (R.held bench.old) (R.full bench.new) e) }
-    ensures marks { R.marks bench.new ≡ R.marks bench.old }
-    ensures journal { MatchResult result (λ _. Noted (R.transaction bench.old) (R.transaction bench.new))
-        (λ _. Recorded [] (R.transaction bench.old) (R.transaction bench.new)) }
-    ensures onward { R.onward bench.old bench.new }
-{
-    match run_patterns_traced(
-        alloc,
-        bench,
-        &PatternSet::Rules(RuleSet::Canonicalization),
-        limit,
-        trace,
-    ) {
-        Ok((outcome, _)) => Ok(outcome),
-        Err(refusal) => Err(refusal),
-    }
-}
-
-/// Applies the rules of canonicalization until none applies, or until `limit` rewrites are made. Each step takes the
-/// first operation in pre-order at which a rule applies, and applies the highest-priority rule. Returns the outcome
-/// and the number of operations that the run examined. If the run is refused, nothing changes.
-pub fn run_limited<R: GreedyRewriter>(
-    alloc: Global,
-    bench: &mut R,
-    limit: u32,
-) -> Result<(Outcome, u64), Refusal>
-    ensures ok { IfOk result (λ o. IsCanonical limit (R.held bench.old) o.0 (R.held bench.new)) }
-    ensures err { OnErr result (R.held bench.new ≡ R.held bench.old) }
-    ensures refused { IfErr result (λ e. IsReason limit (R.held bench.old) (R.full bench.new) e) }
-    ensures marks { R.marks bench.new ≡ R.marks bench.old }
-    ensures journal { MatchResult result (λ _. Noted (R.transaction bench.old) (R.transaction bench.new))
-        (λ _. Recorded [] (R.transaction bench.old) (R.transaction bench.new)) }
-    ensures onward { R.onward bench.old bench.new }
-{
-    match run_patterns_limited(
-        alloc,
-        bench,
-        &PatternSet::Rules(RuleSet::Canonicalization),
-        limit,
-    ) {
-        Ok(counted) => Ok(counted),
-        Err(refusal) => Err(refusal),
-    }
-}
-
-/// Applies the rules of canonicalization until none applies, or until `limit` rewrites are made. Each step takes the
-/// first operation in pre-order at which a rule applies, and applies the highest-priority rule. If the run is refused,
-/// nothing changes.
-pub fn run<R: GreedyRewriter>(alloc: Global, bench: &mut R, limit: u32) -> Result<Outcome, Refusal>
-    ensures ok { IfOk result (λ o. IsCanonical limit (R.held bench.old) o (R.held bench.new)) }
-    ensures err { OnErr result (R.held bench.new ≡ R.held bench.old) }
-    ensures refused { IfErr result (λ e. IsReason limit (R.held bench.old) (R.full bench.new) e) }
-    ensures marks { R.marks bench.new ≡ R.marks bench.old }
-    ensures journal { MatchResult result (λ _. Noted (R.transaction bench.old) (R.transaction bench.new))
-        (λ _. Recorded [] (R.transaction bench.old) (R.transaction bench.new)) }
-    ensures onward { R.onward bench.old bench.new }
-{
-    match run_limited(alloc, bench, limit) {
-        Ok((outcome, _)) => Ok(outcome),
-        Err(refusal) => Err(refusal),
     }
 }

@@ -15,9 +15,11 @@ ghost use Rattle.mlir_work_transforms.specs.Transforming.{MayTransform, lines_be
 use crate::rewrite_lines::RewriteLines;
 use crate::rule_choice::RuleChoice;
 use conversion::rewriter::Bench;
-use greedy::bench::{canonicalize_traced, rewrite_traced, rewrite_with_patterns_traced};
-use greedy::laws::{each_rewrite_is_traced, rewriting_by_its_rules_is_canonicalization};
+use conversion::rewriter::laws::led_benches_are_kept;
+use greedy::bench::rewrite;
 use greedy::outcome::Outcome;
+use greedy::pattern_set::{Entries, PatternSet};
+use greedy::patterns::rules_by_name::RulesByName;
 use ir_event::analysis::Analysis;
 use ir_event::types::refusal::Refusal;
 use std::alloc::Global;
@@ -40,17 +42,38 @@ fn run<L: Analysis>(
     ensures led { Led L.meaning bench.old bench.new }
     ensures grows { IsExtendedBy bench.old.transaction.ctx bench.new.transaction.ctx }
 {
+    led_benches_are_kept::<L>();
+    bench.is_wellformed();
     match rules {
-        RuleChoice::Canonical => canonicalize_traced(alloc, bench, limit, lines),
-        RuleChoice::Listed(rules) => rewrite_traced(alloc, bench, rules, limit, lines),
-        RuleChoice::WithPatterns(list) => rewrite_with_patterns_traced(
-            alloc, bench, list, limit, lines,
-        ),
+        RuleChoice::Canonical => {
+            let pattern_set = PatternSet {
+                entries: Entries::Canonicalization,
+                at: None,
+            };
+            rewrite(alloc, bench, &pattern_set, limit, lines)
+        }
+        RuleChoice::Listed(rules) => match RulesByName::new(alloc, rules) {
+            Ok(rows) => {
+                let pattern_set = PatternSet {
+                    entries: Entries::Rules(&rows),
+                    at: None,
+                };
+                rewrite(alloc, bench, &pattern_set, limit, lines)
+            }
+            Err(_) => Err(Refusal::Memory),
+        },
+        RuleChoice::WithPatterns(list) => {
+            let pattern_set = PatternSet {
+                entries: Entries::Patterns(list),
+                at: None,
+            };
+            rewrite(alloc, bench, &pattern_set, limit, lines)
+        }
     }
 }
 
-/// Rewrites the module by the chosen rules as `greedy::bench` does, at most as many times as the limit of `lines`
-/// allows, and appends the lines of their form. After a refusal the appended lines have no meaning.
+/// Rewrites the module by the chosen rules as `greedy::bench::rewrite` does, at most as many times as the limit of
+/// `lines` allows, and appends the lines of their form. After a refusal the appended lines have no meaning.
 ///
 /// Errors: `BadLimit` if the limit isn't from 1 to 1,000,000; `Full` and `IdsExhausted` if a rewrite is refused with
 /// them; `Full` if the context is full; `Memory`.
@@ -71,8 +94,6 @@ pub fn transform<L: Analysis>(
     ensures led { Led L.meaning bench.old bench.new }
     ensures grows { IsExtendedBy bench.old.transaction.ctx bench.new.transaction.ctx }
 {
-    each_rewrite_is_traced();
-    rewriting_by_its_rules_is_canonicalization();
     let called = run(alloc, bench, rules, lines.limit, lines);
     lines.end(&called);
     called

@@ -7,7 +7,7 @@ ghost use Rattle.mlir_work_transforms.specs.TraceText.{rule_text};
 ghost use Rattle.mlir_work_transforms.specs.WhyText.{rules_to_explain, verdict, why_line, why_lines};
 
 use crate::trace_lines::{write_op, write_rule};
-use conversion::reasons::listed::rules_at;
+use conversion::reasons::listed_rules::rules_at;
 use conversion::reasons::match_failure::failing_reason;
 use conversion::reasons::reason::Reason;
 use greedy::patterns::rule::Rule;

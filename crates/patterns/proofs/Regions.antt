@@ -5,24 +5,16 @@ use Rattle.ir_event.specs.trees.Tree.{head}
 use Rattle.ir_event.specs.trees.Ids.{find}
 use Rattle.ir_event.specs.trees.Meaning.{Operation}
 use Rattle.patterns_lowering.specs.Contents.{Edit}
-use Rattle.patterns_soundness.specs.base.Keeps.{given}
+use Rattle.patterns_lowering.specs.region_rules.RegionRules.{stop_loop_at}
 use Rattle.patterns_plans.specs.reads.Reads.{head_at}
+use Rattle.patterns_soundness.specs.base.Keeps.{given}
 use Rattle.patterns_soundness.specs.base.Looks.{Header}
 use Rattle.patterns_soundness.specs.base.Opening.{open_branch, open_loop, stop_loop}
 use Rattle.patterns_soundness.specs.base.Rules.{rule}
 use Rattle.patterns_soundness.specs.base.declared.rule.Rule.{Rule}
 use Rattle.patterns_soundness.specs.base.declared.rule.Rule.TheVariants.{OpenBranch, OpenLoop, StopLoop}
-use Rattle.patterns_lowering.specs.region_rules.RegionRules.{open_branch_at, open_loop_at, stop_loop_at}
 
 module _ (t : Operation) (n : ℕ) (insertion : Place) (x : ℕ) (o : Operation) (is : find x t ≡ Some o) (p : Option (List Edit)) (r : Rule) where
-  pub when_open_branch : r ≡ OpenBranch → p ≡ open_branch_at x t insertion → p ≡ rule r t n insertion o
-  unfolding rule
-  when_open_branch k e = e ∙ ap (λ z. given z (λ o. open_branch t insertion o)) is ∙ ap (λ r. rule r t n insertion o) (sym k)
-
-  pub when_open_loop : r ≡ OpenLoop → p ≡ open_loop_at x t insertion → p ≡ rule r t n insertion o
-  unfolding rule
-  when_open_loop k e = e ∙ ap (λ z. given z (λ o. open_loop t insertion o)) is ∙ ap (λ r. rule r t n insertion o) (sym k)
-
   pub when_stop_loop : r ≡ StopLoop → p ≡ stop_loop_at x t insertion → p ≡ rule r t n insertion o
   unfolding rule
   when_stop_loop k e = e ∙ ap (λ z. given z (λ o. stop_loop t insertion o)) is ∙ ap (λ r. rule r t n insertion o) (sym k)

@@ -14,7 +14,6 @@ use Rattle.patterns_soundness.specs.base.Rules.{rule}
 use Rattle.patterns_soundness.specs.base.declared.rule.Rule.{Rule}
 use Rattle.patterns_soundness.specs.base.Rewrites.{becomes, refused, carried_out}
 use Rattle.patterns_lowering.specs.Interning.{IsFull}
-use Rattle.patterns_plans.specs.reads.declared.plan.RewritePlan.{RewritePlan}
 use Rattle.patterns_plans.specs.reads.Plans.{PlanIsOf, plan_meaning}
 use Rattle.patterns_lowering.specs.Meanings.{lowering_meaning}
 use Rattle.patterns_lowering.specs.Plans.{LoweringIsOf}
@@ -40,12 +39,6 @@ abbrev pub planned_edits : ContextModel → ℕ → ℕ → PlacedPlan → List 
 planned_edits c n x p = made_edits c n x p.point p.made
 
 -- a plan, or none, is that of rule r at operation x after a place, if x is in the module
-abbrev pub IsPlanFor : Rule → World → ℕ → Place → Option RewritePlan → Type 0
-IsPlanFor r w x point p = (o : Operation) → find x (module_in w).tree ≡ Some o
-    → option_map (plan_meaning w.ctx (module_in w).next x point) p
-    ≡ rule r (module_in w).tree (module_in w).next point o
-
--- a plan, or none, is that of rule r at operation x
 abbrev pub IsMadeFor : Rule → World → ℕ → Place → Option RulePlan → Type 0
 IsMadeFor r w x point p = (o : Operation) → find x (module_in w).tree ≡ Some o
     → option_map (made_edits w.ctx (module_in w).next x point) p ≡ rule r (module_in w).tree (module_in w).next point o

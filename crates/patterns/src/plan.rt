@@ -8,9 +8,8 @@ ghost use Rattle.patterns_soundness.specs.base.RuleNames.{is_lowering};
 ghost use Rattle.patterns_soundness.specs.base.declared.rule.Rule.TheVariants.{EraseDead};
 ghost use Rattle.patterns_plans.specs.Planned.{IsDead};
 ghost use Rattle.patterns_lowering.specs.Planned.{IsVerifiedAt, IsLoweredAt};
-ghost use Rattle.patterns_plans.specs.reads.Plans.{PlanIsOf};
 ghost use Rattle.patterns_plans.specs.reads.Reads.{head_at, header_of_node};
-ghost use Rattle.patterns.specs.Planned.{IsMadeFor, IsPlanFor, MadeIsOf, made_edits, planned_edits};
+ghost use Rattle.patterns.specs.Planned.{IsMadeFor, MadeIsOf, made_edits, planned_edits};
 
 use ir_event::store::node::Node;
 use ir_event::trees::place::Place;
@@ -18,8 +17,7 @@ use ir_event::types::ids::OpId;
 use ir_event::world::World;
 use patterns_lowering::plan::Lowering;
 use patterns_lowering::plans::plan_lowered;
-use patterns_lowering::region_rules::plans::{plan_open_branch, plan_open_loop, plan_stop_loop};
-use patterns_plans::plan_rule::plan;
+use patterns_lowering::region_rules::plan_rule::plan;
 use patterns_plans::reads::eligibility::eligibility_of;
 use patterns_plans::reads::nodes::{insertion_point_before, op_node};
 use patterns_plans::reads::plan::RewritePlan;
@@ -42,31 +40,6 @@ pub struct PlacedPlan {
     pub made: RulePlan,
 }
 
-/// Plans a rule that doesn't lower, or returns `None` if it doesn't apply. `node` is what the store shows of the
-/// operation. The caller has checked that the operation is verified and comes after `point`.
-#[inline(always)]
-fn plan_of(
-    alloc: Global,
-    world: &World,
-    rule: Rule,
-    point: &Place,
-    op: OpId,
-    node: &Node<'_>,
-) -> Result<Option<RewritePlan>, AllocError>
-    requires rule { is_lowering rule ≡ false }
-    requires shown { Some (header_of_node world.now.ctx node.now) ≡ head_at op (module_in world.now).tree }
-    requires of { NodeIsOf world.now.ctx node.now }
-    ensures edits { IfOk result (IsPlanFor rule world.now op point.now) }
-    ensures of { IfOk result (λ p. IfSome p (PlanIsOf world.now.ctx)) }
-{
-    match rule {
-        Rule::OpenBranch => plan_open_branch(alloc, world, point, op),
-        Rule::OpenLoop => plan_open_loop(alloc, world, point, op),
-        Rule::StopLoop => plan_stop_loop(alloc, world, point, op),
-        _ => plan(alloc, world, rule, op, node),
-    }
-}
-
 /// Plans a lowering rule at a verified operation, or returns `None` if it doesn't apply. The function isn't inlined,
 /// since its result is large.
 #[inline(never)]
@@ -82,8 +55,8 @@ fn made_lowered(
     ensures of { IfOk result (λ p. IfSome p (MadeIsOf world.now.ctx)) }
 {
     match plan_lowered(alloc, world, rule, op)? {
-        Some(lowering) => Ok(Some(RulePlan::Lowering(Box::new(alloc, lowering)?))),
-        None => Ok(None),
+        Ok(lowering) => Ok(Some(RulePlan::Lowering(Box::new(alloc, lowering)?))),
+        Err(_) => Ok(None),
     }
 }
 
@@ -108,7 +81,7 @@ fn made_of(
     if rule.is_lowering() {
         return made_lowered(alloc, world, rule, op);
     }
-    match plan_of(alloc, world, rule, point, op, node)? {
+    match plan(alloc, world, rule, point, op, node)? {
         Some(plan) => Ok(Some(RulePlan::Rewrite(plan))),
         None => Ok(None),
     }

@@ -7,8 +7,8 @@ ghost use Rattle.patterns.specs.HighestPriority.{AreLikely, BeginsLikely, IsLeft
 use ir_event::store::node::Node;
 use ir_event::types::ids::OpId;
 use ir_event::world::World;
+use patterns_lowering::region_rules::dead::is_dead;
 use patterns_lowering::region_rules::tests::{may_choose, may_go_once, may_stop};
-use patterns_plans::dead::is_dead;
 use patterns_plans::quick_checks::may_match;
 use patterns_soundness::base::rule::Rule;
 

@@ -9,10 +9,10 @@ use Rattle.ir_event.specs.types.declared.refusal.Refusal.TheVariants.{Memory}
 use Rattle.ir_event.specs.declared.event.Event.{Event}
 use Rattle.ir_event.specs.Listener.{Listener}
 use Rattle.ir_event.specs.Modules.{Module}
-use Rattle.patterns_base.specs.Contents.{Edit, all_edited, edit_meaning, edit_reason, edited}
-use Rattle.patterns_base.specs.Edits as edit
-use Rattle.patterns_base.specs.Machine.{State, Do, Step, Commit, Rollback, Reply, Done, DoneAs, Refused, Nothing, Answer, Goes, due_edit, accepted}
-use Rattle.patterns_base.proofs.Answers.{accepted_gives, refused_leaves}
+use Rattle.patterns_soundness.specs.base.Contents.{Edit, all_edited, edit_meaning, edit_reason, edited}
+use Rattle.patterns_soundness.specs.base.Edits as edit
+use Rattle.patterns_soundness.specs.base.Machine.{State, Do, Step, Commit, Rollback, Reply, Done, DoneAs, Refused, Nothing, Answer, Goes, due_edit, accepted}
+use Rattle.patterns_soundness.proofs.of_base.Answers.{accepted_gives, refused_leaves}
 use Rattle.rewriter.specs.RewriterCalls.{Benched, Notified, Journaled, Led, reply_of, state_of}
 use Rattle.rewriter.specs.Held.{TransactionModel, module_held, open_marks}
 use Rattle.rewriter.specs.Moves.{Recorded}
@@ -20,11 +20,11 @@ use Rattle.rewriter.specs.Rolling.{Dropped}
 use Rattle.rewriter.proofs.Calls.{stepped, committed, rolled_back}
 use Rattle.rewriter.proofs.Noted.{recorded_undone}
 use Rattle.rewriter.proofs.OpenMarks.{open_none}
-use Rattle.patterns_base.specs.declared.edit.Edit.{Edit as Coded}
-use Rattle.patterns_base.specs.Lists.{AllFit, Fits, IsWhy, IsMadeOrRefused, edits_meaning, numbered}
+use Rattle.patterns_soundness.specs.base.declared.edit.Edit.{Edit as Coded}
+use Rattle.patterns_soundness.specs.base.Lists.{AllFit, Fits, IsWhy, IsMadeOrRefused, edits_meaning, numbered}
 use Rattle.patterns_lowering.specs.Runs.{Along, Noted}
 use Rattle.patterns_lowering.proofs.Journals.{marked_more, push_some, recorded_none, recorded_on, recorded_whole, surely}
-use Rattle.patterns_base.proofs.EditFacts.{edited_both, edits_more}
+use Rattle.patterns_soundness.proofs.of_base.EditFacts.{edited_both, edits_more}
 use Rattle.ir_event.proofs.of_types.Truths.{none_left, uncons}
 
 -- ---- one edit

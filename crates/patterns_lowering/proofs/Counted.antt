@@ -9,8 +9,8 @@ use Rattle.ir_event.specs.trees.declared.value.Value.TheVariants.{Result}
 use Rattle.ir_event.specs.trees.declared.place.Place.{Place}
 use Rattle.ir_event.specs.trees.Tree.{Op, op, head}
 use Rattle.ir_event.specs.trees.Meaning.{Operation, meaning}
-use Rattle.patterns_base.specs.Contents.{Edit}
-use Rattle.patterns_base.specs.Edits.{Make, Erase, Move}
+use Rattle.patterns_soundness.specs.base.Contents.{Edit}
+use Rattle.patterns_soundness.specs.base.Edits.{Make, Erase, Move}
 use Rattle.patterns_soundness.specs.base.Made.{i64, placeholder}
 use Rattle.patterns_soundness.specs.base.Makes.{results_from, arguments_from, replacing, replaced, moving, erasing, made_by}
 use Rattle.patterns_soundness.specs.base.Lowering.{before_in, next_to, bridges, brought, crossed, crossing, end_of, gathering, marked}

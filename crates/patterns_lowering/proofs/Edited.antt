@@ -7,8 +7,8 @@ use Rattle.ir_event.specs.trees.declared.place.Place.{Place}
 use Rattle.ir_event.specs.trees.Tree.{Op, op, head}
 use Rattle.ir_event.specs.trees.Meaning.{IsSoundIn, meaning}
 use Rattle.ir_event.proofs.of_trees.Meanings.{stable, stays_sound}
-use Rattle.patterns_base.specs.declared.edit.Edit.{Edit}
-use Rattle.patterns_base.specs.Lists.{AllFit, edits_meaning}
+use Rattle.patterns_soundness.specs.base.declared.edit.Edit.{Edit}
+use Rattle.patterns_soundness.specs.base.Lists.{AllFit, edits_meaning}
 use Rattle.patterns_soundness.specs.base.Lowering.{indices}
 use Rattle.patterns_lowering.specs.Lowered.{AreLowered, AreTypes}
 use Rattle.patterns_lowering.specs.Meanings.{operation_lowered}

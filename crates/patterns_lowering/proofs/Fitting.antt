@@ -15,8 +15,8 @@ use Rattle.ir_event.specs.trees.Meaning.{IsSoundIn, is_attr, is_name, is_type, k
 use Rattle.ir_event.specs.tree_laws.Reasons.{hold_none}
 use Rattle.patterns_soundness.specs.base.Looks.{is_index}
 use Rattle.patterns_soundness.specs.base.Makes.{results_from}
-use Rattle.patterns_base.specs.declared.edit.Edit.TheVariants.{Make, Erase}
-use Rattle.patterns_base.specs.Lists.{AllFit}
+use Rattle.patterns_soundness.specs.base.declared.edit.Edit.TheVariants.{Make, Erase}
+use Rattle.patterns_soundness.specs.base.Lists.{AllFit}
 use Rattle.patterns_soundness.specs.base.Lowering.{crossed, marked}
 use Rattle.patterns_lowering.specs.Lowered.{AreKnown, AreLowered, AreTypes}
 use Rattle.patterns_lowering.specs.Numbers.{cast_op, bridge_edits, replace_edits, type_lowered, regions_lowered, op_lowered, give_edits, operation_edits}

@@ -3,9 +3,9 @@ use Rattle.std.proofs.Common.{◌≡◌, sym, ◌∙◌, subst, List, [], ◌∷
 use Rattle.ir_event.specs.types.declared.refusal.Refusal.{Refusal}
 use Rattle.ir_event.specs.types.declared.refusal.Refusal.TheVariants.{Memory}
 use Rattle.ir_event.specs.Modules.{Module}
-use Rattle.patterns_base.specs.Contents.{Edit, all_edited, edit_reason, edited}
-use Rattle.patterns_base.specs.Lists.{Free, IsWhy}
-use Rattle.patterns_base.proofs.Free.{free_why}
+use Rattle.patterns_soundness.specs.base.Contents.{Edit, all_edited, edit_reason, edited}
+use Rattle.patterns_soundness.specs.base.Lists.{Free, IsWhy}
+use Rattle.patterns_soundness.proofs.of_base.Free.{free_why}
 
 -- an edit of the list isn't refused after the edits before it
 free_among : (made : List Edit) (e : Edit) (rest : List Edit) (m : Module) → Free (made ++ e ∷ rest) m → edit_reason e (all_edited made m) ≡ None

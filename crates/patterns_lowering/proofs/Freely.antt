@@ -2,15 +2,15 @@
 use Rattle.std.proofs.Common.{◌≡◌, sym, ◌∙◌, subst, List, ◌∷◌, None, Ok}
 use Rattle.ir_event.specs.Listener.{Listener}
 use Rattle.ir_event.specs.Modules.{Module}
-use Rattle.patterns_base.specs.Contents.{Edit, NumberedEdit, edit_meaning, edit_reason}
+use Rattle.patterns_soundness.specs.base.Contents.{Edit, NumberedEdit, edit_meaning, edit_reason}
 use Rattle.rewriter.specs.Contents.{tests_in}
 use Rattle.rewriter.specs.Edits.{reason_by}
 use Rattle.rewriter.specs.RewriterCalls.{Benched, state_of}
 use Rattle.rewriter.specs.Held.{TransactionModel, module_held}
 use Rattle.rewriter.proofs.Calls.{stepped}
 use Rattle.rewriter.proofs.Numbers.{reason_meaning}
-use Rattle.patterns_base.specs.declared.edit.Edit.{Edit as Coded}
-use Rattle.patterns_base.specs.Lists.{Free, IsMadeOrRefused, edits_meaning, numbered}
+use Rattle.patterns_soundness.specs.base.declared.edit.Edit.{Edit as Coded}
+use Rattle.patterns_soundness.specs.base.Lists.{Free, IsMadeOrRefused, edits_meaning, numbered}
 use Rattle.patterns_lowering.specs.Runs.{Along}
 use Rattle.patterns_lowering.proofs.Carrying.{Begun, Carrying}
 

@@ -2,8 +2,8 @@
 use Rattle.std.proofs.Common.{◌≡◌, ap, sym, ◌∙◌, ℕ, ◌+◌, ◌-◌, ◌<◌, ◌≤◌, List, [], ◌∷◌, ◌++◌, append_assoc, length, take, reverse, get_or, arith}
 use Rattle.std.proofs.lemmas.List.{reverse-append, take_all, take_more}
 use Rattle.patterns_soundness.specs.base.Lowering.{before_in}
-use Rattle.patterns_base.specs.declared.edit.Edit.{Edit}
-use Rattle.patterns_base.specs.declared.edit.Edit.TheVariants.{Move}
+use Rattle.patterns_soundness.specs.base.declared.edit.Edit.{Edit}
+use Rattle.patterns_soundness.specs.base.declared.edit.Edit.TheVariants.{Move}
 use Rattle.patterns_lowering.specs.Numbers.{gather_edits}
 
 -- the last of a number of operations moves first

@@ -1,10 +1,10 @@
 -- Lists of edits, joined.
 use Rattle.std.proofs.Common.{◌≡◌, refl, ap, List, [], ◌∷◌, ◌++◌}
 use Rattle.ir_event.specs.types.Things.{ContextModel}
-use Rattle.patterns_base.specs.Contents.{edit_meaning}
-use Rattle.patterns_base.specs.declared.edit.Edit.{Edit}
-use Rattle.patterns_base.specs.Lists.{AllFit, edits_meaning, numbered}
-use Rattle.patterns_base.proofs.EditFacts.{edits_more}
+use Rattle.patterns_soundness.specs.base.Contents.{edit_meaning}
+use Rattle.patterns_soundness.specs.base.declared.edit.Edit.{Edit}
+use Rattle.patterns_soundness.specs.base.Lists.{AllFit, edits_meaning, numbered}
+use Rattle.patterns_soundness.proofs.of_base.EditFacts.{edits_more}
 
 pub fit_more : (c : ContextModel) (es fs : List Edit) → AllFit c es → AllFit c fs → AllFit c (es ++ fs)
 fit_more c [] fs h k = k

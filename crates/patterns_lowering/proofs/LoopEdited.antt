@@ -11,8 +11,8 @@ use Rattle.ir_event.specs.trees.declared.place.Place.{Place}
 use Rattle.ir_event.specs.trees.Tree.{head}
 use Rattle.ir_event.specs.trees.Meaning.{is_type}
 use Rattle.ir_event.proofs.of_trees.Meanings.{stable}
-use Rattle.patterns_base.specs.declared.edit.Edit.{Edit}
-use Rattle.patterns_base.specs.Lists.{AllFit, edits_meaning}
+use Rattle.patterns_soundness.specs.base.declared.edit.Edit.{Edit}
+use Rattle.patterns_soundness.specs.base.Lists.{AllFit, edits_meaning}
 use Rattle.patterns_soundness.specs.base.Lowering.{indices}
 use Rattle.patterns_lowering.specs.declared.plan.IndexedLoop.{IndexedLoop}
 use Rattle.patterns_lowering.specs.declared.plan.IndexedChoice.{IndexedChoice}

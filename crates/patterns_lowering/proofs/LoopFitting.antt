@@ -10,9 +10,9 @@ use Rattle.ir_event.specs.trees.Tree.{Op, head, regions}
 use Rattle.ir_event.specs.trees.Meaning.{IsSoundIn, is_type}
 use Rattle.patterns_soundness.specs.base.Makes.{arguments_from}
 use Rattle.patterns_soundness.specs.base.Lowering.{before_in, next_to, crossed, end_of, marked}
-use Rattle.patterns_base.specs.declared.edit.Edit.{Edit}
-use Rattle.patterns_base.specs.declared.edit.Edit.TheVariants.{Make, Move}
-use Rattle.patterns_base.specs.Lists.{AllFit}
+use Rattle.patterns_soundness.specs.base.declared.edit.Edit.{Edit}
+use Rattle.patterns_soundness.specs.base.declared.edit.Edit.TheVariants.{Make, Move}
+use Rattle.patterns_soundness.specs.base.Lists.{AllFit}
 use Rattle.patterns_lowering.specs.declared.plan.MovedOps.{MovedOps}
 use Rattle.patterns_lowering.specs.declared.plan.IndexedLoop.{IndexedLoop}
 use Rattle.patterns_lowering.specs.declared.plan.IndexedChoice.{IndexedChoice}

@@ -12,14 +12,14 @@ use Rattle.ir_event.specs.trees.declared.value.Value.TheVariants.{Result, Arg}
 use Rattle.ir_event.specs.trees.declared.place.Place.{Place}
 use Rattle.ir_event.specs.trees.Tree.{Op, op, no_regions, head}
 use Rattle.ir_event.specs.trees.Meaning.{meaning}
-use Rattle.patterns_base.specs.Contents.{Edit}
-use Rattle.patterns_base.specs.Edits as edit
-use Rattle.patterns_base.specs.declared.edit.Edit.TheVariants as coded
-use Rattle.patterns_base.specs.Lists.{edits_meaning}
+use Rattle.patterns_soundness.specs.base.Contents.{Edit}
+use Rattle.patterns_soundness.specs.base.Edits as edit
+use Rattle.patterns_soundness.specs.base.declared.edit.Edit.TheVariants as coded
+use Rattle.patterns_soundness.specs.base.Lists.{edits_meaning}
 use Rattle.patterns_soundness.specs.base.Made.{i64, placeholder}
 use Rattle.patterns_soundness.specs.base.Makes.{arguments_from, replacing, replaced, moving, erasing}
 use Rattle.patterns_soundness.specs.base.Lowering.{before_in, next_to, bridges, brought, crossed, crossing, end_of, gathering, lowered_op, marked}
-use Rattle.patterns_plans.specs.Opened.{argument_replacement}
+use Rattle.patterns_regions.specs.Opened.{argument_replacement}
 use Rattle.patterns_lowering.specs.declared.plan.MovedOps.{MovedOps}
 use Rattle.patterns_lowering.specs.declared.plan.IndexedLoop.{IndexedLoop}
 use Rattle.patterns_lowering.specs.declared.plan.IndexedChoice.{IndexedChoice}
@@ -30,8 +30,8 @@ use Rattle.patterns_lowering.specs.Meanings.{results_given, loop_lowered, choice
 use Rattle.patterns_lowering.proofs.Meant.{bridges_meant, replaces_meant, op_meant, give_meant}
 use Rattle.patterns_lowering.proofs.Counted.{arguments_length}
 use Rattle.patterns_soundness.proofs.of_base.Facts.{crossed_length}
-use Rattle.patterns_base.proofs.EditFacts.{edits_more}
-use Rattle.patterns_plans.proofs.Openings.{moves_meant}
+use Rattle.patterns_soundness.proofs.of_base.EditFacts.{edits_more}
+use Rattle.patterns_regions.proofs.Openings.{moves_meant}
 
 module _ (c : ContextModel) where
   holders_meant : (sound : IsSound c) (place : Place) (tys : List ℕ) → edits_meaning c (holder_edits place tys) ≡ map (λ ty. edit.Make place (placeholder ty)) (map (type_term c) tys)

@@ -11,9 +11,9 @@ use Rattle.ir_event.specs.trees.declared.place.Place.{Place}
 use Rattle.ir_event.specs.trees.Tree.{Op, op, no_regions, head}
 use Rattle.ir_event.specs.trees.Maps.{map_entry}
 use Rattle.ir_event.specs.trees.Meaning.{meaning}
-use Rattle.patterns_base.specs.Edits as edit
-use Rattle.patterns_base.specs.declared.edit.Edit.TheVariants as coded
-use Rattle.patterns_base.specs.Lists.{edits_meaning}
+use Rattle.patterns_soundness.specs.base.Edits as edit
+use Rattle.patterns_soundness.specs.base.declared.edit.Edit.TheVariants as coded
+use Rattle.patterns_soundness.specs.base.Lists.{edits_meaning}
 use Rattle.patterns_soundness.specs.base.Made.{i64}
 use Rattle.patterns_soundness.specs.base.Makes.{results_from, replacing}
 use Rattle.patterns_soundness.specs.base.Lowering.{bridges, crossed, marked, lowered_attr, lowered_op}
@@ -21,7 +21,7 @@ use Rattle.patterns_lowering.specs.Lowered.{AreLowered, AreTypes}
 use Rattle.patterns_lowering.specs.Numbers.{bridge_edits, replace_edits, op_lowered, give_edits, operation_edits}
 use Rattle.patterns_lowering.specs.Meanings.{results_given, operation_lowered}
 use Rattle.patterns_lowering.proofs.Typed.{types_meant, regions_meant}
-use Rattle.patterns_base.proofs.EditFacts.{edits_more}
+use Rattle.patterns_soundness.proofs.of_base.EditFacts.{edits_more}
 
 module _ (c : ContextModel) (sound : IsSound c) where
   pub bridges_meant : (ty : ℕ) (u : TypeTerm) (place : Place) (ms : List Bool) (vs : List Value) → type_term c ty ≡ u → edits_meaning c (bridge_edits ty place ms vs) ≡ bridges u place ms vs

@@ -8,7 +8,7 @@ use Rattle.ir_event.specs.trees.Maps.{map_tree, map_head, map_regions}
 use Rattle.ir_event.specs.trees.Meaning.{Operation}
 use Rattle.patterns_soundness.specs.base.Words.{among, index_users}
 use Rattle.patterns_soundness.specs.base.Looks.{when, is_index_value}
-use Rattle.patterns_base.specs.Edits.{Make}
+use Rattle.patterns_soundness.specs.base.Edits.{Make}
 use Rattle.patterns_soundness.specs.base.Made.{i64}
 use Rattle.patterns_soundness.specs.base.Keeps.{lowered_type}
 use Rattle.patterns_soundness.specs.base.Lowering.{bridges, crossed, marked, indices, any, lowered_header, lowered_regions, lowered_op, lower_index}

@@ -1,12 +1,13 @@
 -- The results of the lowering rules at an operation that the store shows.
 use Rattle.std.proofs.Common.{◌≡◌, refl, ap, sym, ◌∙◌, subst, ℕ, ◌+◌, ◌≤◌, List, [], ◌∷◌, ◌++◌, length, map, Bool, true, false, ◌&&◌, ◌||◌, Option, Some, None, arith}
-use Rattle.std.specs.Prelude.{codes, option_map, option_and_then, slice_get}
-use Rattle.std.specs.List.{list_all, range_with_len}
+use Rattle.std.specs.Prelude.{codes, is_ok, option_map, option_and_then, slice_get, Result, Ok, Err}
+use Rattle.std.specs.Result.{result_err}
+use Rattle.std.specs.List.{list_all, list_any, range_with_len}
 use Rattle.std.proofs.lemmas.List.{length-map}
 use Rattle.ir_event.specs.types.Things.{ContextModel}
 use Rattle.ir_event.specs.types.Terms.{TypeTerm, Index, name_term, type_term, attr_term}
 use Rattle.ir_event.specs.trees.declared.value.Value.{Value}
-use Rattle.ir_event.specs.trees.declared.value.Value.TheVariants.{Result}
+use Rattle.ir_event.specs.trees.declared.value.Value.TheVariants.{Result as result_of}
 use Rattle.ir_event.specs.trees.declared.place.Place.{Place}
 use Rattle.ir_event.specs.trees.Tree.{Op, op, head}
 use Rattle.ir_event.specs.trees.Ids.{find}
@@ -16,16 +17,16 @@ use Rattle.ir_event.specs.store.Nodes.{Node, node_of}
 use Rattle.ir_event.specs.declared.world.World.{World}
 use Rattle.ir_event.specs.Modules.{module_in, node_meaning}
 use Rattle.ir_event.proofs.Nodes.{node_shown}
-use Rattle.patterns_base.specs.Contents.{Edit}
-use Rattle.patterns_base.specs.Edits.{Make}
+use Rattle.patterns_soundness.specs.base.Contents.{Edit}
+use Rattle.patterns_soundness.specs.base.Edits.{Make}
 use Rattle.patterns_soundness.specs.base.Keeps.{given}
 use Rattle.patterns_soundness.specs.base.Made.{i64, placeholder}
 use Rattle.patterns_soundness.specs.base.Words.{among, index_users, named}
-use Rattle.patterns_soundness.specs.base.Looks.{Ended, body, is_index_value, when}
+use Rattle.patterns_soundness.specs.base.Looks.{Ended, body, is_index, is_index_value, when}
 use Rattle.patterns_soundness.specs.base.Makes.{arguments_from, replacing, replaced, erasing}
 use Rattle.patterns_soundness.specs.base.Lowering.{any, bridges, brought, crossed, crossing, marked, indices, lowered_loop, lowered_if, end_of, before_in, lower_index, lower_loop, lower_choice}
-use Rattle.patterns_plans.specs.Blocks.{Shows, body_at}
-use Rattle.patterns_plans.proofs.Viewed.{block_types}
+use Rattle.patterns_regions.specs.Blocks.{Shows, body_at}
+use Rattle.patterns_regions.proofs.Viewed.{block_types}
 use Rattle.patterns_soundness.specs.Yields.{IsVerifiedOf}
 use Rattle.patterns_soundness.proofs.Yielding.{loops_hand_on_all, choices_hand_on_all, choices_ask_truth}
 use Rattle.patterns_lowering.specs.declared.plan.Indexed.{Indexed}
@@ -41,7 +42,16 @@ use Rattle.patterns_lowering.specs.Plans.{IsIndexed, IsIndexedChoice, IsIndexedL
 use Rattle.patterns_lowering.proofs.Read.{bare_mapped, op_bare, lower_index_read}
 use Rattle.patterns_lowering.proofs.Shown.{Raw, bare_head, distinct_in, indexed_at, meant_there, none_there, raw, there_meant, types_few_at, types_known_at}
 use Rattle.ir_event.proofs.Steps.{meaning_operands}
-use Rattle.patterns_plans.proofs.Ruled.{when_none}
+use Rattle.patterns_regions.proofs.Ruled.{when_none}
+use Rattle.patterns_regions.proofs.Tested.{fails, goes_on}
+use Rattle.patterns_regions.specs.Answers.{HasReasonAt}
+use Rattle.patterns_regions.specs.Conditions.{Test, asks, first_failed_test}
+use Rattle.patterns_regions.specs.Reason.{Reason}
+use Rattle.patterns_regions.specs.Reason.TheVariants.{BlockNotVerified, NoIndex, WrongOperation}
+use Rattle.patterns_regions.specs.RuleTests.{tests}
+use Rattle.patterns_regions.proofs.of_plans.Passing.{any_mapped}
+use Rattle.patterns_soundness.specs.base.declared.rule.Rule.{Rule}
+use Rattle.patterns_soundness.specs.base.declared.rule.Rule.TheVariants.{LowerChoice, LowerLoop}
 
 -- ---- tests
 
@@ -69,7 +79,7 @@ module _ (t : Operation) (n : ℕ) (insertion : Place) where
       let yields_id = arguments_id + marked (indices args) in
       let results_id = yields_id + marked results in
       let holder_ids = range_with_len id (length args) in
-      let holders = map (λ (i : ℕ). Result i 0) holder_ids in
+      let holders = map (λ (i : ℕ). result_of i 0) holder_ids in
       let olds = arguments_from (head o).id 0 args in
       let arguments = arguments_from y 0 args in
       let news = crossed arguments_id (indices args) arguments in
@@ -167,6 +177,25 @@ module _ (w : World) (x : ℕ) (n : Node) (shown : Some n ≡ option_map node_of
   pub not_lower_choice : (b : Bool) → b ≡ named (codes "scf.if") (name_term w.ctx n.head.name) → b ≡ false → IsLoweredBy lower_choice w x None
   not_lower_choice b e f = at lower_choice None (λ k insertion. when_first _ _ _ (ap (named (codes "scf.if")) named_as ∙ sym e ∙ f))
 
+  -- the first test that fails, of the operation that is in the module
+  tested : {P : Type 0} (r : Rule) (a : Result P Reason) → result_err a ≡ first_failed_test (tests r t m (is_ok a)) → HasReasonAt r w x a
+  tested r a h o f = h ∙ ap (λ o. first_failed_test (tests r t o (is_ok a))) (sym (meant_there w x s.here o s.found f))
+
+  abbrev block_tests : Bool → List Test
+  block_tests a = asks BlockNotVerified a ∷ []
+
+  abbrev loop_tests : Bool → List Test
+  loop_tests a = asks NoIndex (list_any (is_index_value t) (head m).operands) ∷ block_tests a
+
+  abbrev choice_tests : Bool → List Test
+  choice_tests a = asks NoIndex (list_any is_index (head m).results) ∷ block_tests a
+
+  pub other_loop : {P : Type 0} (b : Bool) → b ≡ named (codes "scf.for") (name_term w.ctx n.head.name) → b ≡ false → HasReasonAt {P = P} LowerLoop w x (Err WrongOperation)
+  other_loop b e f = tested LowerLoop (Err WrongOperation) (fails (named (codes "scf.for") (head m).name) WrongOperation (loop_tests false) (ap (named (codes "scf.for")) named_as ∙ sym e ∙ f))
+
+  pub other_choice : {P : Type 0} (b : Bool) → b ≡ named (codes "scf.if") (name_term w.ctx n.head.name) → b ≡ false → HasReasonAt {P = P} LowerChoice w x (Err WrongOperation)
+  other_choice b e f = tested LowerChoice (Err WrongOperation) (fails (named (codes "scf.if") (head m).name) WrongOperation (choice_tests false) (ap (named (codes "scf.if")) named_as ∙ sym e ∙ f))
+
   module _ (i : Indexed) (was : IsReadOf w x i) where
     abbrev r : IsReadIn w s.here i
     r = was s.here s.found
@@ -189,6 +218,39 @@ module _ (w : World) (x : ℕ) (n : Node) (shown : Some n ≡ option_map node_of
 
     pub unmarked_lower_choice : (b : Bool) → b ≡ any i.index_results.items → b ≡ false → IsLoweredBy lower_choice w x None
     unmarked_lower_choice b e f = at lower_choice None (λ k insertion. when_second _ _ _ (ap any (sym results_are) ∙ sym e ∙ f))
+
+    -- the tests after the name's, of a loop and of a choice
+    module _ (b d : Bool) (e : b ≡ named (codes "scf.for") (name_term w.ctx n.head.name)) (f : b ≡ true) (g : d ≡ any i.index_operands.items) where
+      operands_marked : list_any (is_index_value t) (head m).operands ≡ d
+      operands_marked = sym (g ∙ ap any operands_are ∙ any_mapped (is_index_value t) (head m).operands)
+
+      after_for : (a : Bool) → first_failed_test (loop_tests a) ≡ first_failed_test (tests LowerLoop t m a)
+      after_for a = goes_on (named (codes "scf.for") (head m).name) WrongOperation (loop_tests a) (ap (named (codes "scf.for")) named_as ∙ sym e ∙ f)
+
+      pub unmarked_loop : {P : Type 0} → d ≡ false → HasReasonAt {P = P} LowerLoop w x (Err NoIndex)
+      unmarked_loop h = tested LowerLoop (Err NoIndex) (fails (list_any (is_index_value t) (head m).operands) NoIndex (block_tests false) (operands_marked ∙ h) ∙ after_for false)
+
+      pub blockless_loop : {P : Type 0} → d ≡ true → HasReasonAt {P = P} LowerLoop w x (Err BlockNotVerified)
+      blockless_loop h = tested LowerLoop (Err BlockNotVerified) (goes_on (list_any (is_index_value t) (head m).operands) NoIndex (block_tests false) (operands_marked ∙ h) ∙ after_for false)
+
+      pub lowered_loop_tested : {P : Type 0} (p : P) → d ≡ true → HasReasonAt LowerLoop w x (Ok p)
+      lowered_loop_tested p h = tested LowerLoop (Ok p) (goes_on (list_any (is_index_value t) (head m).operands) NoIndex (block_tests true) (operands_marked ∙ h) ∙ after_for true)
+
+    module _ (b d : Bool) (e : b ≡ named (codes "scf.if") (name_term w.ctx n.head.name)) (f : b ≡ true) (g : d ≡ any i.index_results.items) where
+      results_marked : list_any is_index (head m).results ≡ d
+      results_marked = sym (g ∙ ap any results_are ∙ any_mapped is_index (head m).results)
+
+      after_if : (a : Bool) → first_failed_test (choice_tests a) ≡ first_failed_test (tests LowerChoice t m a)
+      after_if a = goes_on (named (codes "scf.if") (head m).name) WrongOperation (choice_tests a) (ap (named (codes "scf.if")) named_as ∙ sym e ∙ f)
+
+      pub unmarked_choice : {P : Type 0} → d ≡ false → HasReasonAt {P = P} LowerChoice w x (Err NoIndex)
+      unmarked_choice h = tested LowerChoice (Err NoIndex) (fails (list_any is_index (head m).results) NoIndex (block_tests false) (results_marked ∙ h) ∙ after_if false)
+
+      pub blockless_choice : {P : Type 0} → d ≡ true → HasReasonAt {P = P} LowerChoice w x (Err BlockNotVerified)
+      blockless_choice h = tested LowerChoice (Err BlockNotVerified) (goes_on (list_any is_index (head m).results) NoIndex (block_tests false) (results_marked ∙ h) ∙ after_if false)
+
+      pub lowered_choice_tested : {P : Type 0} (p : P) → d ≡ true → HasReasonAt LowerChoice w x (Ok p)
+      lowered_choice_tested p h = tested LowerChoice (Ok p) (goes_on (list_any is_index (head m).results) NoIndex (block_tests true) (results_marked ∙ h) ∙ after_if true)
 
     -- an `arith` operation
     pub is_lower_index : (b d : Bool) → b ≡ among index_users (name_term w.ctx n.head.name) → b ≡ true → d ≡ any i.index_operands.items || any i.index_results.items → d ≡ true → IsLoweredBy lower_index w x (Some (plan.Operation i))

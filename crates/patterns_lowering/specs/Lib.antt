@@ -6,12 +6,12 @@ pub mod Refused
 pub mod Lowered
 pub mod Numbers
 pub mod Counts
-pub use Rattle.patterns_plans.specs as region_rules
+pub use Rattle.patterns_regions.specs as region_rules
 pub mod Interning
 pub mod Runs
-pub use Rattle.patterns_base.specs.Contents
-pub use Rattle.patterns_base.specs.Lists
-pub use Rattle.patterns_base.specs.declared.edit.Edit
+pub use Rattle.patterns_soundness.specs.base.Contents
+pub use Rattle.patterns_soundness.specs.base.Lists
+pub use Rattle.patterns_soundness.specs.base.declared.edit.Edit
 pub use Rattle.rewriter.specs.RewriterCalls
 pub use Rattle.rewriter.specs.Held
 pub use Rattle.rewriter.specs as rewriter

@@ -8,8 +8,8 @@ use Rattle.ir_event.specs.trees.declared.value.Value.{Value}
 use Rattle.ir_event.specs.trees.declared.value.Value.TheVariants.{Result}
 use Rattle.ir_event.specs.trees.Tree.{head}
 use Rattle.ir_event.specs.trees.Meaning.{Operation, meaning}
-use Rattle.patterns_base.specs.Contents.{Edit}
-use Rattle.patterns_base.specs.Edits.{Make, Erase}
+use Rattle.patterns_soundness.specs.base.Contents.{Edit}
+use Rattle.patterns_soundness.specs.base.Edits.{Make, Erase}
 use Rattle.patterns_soundness.specs.base.Made.{i64, placeholder}
 use Rattle.patterns_soundness.specs.base.Makes.{results_from, arguments_from, replacing, replaced, erasing}
 use Rattle.patterns_soundness.specs.base.Lowering.{bridges, brought, crossed, crossing}

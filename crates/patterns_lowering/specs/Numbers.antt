@@ -8,12 +8,12 @@ use Rattle.ir_event.specs.trees.declared.value.Value.{Value}
 use Rattle.ir_event.specs.trees.declared.value.Value.TheVariants.{Result}
 use Rattle.ir_event.specs.trees.declared.place.Place.{Place}
 use Rattle.ir_event.specs.trees.Tree.{Op, op, Regions, no_regions, region, Region, empty, block, no_ops, head, regions}
-use Rattle.patterns_base.specs.declared.edit.Edit.{Edit}
-use Rattle.patterns_base.specs.declared.edit.Edit.TheVariants.{Make, SetOperand, Replace, Move, Erase}
+use Rattle.patterns_soundness.specs.base.declared.edit.Edit.{Edit}
+use Rattle.patterns_soundness.specs.base.declared.edit.Edit.TheVariants.{Make, SetOperand, Replace, Move, Erase}
 use Rattle.patterns_soundness.specs.base.Looks.{is_index}
 use Rattle.patterns_soundness.specs.base.Makes.{arguments_from, results_from}
 use Rattle.patterns_soundness.specs.base.Lowering.{before_in, next_to, crossed, end_of, marked}
-use Rattle.patterns_plans.specs.Opened.{argument_replacement}
+use Rattle.patterns_regions.specs.Opened.{argument_replacement}
 use Rattle.patterns_lowering.specs.declared.plan.MovedOps.{MovedOps}
 use Rattle.patterns_lowering.specs.declared.plan.IndexedLoop.{IndexedLoop}
 use Rattle.patterns_lowering.specs.declared.plan.IndexedChoice.{IndexedChoice}

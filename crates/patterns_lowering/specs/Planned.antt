@@ -7,7 +7,7 @@ use Rattle.ir_event.specs.trees.Ids.{find}
 use Rattle.ir_event.specs.trees.Meaning.{Operation}
 use Rattle.ir_event.specs.declared.world.World.{World}
 use Rattle.ir_event.specs.Modules.{module_in}
-use Rattle.patterns_base.specs.Contents.{Edit}
+use Rattle.patterns_soundness.specs.base.Contents.{Edit}
 use Rattle.patterns_soundness.specs.base.Looks.{Ended, is_verified, is_index_value}
 use Rattle.patterns_soundness.specs.base.Lowering.{indices}
 use Rattle.patterns_soundness.specs.base.Rules.{rule}

@@ -1,15 +1,15 @@
 //! Carries out edits one after another.
 ghost use Rattle.std.specs.Prelude.{◌≡◌, OnOk, OnErr, IfErr};
-ghost use Rattle.patterns_base.specs.Contents.{all_edited};
+ghost use Rattle.patterns_soundness.specs.base.Contents.{all_edited};
 ghost use Rattle.rewriter.specs.RewriterCalls.{Journaled, JournalAfter};
 ghost use Rattle.rewriter.specs.Held.{module_held};
-ghost use Rattle.patterns_base.specs.Lists.{AllFit, IsWhy, edits_meaning};
+ghost use Rattle.patterns_soundness.specs.base.Lists.{AllFit, IsWhy, edits_meaning};
 ghost use Rattle.patterns_lowering.specs.Runs.{Along, Noted};
 
 use crate::single::carry_one;
 use ir_event::analysis::Analysis;
 use ir_event::types::refusal::Refusal;
-use patterns_base::edit::Edit;
+use patterns_soundness::base::edit::Edit;
 use rewriter::Bench;
 use rewriter::laws::led_benches_are_kept;
 

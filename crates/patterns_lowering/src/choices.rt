@@ -15,7 +15,7 @@ use crate::plan::{IndexedChoice, MovedOps};
 use ir_event::trees::place::Place;
 use ir_event::types::context::Context;
 use ir_event::types::ids::{OpId, TypeId};
-use patterns_base::edit::Edit;
+use patterns_soundness::base::edit::Edit;
 use std::alloc::{AllocError, Global};
 
 /// The target of a moved block: an operation and its region, and the type and first id of the casts of the

@@ -3,7 +3,7 @@ ghost use Rattle.std.specs.Prelude.{◌≡◌, ◌≤◌, ◌+◌, IfOk, IfErr};
 ghost use Rattle.ir_event.specs.trees.Limits.{most_next};
 ghost use Rattle.ir_event.specs.trees.Meaning.{meaning};
 ghost use Rattle.patterns_soundness.specs.base.Lowering.{marked};
-ghost use Rattle.patterns_base.specs.Lists.{AllFit, edits_meaning};
+ghost use Rattle.patterns_soundness.specs.base.Lists.{AllFit, edits_meaning};
 ghost use Rattle.patterns_lowering.specs.Interning.{Added, IsCapacityRefusal};
 ghost use Rattle.patterns_lowering.specs.Meanings.{lowering_meaning, operation_lowered};
 ghost use Rattle.patterns_lowering.specs.Plans.{IsIndexed, IsIndexedChoice, IsIndexedLoop, LoweringIsOf};
@@ -19,7 +19,7 @@ use crate::plan::{Indexed, IndexedChoice, IndexedLoop, Lowering};
 use ir_event::analysis::Analysis;
 use ir_event::trees::place::Place;
 use ir_event::types::refusal::Refusal;
-use patterns_base::edit::Edit;
+use patterns_soundness::base::edit::Edit;
 use std::alloc::Global;
 
 /// Returns the edits that lower an `arith` operation.

@@ -9,7 +9,7 @@ use crate::lists::{crossed, push_bridges, push_edit, push_replaced, results_of};
 use crate::numbers::Casts;
 use ir_event::trees::tree::TreeOp;
 use ir_event::types::ids::OpId;
-use patterns_base::edit::Edit;
+use patterns_soundness::base::edit::Edit;
 use std::alloc::{AllocError, Global};
 
 /// Appends the edits that replace the results of `op` by those of the other operation, through casts to index, and

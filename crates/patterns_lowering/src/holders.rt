@@ -7,7 +7,7 @@ use crate::lists::{cast, push_edit};
 use ir_event::trees::place::Place;
 use ir_event::trees::value::Value;
 use ir_event::types::ids::{OpId, TypeId};
-use patterns_base::edit::Edit;
+use patterns_soundness::base::edit::Edit;
 use std::alloc::{AllocError, Global};
 
 /// Returns consecutive ids from `first` on, one for each type.

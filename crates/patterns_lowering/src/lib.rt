@@ -27,9 +27,8 @@ mod single;
 mod single_unchecked;
 mod users;
 
-pub use patterns_base::edit;
-pub use patterns_plans as region_rules;
-pub use patterns_plans::reads;
-pub use patterns_soundness::base::rule;
+pub use patterns_regions as region_rules;
+pub use patterns_regions::reads;
+pub use patterns_soundness::base::{edit, rule};
 pub use rewriter;
 pub use rewriter::{Bench, laws as rewriter_laws};

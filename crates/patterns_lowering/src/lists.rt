@@ -11,7 +11,7 @@ use ir_event::trees::tree::TreeOp;
 use ir_event::trees::value::Value;
 use ir_event::types::ids::{OpId, TypeId};
 use ir_event::types::word::Word;
-use patterns_base::edit::Edit;
+use patterns_soundness::base::edit::Edit;
 use std::alloc::{AllocError, Global};
 
 /// Appends an edit.

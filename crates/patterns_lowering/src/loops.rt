@@ -6,7 +6,7 @@ ghost use Rattle.patterns_soundness.specs.base.Lowering.{marked};
 ghost use Rattle.patterns_lowering.specs.declared.plan.Lowering.TheVariants.{Loop};
 ghost use Rattle.patterns_lowering.specs.Numbers.{give_edits, handed_edits, held_edits, inside_edits};
 ghost use Rattle.patterns_lowering.specs.Numbers.{loop_edits, loop_ids};
-ghost use Rattle.patterns_plans.specs.Opened.{argument_replacement};
+ghost use Rattle.patterns_regions.specs.Opened.{argument_replacement};
 ghost use Rattle.patterns_lowering.specs.Plans.{IsIndexedLoop, lowering_makes};
 
 use crate::give::push_given;
@@ -21,7 +21,7 @@ use ir_event::trees::place::Place;
 use ir_event::trees::value::Value;
 use ir_event::types::context::Context;
 use ir_event::types::ids::{OpId, TypeId};
-use patterns_base::edit::Edit;
+use patterns_soundness::base::edit::Edit;
 use std::alloc::{AllocError, Global};
 
 /// The ids of the operations that replace a loop.

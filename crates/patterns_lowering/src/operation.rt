@@ -3,7 +3,7 @@ ghost use Rattle.std.specs.Prelude.{◌≡◌, ◌≤◌, ◌+◌, IfOk, OnOk, �
 ghost use Rattle.ir_event.specs.trees.Limits.{most_next};
 ghost use Rattle.ir_event.specs.trees.Tree.{head};
 ghost use Rattle.patterns_soundness.specs.base.Lowering.{crossed, marked};
-ghost use Rattle.patterns_base.specs.declared.edit.Edit.TheVariants.{Make};
+ghost use Rattle.patterns_soundness.specs.base.declared.edit.Edit.TheVariants.{Make};
 ghost use Rattle.patterns_lowering.specs.Numbers.{op_lowered, operation_edits};
 ghost use Rattle.patterns_lowering.specs.Plans.{IsIndexed};
 
@@ -16,7 +16,7 @@ use crate::plan::Indexed;
 use ir_event::trees::place::Place;
 use ir_event::types::context::Context;
 use ir_event::types::ids::{AttrId, NameId, OpId};
-use patterns_base::edit::Edit;
+use patterns_soundness::base::edit::Edit;
 use std::alloc::{AllocError, Global};
 
 /// Appends casts of the operands and the operation on i64 after them.

@@ -3,7 +3,7 @@ ghost use Rattle.std.specs.Prelude.{◌≡◌, ◌≤◌, ◌+◌, IfOk, OnOk, L
 ghost use Rattle.ir_event.specs.trees.Limits.{most_next};
 ghost use Rattle.patterns_soundness.specs.base.Makes.{arguments_from};
 ghost use Rattle.patterns_soundness.specs.base.Lowering.{marked};
-ghost use Rattle.patterns_plans.specs.Opened.{argument_replacement};
+ghost use Rattle.patterns_regions.specs.Opened.{argument_replacement};
 ghost use Rattle.patterns_lowering.specs.Numbers.{crossing_edits, gather_edits, handed_edits, move_edits, over_edits};
 
 use crate::lists::{push_bridges, push_edit};
@@ -12,8 +12,8 @@ use crate::plan::MovedOps;
 use ir_event::trees::place::Place;
 use ir_event::trees::value::Value;
 use ir_event::types::ids::{OpId, TypeId};
-use patterns_base::edit::Edit;
-use patterns_plans::inlined::substitution;
+use patterns_regions::inlined::substitution;
+use patterns_soundness::base::edit::Edit;
 use std::alloc::{AllocError, Global};
 
 /// Appends the moves of some operations to a place.

@@ -3,7 +3,7 @@ ghost use Rattle.std.specs.Prelude.{◌≡◌, ◌||◌, IfOk, Some, option_map}
 ghost use Rattle.ir_event.specs.trees.Ids.{find};
 ghost use Rattle.ir_event.specs.store.Nodes.{node_of};
 ghost use Rattle.ir_event.specs.Modules.{module_in};
-ghost use Rattle.patterns_plans.specs.Blocks.{body_at};
+ghost use Rattle.patterns_regions.specs.Blocks.{body_at};
 ghost use Rattle.patterns_lowering.specs.Planned.{AreTaken, IsReadOf};
 
 use crate::bare::bare;
@@ -12,7 +12,7 @@ use crate::plan::{Indexed, MovedOps};
 use ir_event::store::node::Node;
 use ir_event::types::ids::OpId;
 use ir_event::world::World;
-use patterns_plans::block::{BlockBody, body_of};
+use patterns_regions::block::{BlockBody, body_of};
 use std::alloc::{AllocError, Global};
 
 /// Returns an operation of the module without the operations inside its blocks, with its index operands and results

@@ -4,9 +4,9 @@ ghost use Rattle.ir_event.specs.trees.Meaning.{IsSoundIn};
 ghost use Rattle.ir_event.specs.tree_laws.Reasons.{holds_none};
 ghost use Rattle.rewriter.specs.RewriterCalls.{JournalAfter};
 ghost use Rattle.rewriter.specs.Held.{module_held};
-ghost use Rattle.patterns_base.specs.Contents.{edit_meaning, edit_reason};
-ghost use Rattle.patterns_base.specs.Edits as edit;
-ghost use Rattle.patterns_base.specs.Lists.{Fits, IsMadeOrRefused, numbered};
+ghost use Rattle.patterns_soundness.specs.base.Contents.{edit_meaning, edit_reason};
+ghost use Rattle.patterns_soundness.specs.base.Edits as edit;
+ghost use Rattle.patterns_soundness.specs.base.Lists.{Fits, IsMadeOrRefused, numbered};
 ghost use Rattle.patterns_lowering.specs.Runs.{Along};
 
 use crate::single::carry_one;
@@ -16,7 +16,7 @@ use ir_event::trees::tree::TreeOp;
 use ir_event::trees::value::Value;
 use ir_event::types::ids::OpId;
 use ir_event::types::refusal::Refusal;
-use patterns_base::edit::Edit;
+use patterns_soundness::base::edit::Edit;
 use rewriter::Bench;
 
 fn make_one<L: Analysis>(bench: &mut Bench<L>, place: Place, op: &TreeOp) -> Result<(), Refusal>

@@ -36,7 +36,7 @@ none_made ts None c pass f = refl
 none_made ts (Some y) c pass f = absurd (true≢false (sym (ap is_none f ∙ none_fails ts ∙ pass)))
 
 -- what the store shows of x is its head
-shown_head : (x : ℕ) (t : Operation) (h : Header) (o : Operation) → Some h ≡ head_at x t → find x t ≡ Some o → h ≡ head o
+pub shown_head : (x : ℕ) (t : Operation) (h : Header) (o : Operation) → Some h ≡ head_at x t → find x t ≡ Some o → h ≡ head o
 shown_head x t h o e f = same_Some h (head o) (e ∙ ap (option_map (λ o. head o)) f)
 
 -- the edits of rule s, and its tests, which don't ask whether the rule applies
@@ -67,8 +67,3 @@ module _ (makes : Making) (s : Rule) (looks : LooksAtHead makes s) (r : Rule) (i
       → IfOk a (IsAnswerAt r w x node)
   applying_at (Ok a) h c = (planned_at makes s looks r is w x node (result_ok a) e h, c ∙ ap (λ r. first_failed_test (header_tests r (module_in w).tree (header_of_node w.ctx node) (is_ok a))) (sym is))
   applying_at (Err f) h c = tt
-
--- the plan of an answer
-pub some_fits : {X F : Type 0} (P : X → Type 0) (a : Result X F) → IfOk a P → IfSome (result_ok a) P
-some_fits P (Ok p) h = h
-some_fits P (Err f) h = tt

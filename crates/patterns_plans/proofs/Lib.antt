@@ -3,15 +3,8 @@ pub mod Headed
 pub mod Recasts
 pub mod Never
 pub mod Unfolded
-pub mod Walking
-pub mod Bodies
-pub mod Viewed
-pub mod Replacing
-pub mod Openings
-pub mod Ruled
-pub mod Needed
-pub mod Slices
-pub mod Held
 pub mod Parts
 pub mod Passing
 pub mod Answered
+pub use Rattle.patterns_base.proofs as of_base
+pub use Rattle.patterns_matchers.proofs as of_reads

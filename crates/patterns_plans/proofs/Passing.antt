@@ -24,7 +24,7 @@ use Rattle.patterns_plans.specs.Numbers.{is_readable}
 use Rattle.patterns_plans.proofs.Parts as parts
 
 -- a mapped list has a set mark exactly if an element passes the test
-any_mapped : {X : Type 0} (f : X → Bool) (xs : List X) → any (map f xs) ≡ list_any f xs
+pub any_mapped : {X : Type 0} (f : X → Bool) (xs : List X) → any (map f xs) ≡ list_any f xs
 any_mapped f [] = refl
 any_mapped f (x ∷ xs) = ap (λ b. f x || b) (any_mapped f xs)
 

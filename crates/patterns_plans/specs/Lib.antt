@@ -4,6 +4,7 @@ pub mod May
 pub mod Numbers
 pub mod Planned
 pub mod RuleTests
+pub use Rattle.dialects_int.specs.Folds
 pub use Rattle.patterns_matchers.specs.Keeps
 pub use Rattle.patterns_matchers.specs.Looks
 pub use Rattle.patterns_matchers.specs.Makes
@@ -13,7 +14,3 @@ pub use Rattle.patterns_matchers.specs.Rewrites
 pub use Rattle.patterns_matchers.specs.Rules
 pub use Rattle.patterns_matchers.specs.declared.plan.RewritePlan
 pub use Rattle.patterns_matchers.specs as reads
-pub mod Blocks
-pub mod Opened
-pub mod Times
-pub mod RegionRules

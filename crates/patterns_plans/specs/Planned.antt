@@ -1,8 +1,7 @@
 -- Correct plans of a rule at an operation that the store shows.
-use Rattle.std.specs.Prelude.{◌≡◌, ℕ, List, Bool, true, false, not, ◌||◌, Option, Some, option_map, IfSome}
+use Rattle.std.specs.Prelude.{◌≡◌, ℕ, List, Bool, true, not, ◌||◌, Option, Some, option_map}
 use Rattle.std.specs.Prelude.{Result, IfOk, is_ok}
 use Rattle.std.specs.Result.{result_err, result_ok}
-use Rattle.ir_event.specs.types.Things.{ContextModel}
 use Rattle.ir_event.specs.trees.declared.place.Place.{Place}
 use Rattle.ir_event.specs.trees.Ids.{find}
 use Rattle.ir_event.specs.trees.Meaning.{Operation}
@@ -11,17 +10,17 @@ use Rattle.ir_event.specs.declared.world.World.{World}
 use Rattle.ir_event.specs.Modules.{module_in}
 use Rattle.effects.specs.Dead.{dead_at}
 use Rattle.patterns_matchers.specs.Contents.{Edit}
-use Rattle.patterns_matchers.specs.Plans.{plan_meaning, PlanIsOf}
+use Rattle.patterns_matchers.specs.Plans.{plan_meaning}
 use Rattle.patterns_matchers.specs.Looks.{Header}
 use Rattle.patterns_matchers.specs.Reads.{bare_in, header_of_node}
 use Rattle.patterns_matchers.specs.Rule.{Rule}
-use Rattle.patterns_matchers.specs.Rule.TheVariants.{EraseDead, OpenBranch, OpenLoop, StopLoop}
-use Rattle.patterns_matchers.specs.RuleNames.{is_lowering}
+use Rattle.patterns_matchers.specs.Rule.TheVariants.{OpenBranch}
+use Rattle.patterns_matchers.specs.RuleNames.{is_erasing, is_lowering, same_rule}
 use Rattle.patterns_matchers.specs.Rules.{rule}
 use Rattle.patterns_matchers.specs.declared.plan.RewritePlan.{RewritePlan}
 use Rattle.patterns_plans.specs.declared.reason.Reason.{Reason}
 use Rattle.patterns_plans.specs.Conditions.{Test, first_failed_test}
-use Rattle.patterns_plans.specs.RuleTests.{fold_to_constant, header_tests, regroup_constants}
+use Rattle.patterns_plans.specs.RuleTests.{asks_block, fold_to_constant, header_tests, regroup_constants}
 
 -- a rule: its edits at an operation of a tree, for a next free id and the place before the operation, if it applies
 abbrev pub Making : Type 0
@@ -44,18 +43,7 @@ IsDead w x = dead_at x (module_in w).tree ≡ true
 
 -- whether a rule inlines a block of a branch or loop
 abbrev pub is_opening : Rule → Bool
-is_opening OpenBranch = true
-is_opening OpenLoop = true
-is_opening StopLoop = true
-is_opening _ = false
-
--- a rule that is planned from what the store shows of its operation: it neither inlines a block nor lowers
-abbrev pub IsPlannedRule : Rule → Type 0
-IsPlannedRule r = (is_opening r || is_lowering r) ≡ false
-
--- the numbers of a plan, if there is one, are interned in a context
-abbrev pub FitsIn : ContextModel → Option RewritePlan → Type 0
-FitsIn c p = IfSome p (PlanIsOf c)
+is_opening r = same_rule r OpenBranch || asks_block r
 
 -- the plan of an answer, if it has one, is that of a rule at operation x, which this node shows
 abbrev pub HasPlan : Making → World → ℕ → Node → Result RewritePlan Reason → Type 0
@@ -74,8 +62,7 @@ HasRegroupReason w node a = HasReason (λ t h. regroup_constants t h (is_ok a)) 
 
 -- whether a rule reads nothing of its operation but the head
 abbrev pub reads_head : Rule → Bool
-reads_head EraseDead = false
-reads_head r = not (is_opening r || is_lowering r)
+reads_head r = not (is_erasing r || (is_opening r || is_lowering r))
 
 -- an answer to rule r at operation x, which this node shows: its plan is that of the rule, and its reason is the first
 -- test of the rule that fails

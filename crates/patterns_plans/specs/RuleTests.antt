@@ -93,6 +93,10 @@ cast_tests t (Some p) =
     if named (codes "builtin.unrealized_conversion_cast") p.name then unrealized_tests t p
     else (asks WrongOperation (among index_casts p.name) ∷ index_tests t p)
 
+-- the conditions of `erase-dead` at operation x. `applies` says whether the rule applies there
+abbrev pub dead_tests : ℕ → Operation → Bool → List Test
+dead_tests x t applies = asks Used (is_unused x t) ∷ asks HasEffects applies ∷ []
+
 -- the conditions by the header of an operation. `applies` says whether the rule applies there; it comes last, as a
 -- condition that covers the rest of the rule
 module _ (t : Operation) (h : Header) where
@@ -137,7 +141,7 @@ module _ (t : Operation) (h : Header) where
   same_operands = asks OperandsDiffer (two_has (λ p. same_value p.first p.second))
 
   abbrev pub erase_dead : Bool → List Test
-  erase_dead applies = asks Used (is_unused h.id t) ∷ asks HasEffects applies ∷ []
+  erase_dead applies = dead_tests h.id t applies
 
   abbrev pub fold_to_constant : Bool → List Test
   fold_to_constant applies =

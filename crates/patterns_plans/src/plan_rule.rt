@@ -3,7 +3,7 @@ ghost use Rattle.std.specs.Prelude.{◌≡◌, IfOk, Some, true};
 ghost use Rattle.ir_event.specs.Modules.{NodeIsOf, module_in};
 ghost use Rattle.patterns_matchers.specs.Reads.{head_at, header_of_node};
 ghost use Rattle.patterns_matchers.specs.Plans.{PlanIsOf};
-ghost use Rattle.patterns_plans.specs.Planned.{FitsIn, IsAnswerAt, IsPlanAt, IsPlannedRule, reads_head};
+ghost use Rattle.patterns_plans.specs.Planned.{IsAnswerAt, reads_head};
 
 use crate::casts::{plan_cast_back, plan_cut_cast, plan_extend_extension};
 use crate::combined::{plan_add_negative, plan_regroup_constants};
@@ -11,7 +11,6 @@ use crate::constant::{
     plan_cancel_itself, plan_compare_itself, plan_compare_zero, plan_fold_to_constant,
     plan_zero_remainder,
 };
-use crate::dead::plan_erase_dead;
 use crate::expanded::{plan_expand_difference, plan_expand_min_max, plan_expand_remainder};
 use crate::fold_to_operand::{
     plan_choose_known, plan_choose_same, plan_choose_truth, plan_drop_all_ones, plan_drop_one,
@@ -76,30 +75,5 @@ pub fn plan_or_reason(
         | Rule::LowerIndex
         | Rule::LowerLoop
         | Rule::LowerChoice => Ok(Err(Reason::WrongOperation)),
-    }
-}
-
-/// Plans a rule at an operation, or returns `None` if the rule doesn't apply. `node` is what the store shows of the
-/// operation. The caller has checked that the operation is verified and has a place.
-#[inline(always)]
-pub fn plan(
-    alloc: Global,
-    world: &World,
-    rule: Rule,
-    op: OpId,
-    node: &Node<'_>,
-) -> Result<Option<RewritePlan>, AllocError>
-    requires rule { IsPlannedRule rule }
-    requires shown { Some (header_of_node world.now.ctx node.now) ≡ head_at op (module_in world.now).tree }
-    requires of { NodeIsOf world.now.ctx node.now }
-    ensures edits { IfOk result (IsPlanAt rule world.now op) }
-    ensures fits_in { IfOk result (FitsIn world.now.ctx) }
-{
-    match rule {
-        Rule::EraseDead => Ok(plan_erase_dead(world, op)),
-        _ => {
-            let answer = plan_or_reason(alloc, world, rule, op, node)?;
-            Ok(answer.ok())
-        }
     }
 }

@@ -4,10 +4,10 @@ use Rattle.std.specs.Prelude.{is_some}
 use Rattle.patterns_base.specs.Rewrites.{none}
 use Rattle.greedy.specs.Outcomes.{Applied, Refuses}
 use Rattle.greedy.specs.Rewriting.{next_by}
-use Rattle.greedy.specs.Ruled.{pattern_set_of}
+use Rattle.greedy.specs.Ruled.{model_of}
 use Rattle.ir_event.specs.Modules.{Module}
 use Rattle.greedy.specs.Work.{AreApart, CoversBut, Right, Rewritten}
-use Rattle.greedy.proofs.Applications.{pattern_set_lawful}
+use Rattle.greedy.proofs.Applications.{entries_lawful_of}
 use Rattle.greedy.proofs.Noting.{noted_more}
 use Rattle.greedy.proofs.Scans.{took, took_none, said, said_none, said_refuses, all_none, rewrote}
 use Rattle.greedy.proofs.Traces.{reported_as, reported_none, notified_there}
@@ -16,16 +16,16 @@ use Rattle.greedy.proofs.run.one.Goals as goal
 
 pub renew-requires-clause-rewritten : goal.renew-requires-clause-rewritten
 renew-requires-clause-rewritten g c =
-    let pattern_set = pattern_set_of c.args.pattern_set.now in
+    let pattern_set = model_of c.args.entries.now in
     let m = g.R.GreedyRewriter.held c.waiting.bench in
-    let n = g.R.GreedyRewriter.held c.apply_first.new.bench in
+    let n = g.R.GreedyRewriter.held c.apply_first.new.self in
     let x = c.in-Some.op in
     let noted = c.in-Ok-Some.ensures.noted (λ e. c.requires.marked (sym c.waiting.invariant.1.0 ∙ e)) in
-    let was : g.R.GreedyRewriter.before c.apply_first.new.bench c.journal_len-from.result ≡ m = ap (g.R.GreedyRewriter.before c.apply_first.new.bench) c.journal_len-from.ensures ∙ noted.1 in
+    let was : g.R.GreedyRewriter.before c.apply_first.new.self c.journal_len-from.result ≡ m = ap (g.R.GreedyRewriter.before c.apply_first.new.self) c.journal_len-from.ensures ∙ noted.1 in
     let became = rewrote pattern_set m x true n refl (subst (λ f. Applied (pattern_set.comes m x) (is_some f) m n) c.in-Ok-Some.field-0-is c.in-Ok-Some.ensures.ok) in
     let at : Rewritten x c.in-Some-preceding_of.before m n = record {
       distinct = g.R.GreedyRewriter.distinct m c.is_wellformed.ensures;
-      orderly = (pattern_set_lawful c.args.pattern_set.now c.requires.ruled).orderly m (g.R.GreedyRewriter.distinct m c.is_wellformed.ensures) (g.R.GreedyRewriter.below m c.is_wellformed.ensures) x n became;
+      orderly = (entries_lawful_of c.args.entries.now c.requires.ruled).orderly m (g.R.GreedyRewriter.distinct m c.is_wellformed.ensures) (g.R.GreedyRewriter.below m c.is_wellformed.ensures) x n became;
       nearby = c.in-Some-preceding_of.ensures.some;
     } in
     subst (λ p. Rewritten x c.in-Some-preceding_of.before p n) (sym was) at
@@ -41,14 +41,14 @@ pub renew-requires-clause-apart : goal.renew-requires-clause-apart
 renew-requires-clause-apart g c = λ e.
     let m = g.R.GreedyRewriter.held c.waiting.bench in
     let noted = c.in-Ok-Some.ensures.noted (λ i. c.requires.marked (sym c.waiting.invariant.1.0 ∙ i)) in
-    let was : g.R.GreedyRewriter.before c.apply_first.new.bench c.journal_len-from.result ≡ m = ap (g.R.GreedyRewriter.before c.apply_first.new.bench) c.journal_len-from.ensures ∙ noted.1 in
+    let was : g.R.GreedyRewriter.before c.apply_first.new.self c.journal_len-from.result ≡ m = ap (g.R.GreedyRewriter.before c.apply_first.new.self) c.journal_len-from.ensures ∙ noted.1 in
     subst (λ (p : Module). AreApart c.in-Some.op c.pop.new.work.again.items p.tree) (sym was) (c.is_apart-apart.ensures e)
 
 pub returns-in-Ok-clause-ok : goal.returns-in-Ok-clause-ok
 returns-in-Ok-clause-ok g c =
-    let pattern_set = pattern_set_of c.args.pattern_set.now in
+    let pattern_set = model_of c.args.entries.now in
     let m = g.R.GreedyRewriter.held c.waiting.bench in
-    let n = g.R.GreedyRewriter.held c.apply_first.new.bench in
+    let n = g.R.GreedyRewriter.held c.apply_first.new.self in
     let w = c.waiting.work in
     let v = c.pop.new.work in
     let h = c.waiting.invariant.0 in
@@ -58,31 +58,31 @@ returns-in-Ok-clause-ok g c =
 
 pub returns-in-Ok-clause-right : goal.returns-in-Ok-clause-right
 returns-in-Ok-clause-right g c done =
-    let pattern_set = pattern_set_of c.args.pattern_set.now in
+    let pattern_set = model_of c.args.entries.now in
     let m = g.R.GreedyRewriter.held c.waiting.bench in
     let w = c.waiting.work in
     let v = c.pop.new.work in
     let h = c.waiting.invariant.0 in
     let r : Right pattern_set w.passed w.again.items m = subst (λ p. Right pattern_set w.passed w.again.items p) (sym h) c.waiting.invariant.1.1.0 in
     let noted = c.in-Ok-Some.ensures.noted (λ e. c.requires.marked (sym c.waiting.invariant.1.0 ∙ e)) in
-    let was : g.R.GreedyRewriter.before c.apply_first.new.bench c.journal_len-from.result ≡ m = ap (g.R.GreedyRewriter.before c.apply_first.new.bench) c.journal_len-from.ensures ∙ noted.1 in
-    c.in-Ok.ensures.ok pattern_set (pattern_set_lawful c.args.pattern_set.now c.requires.ruled).away
+    let was : g.R.GreedyRewriter.before c.apply_first.new.self c.journal_len-from.result ≡ m = ap (g.R.GreedyRewriter.before c.apply_first.new.self) c.journal_len-from.ensures ∙ noted.1 in
+    c.in-Ok.ensures.ok pattern_set (entries_lawful_of c.args.entries.now c.requires.ruled).away
     (subst (λ p. CoversBut pattern_set c.in-Some.op v.passed v.again.items p) (sym was) (took pattern_set m c.in-Some.op w.passed w.again.items v.passed v.again.items r c.in-Some.ensures))
 
 pub returns-in-Err-clause-refused : goal.returns-in-Err-clause-refused
 returns-in-Err-clause-refused g c =
-    let pattern_set = pattern_set_of c.args.pattern_set.now in
+    let pattern_set = model_of c.args.entries.now in
     let m = g.R.GreedyRewriter.held c.waiting.bench in
     let w = c.waiting.work in
     let v = c.pop.new.work in
     let h = c.waiting.invariant.0 in
     let r : Right pattern_set w.passed w.again.items m = subst (λ p. Right pattern_set w.passed w.again.items p) (sym h) c.waiting.invariant.1.1.0 in
-    subst (λ p. Refuses (next_by pattern_set p) (g.R.GreedyRewriter.full c.apply_first.new.bench) c.in-Err.refusal) h
-    (said_refuses pattern_set m c.in-Some.op w.passed w.again.items v.passed v.again.items r c.in-Some.ensures (g.R.GreedyRewriter.full c.apply_first.new.bench) c.in-Err.refusal c.in-Err.ensures.refused)
+    subst (λ p. Refuses (next_by pattern_set p) (g.R.GreedyRewriter.full c.apply_first.new.self) c.in-Err.refusal) h
+    (said_refuses pattern_set m c.in-Some.op w.passed w.again.items v.passed v.again.items r c.in-Some.ensures (g.R.GreedyRewriter.full c.apply_first.new.self) c.in-Err.refusal c.in-Err.ensures.refused)
 
 pub returns-clause-ok : goal.returns-clause-ok
 returns-clause-ok g c =
-    let pattern_set = pattern_set_of c.args.pattern_set.now in
+    let pattern_set = model_of c.args.entries.now in
     let m = g.R.GreedyRewriter.held c.waiting.bench in
     let w = c.waiting.work in
     let h = c.waiting.invariant.0 in
@@ -101,9 +101,9 @@ returns-in-Err-clause-onward g c = g.R.GreedyRewriter.through _ _ _ c.waiting.in
 
 pub waiting-preserved-in-Ok-None : goal.waiting-preserved-in-Ok-None
 waiting-preserved-in-Ok-None g c =
-    let pattern_set = pattern_set_of c.args.pattern_set.now in
+    let pattern_set = model_of c.args.entries.now in
     let m = g.R.GreedyRewriter.held c.waiting.bench in
-    let n = g.R.GreedyRewriter.held c.apply_first.new.bench in
+    let n = g.R.GreedyRewriter.held c.apply_first.new.self in
     let w = c.waiting.work in
     let v = c.pop.new.work in
     let h = c.waiting.invariant.0 in
@@ -136,13 +136,13 @@ returns-clause-journal g c = c.waiting.invariant.1.1.1.1.0
 
 pub waiting-preserved : goal.waiting-preserved
 waiting-preserved g c =
-    let pattern_set = pattern_set_of c.args.pattern_set.now in
+    let pattern_set = model_of c.args.entries.now in
     let m = g.R.GreedyRewriter.held c.waiting.bench in
     let w = c.waiting.work in
     let v = c.pop.new.work in
     let h = c.waiting.invariant.0 in
     let r : Right pattern_set w.passed w.again.items m = subst (λ p. Right pattern_set w.passed w.again.items p) (sym h) c.waiting.invariant.1.1.0 in
-    let none_there : pattern_set.comes m c.in-Some.op ≡ none = subst (λ y. pattern_set.comes m y ≡ none) (sym c.in_default-preceding_of.ensures.none) ((pattern_set_lawful c.args.pattern_set.now c.requires.ruled).root m (g.R.GreedyRewriter.distinct m c.is_wellformed.ensures)) in (
+    let none_there : pattern_set.comes m c.in-Some.op ≡ none = subst (λ y. pattern_set.comes m y ≡ none) (sym c.in_default-preceding_of.ensures.none) ((entries_lawful_of c.args.entries.now c.requires.ruled).root m (g.R.GreedyRewriter.distinct m c.is_wellformed.ensures)) in (
       h,
       (
         c.waiting.invariant.1.0,
@@ -155,9 +155,9 @@ waiting-preserved g c =
 
 pub returns-in-Ok-clause-applied : goal.returns-in-Ok-clause-applied
 returns-in-Ok-clause-applied g c =
-    let pattern_set = pattern_set_of c.args.pattern_set.now in
+    let pattern_set = model_of c.args.entries.now in
     let m = g.R.GreedyRewriter.held c.waiting.bench in
-    let n = g.R.GreedyRewriter.held c.apply_first.new.bench in
+    let n = g.R.GreedyRewriter.held c.apply_first.new.self in
     let w = c.waiting.work in
     let v = c.pop.new.work in
     let x = c.in-Some.op in
@@ -167,14 +167,14 @@ returns-in-Ok-clause-applied g c =
     let fires : Some c.in-Ok-Some.by ≡ pattern_set.fires m x = sym c.in-Ok-Some.field-0-is ∙ c.in-Ok-Some.ensures.applied in
     subst (λ p. Some (record { by = c.in-Ok-Some.by; op = x; from = c.next_id-next.result; until = c.next_id.result; stays = c.in_tree-stays.result }) ≡ applied_next pattern_set p) h
     (reported_as c.in-Ok-Some.by x m n c.next_id-next.result c.next_id.result c.in_tree-stays.result c.next_id-next.ensures c.next_id.ensures c.in_tree-stays.ensures
-    ∙ sym (notified_there pattern_set (pattern_set_lawful c.args.pattern_set.now c.requires.ruled).applied m x w.passed w.again.items v.passed v.again.items r c.in-Some.ensures c.in-Ok-Some.by n fires became))
+    ∙ sym (notified_there pattern_set (entries_lawful_of c.args.entries.now c.requires.ruled).applied m x w.passed w.again.items v.passed v.again.items r c.in-Some.ensures c.in-Ok-Some.by n fires became))
 
 pub returns-clause-applied : goal.returns-clause-applied
 returns-clause-applied g c =
-    let pattern_set = pattern_set_of c.args.pattern_set.now in
+    let pattern_set = model_of c.args.entries.now in
     let m = g.R.GreedyRewriter.held c.waiting.bench in
     let w = c.waiting.work in
     let h = c.waiting.invariant.0 in
     let r : Right pattern_set w.passed w.again.items m = subst (λ p. Right pattern_set w.passed w.again.items p) (sym h) c.waiting.invariant.1.1.0 in
     let e : next_by pattern_set m ≡ none = all_none pattern_set m w.passed w.again.items r c.in_default.ensures in
-    subst (λ p. None ≡ applied_next pattern_set p) h (sym (reported_none pattern_set (pattern_set_lawful c.args.pattern_set.now c.requires.ruled).applied m e))
+    subst (λ p. None ≡ applied_next pattern_set p) h (sym (reported_none pattern_set (entries_lawful_of c.args.entries.now c.requires.ruled).applied m e))

@@ -1,6 +1,6 @@
 use Rattle.std.proofs.Common.{◌≡◌}
 use Rattle.patterns.specs.runs.Runs.{Noted}
-use Rattle.greedy.specs.Ruled.{pattern_set_of}
+use Rattle.greedy.specs.Ruled.{model_of}
 use Rattle.greedy.specs.Work.{Right, left}
 use Rattle.greedy.proofs.run.one.Given as goal
 
@@ -8,7 +8,7 @@ abbrev pub invariant-waiting : goal.invariant-waiting
 invariant-waiting g l =
     (g.R.GreedyRewriter.held l.bench ≡ g.R.GreedyRewriter.held l.fn.bench)
     × ((g.R.GreedyRewriter.marks l.bench ≡ g.R.GreedyRewriter.marks l.fn.bench)
-    × (Right (pattern_set_of l.fn.pattern_set) l.work.passed l.work.again.items (g.R.GreedyRewriter.held l.fn.bench)
+    × (Right (model_of l.fn.entries) l.work.passed l.work.again.items (g.R.GreedyRewriter.held l.fn.bench)
     × (g.R.GreedyRewriter.onward l.fn.bench l.bench
     × (Noted (g.R.GreedyRewriter.transaction l.fn.bench) (g.R.GreedyRewriter.transaction l.bench)
     × (l.last ≡ l.work.passed)))))

@@ -17,23 +17,23 @@ pub rewrites-preserved : goal.rewrites-preserved
 rewrites-preserved g c =
     let pattern_set = pattern_set_of c.args.pattern_set.now in
     let f = c.in-Ok-Some.applied in
-    let last_applied = subst (λ o. Applied (next_by pattern_set (g.R.GreedyRewriter.held c.rewrites.bench)) (is_some o) (g.R.GreedyRewriter.held c.rewrites.bench) (g.R.GreedyRewriter.held c.one.new.bench)) c.in-Ok-Some.field-0-is c.in-Ok-Some.ensures.ok in (
+    let last_applied = subst (λ o. Applied (next_by pattern_set (g.R.GreedyRewriter.held c.rewrites.bench)) (is_some o) (g.R.GreedyRewriter.held c.rewrites.bench) (g.R.GreedyRewriter.held c.next.new.bench)) c.in-Ok-Some.field-0-is c.in-Ok-Some.ensures.ok in (
       one_more pattern_set c.args.limit _ c.rewrites.count _ c.rewrites.invariant.0 _ true c.rewrites-test.true refl last_applied,
       (
         omega arith,
         (
-          c.one.ensures.marks ∙ c.rewrites.invariant.1.1.0,
+          c.next.ensures.marks ∙ c.rewrites.invariant.1.1.0,
           (
             c.in-Ok-Some.ensures.right (ap is_some c.in-Ok-Some.field-0-is),
             (
-              g.R.GreedyRewriter.through c.args.bench.now c.rewrites.bench c.one.new.bench c.rewrites.invariant.1.1.1.1.0 c.one.ensures.onward,
+              g.R.GreedyRewriter.through c.args.bench.now c.rewrites.bench c.next.new.bench c.rewrites.invariant.1.1.1.1.0 c.next.ensures.onward,
               (
-                noted_more _ _ _ c.rewrites.invariant.1.1.1.1.1.0 c.one.ensures.journal,
+                noted_more _ _ _ c.rewrites.invariant.1.1.1.1.1.0 c.next.ensures.journal,
                 (
                   c.rewrites.invariant.1.1.1.1.1.1.0 ++ (f ∷ []),
                   (
                     g.T.Tracer.joined c.rewrites.invariant.1.1.1.1.1.1.0 (f ∷ []) c.args.trace.now c.rewrites.trace c.record_rewrite.new.self c.rewrites.invariant.1.1.1.1.1.1.1.0 c.in-Ok.ensures.reported,
-                    trace_more pattern_set (pattern_set_lawful c.args.pattern_set.now c.requires.ruled).applied c.args.limit (g.R.GreedyRewriter.held c.args.bench.now) c.rewrites.count (g.R.GreedyRewriter.held c.rewrites.bench) c.rewrites.invariant.1.1.1.1.1.1.0 c.rewrites.invariant.1.1.1.1.1.1.1.1 f (g.R.GreedyRewriter.held c.one.new.bench) c.rewrites-test.true (sym c.in-Ok-Some.field-0-is ∙ c.in-Ok-Some.ensures.applied) last_applied,
+                    trace_more pattern_set (pattern_set_lawful c.args.pattern_set.now c.requires.ruled).applied c.args.limit (g.R.GreedyRewriter.held c.args.bench.now) c.rewrites.count (g.R.GreedyRewriter.held c.rewrites.bench) c.rewrites.invariant.1.1.1.1.1.1.0 c.rewrites.invariant.1.1.1.1.1.1.1.1 f (g.R.GreedyRewriter.held c.next.new.bench) c.rewrites-test.true (sym c.in-Ok-Some.field-0-is ∙ c.in-Ok-Some.ensures.applied) last_applied,
                   ),
                 ),
               ),
@@ -44,7 +44,7 @@ rewrites-preserved g c =
     )
 
 pub returns-in-Ok-None-clause-ok : goal.returns-in-Ok-None-clause-ok
-returns-in-Ok-None-clause-ok g c = converges (pattern_set_of c.args.pattern_set.now) c.args.limit _ c.rewrites.count _ c.rewrites.invariant.0 _ false refl (subst (λ f. Applied (next_by (pattern_set_of c.args.pattern_set.now) (g.R.GreedyRewriter.held c.rewrites.bench)) (is_some f) (g.R.GreedyRewriter.held c.rewrites.bench) (g.R.GreedyRewriter.held c.one.new.bench)) c.in-Ok-None.field-0-is c.in-Ok-None.ensures.ok)
+returns-in-Ok-None-clause-ok g c = converges (pattern_set_of c.args.pattern_set.now) c.args.limit _ c.rewrites.count _ c.rewrites.invariant.0 _ false refl (subst (λ f. Applied (next_by (pattern_set_of c.args.pattern_set.now) (g.R.GreedyRewriter.held c.rewrites.bench)) (is_some f) (g.R.GreedyRewriter.held c.rewrites.bench) (g.R.GreedyRewriter.held c.next.new.bench)) c.in-Ok-None.field-0-is c.in-Ok-None.ensures.ok)
 
 pub returns-in-Err-clause-refused : goal.returns-in-Err-clause-refused
 returns-in-Err-clause-refused g c = refuses (pattern_set_of c.args.pattern_set.now) c.args.limit _ c.rewrites.count _ c.rewrites.invariant.0 _ c.in-Err.refusal c.rewrites-test.true c.in-Err.ensures.refused
@@ -60,10 +60,10 @@ returns-in-Ok-false-clause-ok g c =
     ∙ ap (λ m. ended m c.rewrites.count converged) (sym c.applies.ensures.held)
 
 pub returns-in-Ok-None-clause-onward : goal.returns-in-Ok-None-clause-onward
-returns-in-Ok-None-clause-onward g c = g.R.GreedyRewriter.through _ _ _ c.rewrites.invariant.1.1.1.1.0 c.one.ensures.onward
+returns-in-Ok-None-clause-onward g c = g.R.GreedyRewriter.through _ _ _ c.rewrites.invariant.1.1.1.1.0 c.next.ensures.onward
 
 pub returns-in-Err-clause-onward : goal.returns-in-Err-clause-onward
-returns-in-Err-clause-onward g c = g.R.GreedyRewriter.through _ _ _ c.rewrites.invariant.1.1.1.1.0 c.one.ensures.onward
+returns-in-Err-clause-onward g c = g.R.GreedyRewriter.through _ _ _ c.rewrites.invariant.1.1.1.1.0 c.next.ensures.onward
 
 pub returns-in-Ok-true-clause-onward : goal.returns-in-Ok-true-clause-onward
 returns-in-Ok-true-clause-onward g c = g.R.GreedyRewriter.through _ _ _ c.rewrites.invariant.1.1.1.1.0 c.applies.ensures.onward
@@ -75,10 +75,10 @@ pub returns-in-Err-applies-clause-onward : goal.returns-in-Err-applies-clause-on
 returns-in-Err-applies-clause-onward g c = g.R.GreedyRewriter.through _ _ _ c.rewrites.invariant.1.1.1.1.0 c.applies.ensures.onward
 
 pub returns-in-Ok-None-clause-journal : goal.returns-in-Ok-None-clause-journal
-returns-in-Ok-None-clause-journal g c = noted_more _ _ _ c.rewrites.invariant.1.1.1.1.1.0 c.one.ensures.journal
+returns-in-Ok-None-clause-journal g c = noted_more _ _ _ c.rewrites.invariant.1.1.1.1.1.0 c.next.ensures.journal
 
 pub returns-in-Err-clause-journal : goal.returns-in-Err-clause-journal
-returns-in-Err-clause-journal g c = noted_more _ _ _ c.rewrites.invariant.1.1.1.1.1.0 c.one.ensures.journal
+returns-in-Err-clause-journal g c = noted_more _ _ _ c.rewrites.invariant.1.1.1.1.1.0 c.next.ensures.journal
 
 pub returns-in-Ok-true-clause-journal : goal.returns-in-Ok-true-clause-journal
 returns-in-Ok-true-clause-journal g c = noted_left _ _ _ c.rewrites.invariant.1.1.1.1.1.0 c.applies.ensures.left
@@ -92,7 +92,7 @@ returns-in-Err-applies-clause-journal g c = noted_left _ _ _ c.rewrites.invarian
 pub returns-in-Ok-None-clause-trace : goal.returns-in-Ok-None-clause-trace
 returns-in-Ok-None-clause-trace g c =
     subst (λ fs. g.T.Tracer.traced fs c.args.trace.now c.rewrites.trace)
-    (sym (trace_whole (pattern_set_of c.args.pattern_set.now) (pattern_set_lawful c.args.pattern_set.now c.requires.ruled).applied c.args.limit (g.R.GreedyRewriter.held c.args.bench.now) c.rewrites.count (g.R.GreedyRewriter.held c.rewrites.bench) c.rewrites.invariant.1.1.1.1.1.1.0 c.rewrites.invariant.1.1.1.1.1.1.1.1 (not_applied (next_by (pattern_set_of c.args.pattern_set.now) (g.R.GreedyRewriter.held c.rewrites.bench)) _ _ (subst (λ f. Applied (next_by (pattern_set_of c.args.pattern_set.now) (g.R.GreedyRewriter.held c.rewrites.bench)) (is_some f) (g.R.GreedyRewriter.held c.rewrites.bench) (g.R.GreedyRewriter.held c.one.new.bench)) c.in-Ok-None.field-0-is c.in-Ok-None.ensures.ok))))
+    (sym (trace_whole (pattern_set_of c.args.pattern_set.now) (pattern_set_lawful c.args.pattern_set.now c.requires.ruled).applied c.args.limit (g.R.GreedyRewriter.held c.args.bench.now) c.rewrites.count (g.R.GreedyRewriter.held c.rewrites.bench) c.rewrites.invariant.1.1.1.1.1.1.0 c.rewrites.invariant.1.1.1.1.1.1.1.1 (not_applied (next_by (pattern_set_of c.args.pattern_set.now) (g.R.GreedyRewriter.held c.rewrites.bench)) _ _ (subst (λ f. Applied (next_by (pattern_set_of c.args.pattern_set.now) (g.R.GreedyRewriter.held c.rewrites.bench)) (is_some f) (g.R.GreedyRewriter.held c.rewrites.bench) (g.R.GreedyRewriter.held c.next.new.bench)) c.in-Ok-None.field-0-is c.in-Ok-None.ensures.ok))))
     c.rewrites.invariant.1.1.1.1.1.1.1.0
 
 pub returns-in-Ok-true-clause-trace : goal.returns-in-Ok-true-clause-trace
@@ -108,7 +108,7 @@ returns-in-Ok-false-clause-trace g c =
     c.rewrites.invariant.1.1.1.1.1.1.1.0
 
 pub returns-in-Err-record_rewrite-clause-onward : goal.returns-in-Err-record_rewrite-clause-onward
-returns-in-Err-record_rewrite-clause-onward g c = g.R.GreedyRewriter.through _ _ _ c.rewrites.invariant.1.1.1.1.0 c.one.ensures.onward
+returns-in-Err-record_rewrite-clause-onward g c = g.R.GreedyRewriter.through _ _ _ c.rewrites.invariant.1.1.1.1.0 c.next.ensures.onward
 
 pub returns-in-Err-record_rewrite-clause-journal : goal.returns-in-Err-record_rewrite-clause-journal
-returns-in-Err-record_rewrite-clause-journal g c = noted_more _ _ _ c.rewrites.invariant.1.1.1.1.1.0 c.one.ensures.journal
+returns-in-Err-record_rewrite-clause-journal g c = noted_more _ _ _ c.rewrites.invariant.1.1.1.1.1.0 c.next.ensures.journal

@@ -7,8 +7,8 @@ use Rattle.mlir_work_transforms.proofs.at.canonicalize_at.Goals as goal
 
 pub returns-clause-does : goal.returns-clause-does
 returns-clause-does g c =
-    run_changes (canonicalization_at c.args.limit c.args.op) c.args.limit (no_limit c.args.op c.args.limit) g.L.Analysis.meaning c.args.bench.now c.run.new.bench c.run.result (IsFull c.run.new.bench.transaction.ctx) c.run.ensures.ok c.run.ensures.err c.run.ensures.refused c.run.ensures.marks
-    (c.led_benches_are_kept.ensures.ages c.args.bench.now c.run.new.bench (c.run.ensures.onward.led c.is_wellformed.ensures.context.holds).1)
+    run_changes (canonicalization_at c.args.limit c.args.op) c.args.limit (no_limit c.args.op c.args.limit) g.L.Analysis.meaning c.args.bench.now c.rewrites.new.bench c.rewrites.result (IsFull c.rewrites.new.bench.transaction.ctx) c.rewrites.ensures.ok c.rewrites.ensures.err c.rewrites.ensures.refused c.rewrites.ensures.marks
+    (c.led_benches_are_kept.ensures.ages c.args.bench.now c.rewrites.new.bench (c.rewrites.ensures.onward.led c.is_wellformed.ensures.context.holds).1)
 
 pub returns-clause-headroom : goal.returns-clause-headroom
-returns-clause-headroom g c = run_full (canonicalization_at c.args.limit c.args.op) c.args.limit (no_limit c.args.op c.args.limit) (state_of g.L.Analysis.meaning c.args.bench.now) c.run.result (IsFull c.run.new.bench.transaction.ctx) c.run.ensures.refused
+returns-clause-headroom g c = run_full (canonicalization_at c.args.limit c.args.op) c.args.limit (no_limit c.args.op c.args.limit) (state_of g.L.Analysis.meaning c.args.bench.now) c.rewrites.result (IsFull c.rewrites.new.bench.transaction.ctx) c.rewrites.ensures.refused

@@ -1,5 +1,5 @@
 use Rattle.std.proofs.Common.{subst, List}
-use Rattle.patterns_base.specs.declared.edit.Edit.{Edit as Coded}
+use Rattle.patterns_soundness.specs.base.declared.edit.Edit.{Edit as Coded}
 use Rattle.patterns_lowering.proofs.Carrying.{Carrying, along_on, carrying_none, carrying_more, carrying_done, noted_refused}
 use Rattle.patterns_lowering.proofs.apply_edits.carry.Goals as goal
 use Rattle.ir_event.proofs.of_types.Truths.{none_left, uncons}

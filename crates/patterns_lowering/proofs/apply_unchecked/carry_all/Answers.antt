@@ -1,8 +1,8 @@
 use Rattle.std.proofs.Common.{subst, List}
 use Rattle.ir_event.proofs.of_types.Truths.{none_left, uncons}
 use Rattle.rewriter.specs.Held.{module_held}
-use Rattle.patterns_base.specs.declared.edit.Edit.{Edit as Coded}
-use Rattle.patterns_base.specs.Lists.{Free, edits_meaning}
+use Rattle.patterns_soundness.specs.base.declared.edit.Edit.{Edit as Coded}
+use Rattle.patterns_soundness.specs.base.Lists.{Free, edits_meaning}
 use Rattle.patterns_lowering.proofs.Carrying.{Carrying, along_on, carrying_done, carrying_more, carrying_none, carrying_why, fits_next, noted_refused}
 use Rattle.patterns_lowering.proofs.Freely.{free_more}
 use Rattle.patterns_lowering.proofs.apply_unchecked.carry_all.Goals as goal

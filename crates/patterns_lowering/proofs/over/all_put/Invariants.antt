@@ -1,5 +1,5 @@
 use Rattle.std.proofs.Common.{◌≡◌, ◌++◌, length, map}
-use Rattle.patterns_plans.specs.Opened.{argument_replacement}
+use Rattle.patterns_regions.specs.Opened.{argument_replacement}
 use Rattle.patterns_lowering.proofs.over.all_put.Given as goal
 
 abbrev pub invariant-values : goal.invariant-values

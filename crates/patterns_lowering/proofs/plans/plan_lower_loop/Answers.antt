@@ -4,10 +4,10 @@ use Rattle.ir_event.specs.types.Terms.{name_term}
 use Rattle.ir_event.specs.Modules.{module_in}
 use Rattle.patterns_soundness.specs.base.Words.{named}
 use Rattle.patterns_soundness.specs.base.Lowering.{any, lower_loop}
-use Rattle.patterns_plans.specs.Blocks.{body_at}
+use Rattle.patterns_regions.specs.Blocks.{body_at}
 use Rattle.patterns_lowering.specs.Planned.{AreTaken}
 use Rattle.patterns_lowering.proofs.Shown.{raw, types_known_at}
-use Rattle.patterns_lowering.proofs.Ruled.{not_there, not_lower_loop, unmarked_lower_loop, no_block_lower_loop, is_lower_loop, indexed_lower_loop}
+use Rattle.patterns_lowering.proofs.Ruled.{not_there, not_lower_loop, unmarked_lower_loop, no_block_lower_loop, is_lower_loop, indexed_lower_loop, other_loop, unmarked_loop, blockless_loop, lowered_loop_tested}
 use Rattle.patterns_lowering.proofs.plans.plan_lower_loop.Goals as goal
 
 pub returns-in_default-clause-edits : goal.returns-in_default-clause-edits
@@ -44,3 +44,26 @@ returns-clause-of c =
     c.in-Some-arguments.types.now (sym c.in-Some-arguments.ensures) c.in_ok-arguments.ensures.items c.in_ok-index_arguments.ensures
     (subst (λ b. AreTaken (body_at c.args.op 0 (module_in c.args.world.now).tree) b) c.in-Some-2.is c.in_ok-body.ensures)
     c.requires
+
+pub returns-then-not-is_word-clause-reason : goal.returns-then-not-is_word-clause-reason
+returns-then-not-is_word-clause-reason c = other_loop c.args.world.now c.args.op c.in-Some.node c.in-Some.ensures.node c.is_word.result (c.is_word.ensures ∙ ap (λ n. named (codes "scf.for") (name_term c.args.world.now.ctx n)) c.name.ensures) c.if-not-is_word.true
+
+pub returns-then-not-any-clause-reason : goal.returns-then-not-any-clause-reason
+returns-then-not-any-clause-reason c =
+    unmarked_loop c.args.world.now c.args.op c.in-Some.node c.in-Some.ensures.node c.in_ok-of.of c.in_ok-of.ensures c.is_word.result c.any.result
+    (c.is_word.ensures ∙ ap (λ n. named (codes "scf.for") (name_term c.args.world.now.ctx n)) c.name.ensures) c.if-not-is_word.false (c.any.ensures ∙ ap any c.deref.ensures.value) c.if-not-any.true
+
+pub returns-clause-reason : goal.returns-clause-reason
+returns-clause-reason c =
+    lowered_loop_tested c.args.world.now c.args.op c.in-Some.node c.in-Some.ensures.node c.in_ok-of.of c.in_ok-of.ensures c.is_word.result c.any.result
+    (c.is_word.ensures ∙ ap (λ n. named (codes "scf.for") (name_term c.args.world.now.ctx n)) c.name.ensures) c.if-not-is_word.false (c.any.ensures ∙ ap any c.deref.ensures.value) _ c.if-not-any.false
+
+pub returns-in_default-arguments-clause-reason : goal.returns-in_default-arguments-clause-reason
+returns-in_default-arguments-clause-reason c =
+    blockless_loop c.args.world.now c.args.op c.in-Some.node c.in-Some.ensures.node c.in_ok-of.of c.in_ok-of.ensures c.is_word.result c.any.result
+    (c.is_word.ensures ∙ ap (λ n. named (codes "scf.for") (name_term c.args.world.now.ctx n)) c.name.ensures) c.if-not-is_word.false (c.any.ensures ∙ ap any c.deref.ensures.value) c.if-not-any.false
+
+pub returns-in_default-take-clause-reason : goal.returns-in_default-take-clause-reason
+returns-in_default-take-clause-reason c =
+    blockless_loop c.args.world.now c.args.op c.in-Some.node c.in-Some.ensures.node c.in_ok-of.of c.in_ok-of.ensures c.is_word.result c.any.result
+    (c.is_word.ensures ∙ ap (λ n. named (codes "scf.for") (name_term c.args.world.now.ctx n)) c.name.ensures) c.if-not-is_word.false (c.any.ensures ∙ ap any c.deref.ensures.value) c.if-not-any.false

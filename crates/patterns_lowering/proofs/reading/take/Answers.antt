@@ -1,6 +1,6 @@
 use Rattle.std.proofs.Common.{◌∙◌, refl, subst, ap, sym}
 use Rattle.std.specs.Prelude.{option_map, Some, None}
-use Rattle.patterns_plans.specs.Blocks.{ended_in}
+use Rattle.patterns_regions.specs.Blocks.{ended_in}
 use Rattle.patterns_lowering.specs.Planned.{AreTaken}
 use Rattle.patterns_lowering.proofs.reading.take.Goals as goal
 

@@ -1,4 +1,0 @@
-pub mod Reasons
-pub use Rattle.patterns_plans.specs.Conditions
-pub use Rattle.patterns_plans.specs.RuleTests
-pub use Rattle.patterns_plans.specs.declared.reason.Reason

@@ -1,0 +1,9 @@
+pub mod Answers
+pub mod Blocks
+pub mod Opened
+pub mod RegionRules
+pub mod Times
+pub use Rattle.patterns_plans.specs.Conditions
+pub use Rattle.patterns_plans.specs.RuleTests
+pub use Rattle.patterns_plans.specs.declared.reason.Reason
+pub use Rattle.patterns_plans.specs.reads
