@@ -66,6 +66,20 @@ class Costs(unittest.TestCase):
             with self.subTest(kind):
                 self.assertLess(self.edits(kind, 10000), 5 * self.edits(kind, 100) + 0.2)
 
+    def reports(self, kind, count):
+        """The seconds of 500 reports about one operation of a module of so many operations."""
+        module = OPS * count + DIVIDER
+        out, whole = ran(module + f"report {kind} of #{count // 2}\n" * 500)
+        self.assertNotIn(" refused ", out)
+        return whole - ran(module)[1]
+
+    def test_a_report_about_an_operation_reads_its_rows_alone(self):
+        """500 reports about one of 10,000 operations take as long as about one of 100, where whole reports take a
+        second."""
+        for kind in KINDS:
+            with self.subTest(kind):
+                self.assertLess(self.reports(kind, 10000), 5 * self.reports(kind, 100) + 0.2)
+
 
 if __name__ == "__main__":
     unittest.main()

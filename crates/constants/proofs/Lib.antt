@@ -4,6 +4,7 @@ pub mod Forgetful
 pub mod Notified
 pub mod Learnable
 pub mod Finding
+pub mod Abouts
 pub mod Reporting
 pub mod Begins
 pub mod Entering

@@ -17,20 +17,19 @@ use Rattle.ir_event.specs.trees.Meaning.{Operation}
 use Rattle.ir_event.specs.declared.row.Cell.TheVariants as cell
 use Rattle.ir_event.specs.trees.declared.value.Value.TheVariants.{Result}
 use Rattle.ir_event.specs.declared.row.Row.{Row as Line}
+use Rattle.ir_event.specs.declared.subject.Subject.{Subject}
+use Rattle.ir_event.specs.Subjects.{rows_about}
 use Rattle.ir_event.specs.Rows.{cell_meaning, rows_meaning, CellIsOf, RowIsOf, Shows}
 use Rattle.dialects_int.specs.Folds.{Known, known_of}
 use Rattle.constants.specs.Walk.{facts_of}
 use Rattle.constants.specs.Rows.{constants_of, constant_row, constants_rows}
 use Rattle.ir_event.proofs.ById.{look, Above, Rising, rising_same}
 use Rattle.constants.proofs.Sorted.{constants_rising, constants_look}
-use Rattle.constants.specs.Tables.{known_in, cells_of}
+use Rattle.constants.specs.Tables.{known_in, cells_of, entries_about}
+use Rattle.constants.proofs.Abouts.{said, about_constants}
 use Rattle.constants.proofs.Tables.{same_test}
 use Rattle.ir_event.proofs.of_types.Sorting.{flips_eq}
 use Rattle.ir_event.proofs.of_types.Truths.{less_than}
-
--- the known values of a table's entries
-abbrev said : List (ℕ × Bits) → List (ℕ × Known)
-said es = map (λ (e : ℕ × Bits). (e.0, (e.1.kind, e.1.value))) es
 
 above_said : (x : ℕ) (es : List (ℕ × Bits)) → AllByRecursion (λ y. nat_cmp x y ≡ Less) (keys_of es) → Above x (said es)
 above_said x [] a = tt
@@ -76,3 +75,11 @@ module _ (c : ContextModel) where
   pub shows_constants : (m : IdMap Bits) (rows : List Line) (t : Operation) → idmap.IsOrdered m → map (λ (r : Line). r.cells.items) rows ≡ map cells_of m.entries → HasDistinctIds t → ((x : ℕ) → known_in m x ≡ facts_of t x)
       → Shows c rows (constants_rows t)
   shows_constants m rows t ordered is d h = record { says = rows_say rows m.entries is ∙ ap (map constant_row) (said_constants m t ordered d h); known = rows_known rows m.entries is }
+
+  -- the rows about a subject
+  pub shows_constants_about : (s : Subject) (m : IdMap Bits) (rows : List Line) (t : Operation) → map (λ (r : Line). r.cells.items) rows ≡ map cells_of (entries_about s m) → HasDistinctIds t → ((x : ℕ) → known_in m x ≡ facts_of t x)
+      → Shows c rows (rows_about s (constants_rows t))
+  shows_constants_about s m rows t is d h = record {
+    says = rows_say rows (entries_about s m) is ∙ sym (about_constants (constants_of t) (constants_rising t d) m s (λ x. constants_look t d x ∙ sym (h x)));
+    known = rows_known rows (entries_about s m) is;
+  }

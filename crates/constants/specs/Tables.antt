@@ -1,5 +1,5 @@
 -- The table of known values, and its updates.
-use Rattle.std.specs.Prelude.{◌≡◌, ◌⊎◌, ℕ, ◌+◌, ◌≤◌, List, [], ◌∷◌, map, Option, None, Bool, true, false}
+use Rattle.std.specs.Prelude.{◌≡◌, ◌⊎◌, ℕ, ◌+◌, ◌≤◌, List, [], ◌∷◌, map, eqb, if◌then◌else◌, Option, Some, None, Bool, true, false}
 use Rattle.std.specs.Ordering.{nat_cmp}
 use Rattle.listeners_support.specs.Map.{IdMap}
 use Rattle.listeners_support.specs.Map as idmap
@@ -10,7 +10,9 @@ use Rattle.ir_event.specs.declared.event.Event.TheVariants.{Put, Take, SetOperan
 use Rattle.ir_event.specs.declared.row.Cell.{Cell}
 use Rattle.ir_event.specs.declared.row.Cell.TheVariants.{Val, Bits as BitsCell}
 use Rattle.ir_event.specs.trees.declared.value.Value.{Value}
-use Rattle.ir_event.specs.trees.declared.value.Value.TheVariants.{Result}
+use Rattle.ir_event.specs.trees.declared.value.Value.TheVariants.{Result, Arg}
+use Rattle.ir_event.specs.declared.subject.Subject.{Subject}
+use Rattle.ir_event.specs.declared.subject.Subject.TheVariants as subject
 use Rattle.ir_event.specs.declared.world.World.{World}
 use Rattle.ir_event.specs.Modules.{module_in}
 use Rattle.dialects_int.specs.Folds.{known_of}
@@ -28,6 +30,23 @@ known_in table x = known_of (idmap.get table x)
 -- the cells of an entry
 abbrev pub cells_of : ℕ × Bits → List Cell
 cells_of e = Val (Result e.0 0) ∷ BitsCell e.1 ∷ []
+
+-- the entry of an operation, and the entry whose result is a value
+abbrev pub entry_if : ℕ → Option Bits → List (ℕ × Bits)
+entry_if x None = []
+entry_if x (Some b) = (x, b) ∷ []
+
+abbrev pub entry_of : ℕ → IdMap Bits → List (ℕ × Bits)
+entry_of x table = entry_if x (idmap.get table x)
+
+abbrev pub entry_at : Value → IdMap Bits → List (ℕ × Bits)
+entry_at (Result x k) table = if eqb k 0 then entry_of x table else []
+entry_at (Arg x r k) table = []
+
+-- the entry about a subject
+abbrev pub entries_about : Subject → IdMap Bits → List (ℕ × Bits)
+entries_about (subject.Op x) table = entry_of x table
+entries_about (subject.Val v) table = entry_at v table
 
 -- the operations of the module, and the number of uses of an operation's results
 abbrev pub look_in : World → ℕ → Option Header

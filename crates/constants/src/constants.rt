@@ -8,10 +8,11 @@ ghost use Rattle.constants.specs.Tables.{teaches_nothing};
 use crate::collect::enter_module;
 use crate::follow::follow;
 use crate::packed::PackedBits;
-use crate::report::lines;
+use crate::report::{lines, lines_about};
 use ir_event::analysis::Analysis;
 use ir_event::event::Event;
 use ir_event::row::{Kind, Memory, ReportFault, Row};
+use ir_event::subject::Subject;
 use ir_event::types::ids::OpId;
 use ir_event::view::View;
 use ir_event::world::World;
@@ -92,6 +93,16 @@ impl Analysis for Constants {
             return Err(ReportFault::Stale);
         }
         match lines(self.alloc, &self.table) {
+            Ok(rows) => Ok(rows),
+            Err(_) => Err(ReportFault::Memory),
+        }
+    }
+
+    fn report_about(&self, _world: &World, subject: &Subject) -> Result<Vec<Row>, ReportFault> {
+        if self.stale {
+            return Err(ReportFault::Stale);
+        }
+        match lines_about(self.alloc, &self.table, subject) {
             Ok(rows) => Ok(rows),
             Err(_) => Err(ReportFault::Memory),
         }

@@ -4,10 +4,11 @@ ghost use Rattle.listeners_support.specs.Map as idmap;
 ghost use Rattle.listeners_support.specs.Map.{entries_from};
 ghost use Rattle.ir_event.specs.types.declared.bits.Bits.{Bits as Known};
 ghost use Rattle.ir_event.specs.declared.row.Row.{Row as Line};
-ghost use Rattle.constants.specs.Tables.{cells_of};
+ghost use Rattle.constants.specs.Tables.{cells_of, entries_about, entry_at, entry_of};
 
 use crate::packed::PackedBits;
 use ir_event::row::{Cell, Row};
+use ir_event::subject::Subject;
 use ir_event::trees::value::Value;
 use ir_event::types::bits::Bits;
 use ir_event::types::ids::OpId;
@@ -106,5 +107,55 @@ pub(crate) fn lines(alloc: Global, table: &IdMap<PackedBits>) -> Result<Vec<Row>
     table.ordered();
     let mut out = Vec::new(alloc);
     push_lines(alloc, table, &mut out)?;
+    Ok(out)
+}
+
+/// Returns the row about the result of an operation or about a value, if its value is known.
+pub(crate) fn lines_about(
+    alloc: Global,
+    table: &IdMap<PackedBits>,
+    subject: &Subject,
+) -> Result<Vec<Row>, AllocError>
+    ensures { IfOk result (λ out. map (λ (r : Line). r.cells.items) out.items
+        ≡ map cells_of (entries_about subject.now table.now)) }
+{
+    match subject {
+        Subject::Op(op) => lines_of(alloc, table, *op),
+        Subject::Val(value) => lines_of_value(alloc, table, value),
+    }
+}
+
+/// Returns the row of a value, if it is known.
+fn lines_of_value(
+    alloc: Global,
+    table: &IdMap<PackedBits>,
+    value: &Value,
+) -> Result<Vec<Row>, AllocError>
+    ensures { IfOk result (λ out. map (λ (r : Line). r.cells.items) out.items
+        ≡ map cells_of (entry_at value.now table.now)) }
+{
+    match *value {
+        Value::Result(op, place) if place == 0 => lines_of(alloc, table, op),
+        Value::Result(_, _) => Ok(Vec::new(alloc)),
+        Value::Arg(_, _, _) => Ok(Vec::new(alloc)),
+    }
+}
+
+/// Returns the row of an operation's result, if its value is known.
+fn lines_of(alloc: Global, table: &IdMap<PackedBits>, op: OpId) -> Result<Vec<Row>, AllocError>
+    ensures { IfOk result (λ out. map (λ (r : Line). r.cells.items) out.items ≡ map cells_of (entry_of op table.now)) }
+{
+    match table.get(op.number()) {
+        None => Ok(Vec::new(alloc)),
+        Some(packed) => one_line(alloc, op, &packed.bits()),
+    }
+}
+
+/// Returns the row of a known value, alone.
+fn one_line(alloc: Global, op: OpId, bits: &Bits) -> Result<Vec<Row>, AllocError>
+    ensures { IfOk result (λ out. map (λ (r : Line). r.cells.items) out.items ≡ cells_of (op, bits.now) ∷ []) }
+{
+    let mut out = Vec::new(alloc);
+    push_line(alloc, op, bits, &mut out)?;
     Ok(out)
 }

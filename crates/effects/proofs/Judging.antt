@@ -27,16 +27,21 @@ use Rattle.effects.specs.Effects.{own_kinds, is_recursive, effects_by, regions_e
 use Rattle.op_registry.specs.declared.own.Own.{Own}
 use Rattle.op_registry.specs.declared.own.Own.TheVariants.{Pure, Only, Recursive, Unknown}
 use Rattle.effects.specs.Dead.{is_unused, is_kept, is_missed, stays, may_go, is_dead}
-use Rattle.effects.specs.Points.{points, one_if}
+use Rattle.effects.specs.Picked.{idle_row}
+use Rattle.effects.specs.Points.{Rows, points, one_if}
 use Rattle.effects.specs.Walks.{rows_at}
 use Rattle.effects.specs.Following.{Whole}
 use Rattle.ir_event.specs.Heads.{heads, all_operands}
 use Rattle.effects.specs.Counts.{Counts, results_among, Counted, is_zero}
 use Rattle.ir_event.specs.Rows.{by_id}
+use Rattle.ir_event.specs.Subjects.{rows_about}
+use Rattle.ir_event.specs.declared.subject.Subject.{Subject}
+use Rattle.ir_event.specs.declared.subject.Subject.TheVariants as subject
 use Rattle.effects.specs.Reports.{of_each, those, cell_of, dead_of, dead_rows}
-use Rattle.effects.specs.Listed.{checked}
+use Rattle.effects.specs.Listed.{checked, checked_about}
 use Rattle.ir_event.proofs.ById.{look, Above, Rising, rising_same}
 use Rattle.effects.proofs.Shown.{each_look, each_rising, shown_found}
+use Rattle.effects.proofs.Abouts.{about_dead, no_dead}
 use Rattle.effects.proofs.Headed.{unused_is}
 use Rattle.ir_event.proofs.of_types.Truths.{less_than, same_test}
 
@@ -114,7 +119,7 @@ module _ (t : Operation) (counts : Counts) (counted : Counted counts t) where
       ap (λ b. b && may_go (effects own_of o)) zero
       ∙ same_judgement (is_unused (head o).id t) (is_kept (head o).name) (is_missed (own_of (head o).name)) (may_go (effects own_of o)) (missed_one o)
 
-  checked_all : (x : ℕ) (rows : Option Row) → option_map (effects own_of) (find x t) ≡ option_map (λ (r : Row). r.has) rows → option_map (λ (r : Row). is_zero (counts x) && may_go r.has) rows ≡ option_map (is_dead t) (find x t)
+  pub checked_all : (x : ℕ) (rows : Option Row) → option_map (effects own_of) (find x t) ≡ option_map (λ (r : Row). r.has) rows → option_map (λ (r : Row). is_zero (counts x) && may_go r.has) rows ≡ option_map (is_dead t) (find x t)
   checked_all x rows e = twice rows ∙ ap (option_map (λ s. is_zero (counts x) && may_go s)) (sym e) ∙ each (find x t) refl
     where
       twice : (r : Option Row) → option_map (λ (r : Row). is_zero (counts x) && may_go r.has) r ≡ option_map (λ s. is_zero (counts x) && may_go s) (option_map (λ (r : Row). r.has) r)
@@ -160,3 +165,16 @@ module _ (c : ContextModel) where
   pub shown_by : (m lent : IdMap Row) (counts : Counts) (rows : List Line) (t : Operation) → lent ≡ m → idmap.IsOrdered lent → map (λ (r : Line). r.cells.items) rows ≡ map (cell_of cell.Op) (those (checked counts lent.entries))
       → HasDistinctIds t → Whole (rows_at m) (points own_of None t) → Counted counts t → Shows c rows (dead_rows t)
   shown_by m lent counts rows t same ordered is d h counted = shows_dead lent counts rows t ordered is d (subst (λ (z : IdMap Row). Whole (rows_at z) (points own_of None t)) (sym same) h) counted
+
+  -- the rows about a subject
+  pub shows_dead_about : (s : Subject) (rows lent : Rows) (counts : Counts) (out : List Line) (t : Operation) → lent ≡ rows → map (λ (r : Line). r.cells.items) out ≡ map (cell_of cell.Op) (those (checked_about s counts lent))
+      → HasDistinctIds t → Whole rows (points own_of None t) → Counted counts t → Shows c out (rows_about s (dead_rows t))
+  shows_dead_about (subject.Op x) rows lent counts out t same is d h counted =
+      let now : Whole lent (points own_of None t) = subst (λ z. Whole z (points own_of None t)) (sym same) h in
+      let found = each_look (is_dead t) t d x ∙ sym (checked_all t counts counted x (lent x) (shown_found own_of t lent d now x)) in
+      record {
+        says = rows_say out _ is ∙ sym (about_dead x (by_id (of_each (is_dead t) t)) (is_zero (counts x)) (lent x) (each_rising (is_dead t) t d) found);
+        known = rows_known out _ is;
+      }
+  shows_dead_about (subject.Val v) rows lent counts out t same is d h counted =
+      record { says = rows_say out [] is ∙ sym (no_dead v (by_id (of_each (is_dead t) t))); known = rows_known out [] is }

@@ -8,6 +8,7 @@ pub mod Changes
 pub mod Begins
 pub mod Agreed
 pub mod Shown
+pub mod Abouts
 pub mod Reporting
 pub mod Headed
 pub mod Tallies

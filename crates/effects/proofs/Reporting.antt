@@ -24,14 +24,18 @@ use Rattle.ir_event.specs.Rows.{CellTerm, Op, Tag, cell_meaning, rows_meaning, C
 use Rattle.effects.specs.declared.effect_kinds.EffectKinds.{EffectKinds}
 use Rattle.effects.specs.declared.row.Row.{Row}
 use Rattle.effects.specs.Effects.{effects}
-use Rattle.effects.specs.Points.{points}
+use Rattle.effects.specs.Points.{Rows, points}
 use Rattle.effects.specs.Walks.{rows_at}
 use Rattle.op_registry.specs.Registry.{own_of}
 use Rattle.effects.specs.Following.{Whole}
 use Rattle.ir_event.specs.Rows.{by_id}
+use Rattle.ir_event.specs.Subjects.{rows_about}
+use Rattle.ir_event.specs.declared.subject.Subject.{Subject}
+use Rattle.ir_event.specs.declared.subject.Subject.TheVariants as subject
 use Rattle.effects.specs.Reports.{of_each, having, tag_if, cells_of, effects_of, effects_rows}
-use Rattle.effects.specs.Listed.{said}
+use Rattle.effects.specs.Listed.{said, said_about}
 use Rattle.ir_event.proofs.ById.{look, Above, Rising, rising_same}
+use Rattle.effects.proofs.Abouts.{about_effects, no_effects}
 use Rattle.effects.proofs.Shown.{each_look, each_rising, shown_found}
 use Rattle.ir_event.proofs.of_types.Truths.{less_than, same_test}
 
@@ -120,3 +124,15 @@ module _ (c : ContextModel) where
   shows_effects m rows t ordered is d h =
       let e = is ∙ ap (λ l. map (cells_of cell.Op cell.Tag) (having l)) (said_listed m t ordered d h) in
       record { says = rows_say rows (effects_of t) e; known = rows_known rows (effects_of t) e }
+
+  -- the rows about a subject
+  pub shows_effects_about : (s : Subject) (rows : Rows) (out : List Line) (t : Operation) → map (λ (r : Line). r.cells.items) out ≡ map (cells_of cell.Op cell.Tag) (said_about s rows)
+      → HasDistinctIds t → Whole rows (points own_of None t) → Shows c out (rows_about s (effects_rows t))
+  shows_effects_about (subject.Op x) rows out t is d h =
+      let found = each_look (effects own_of) t d x ∙ shown_found own_of t rows d h x in
+      record {
+        says = rows_say out _ is ∙ sym (about_effects x (by_id (of_each (effects own_of) t)) (rows x) (each_rising (effects own_of) t d) found);
+        known = rows_known out _ is;
+      }
+  shows_effects_about (subject.Val v) rows out t is d h =
+      record { says = rows_say out [] is ∙ sym (no_effects v (by_id (of_each (effects own_of) t))); known = rows_known out [] is }

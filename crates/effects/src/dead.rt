@@ -10,13 +10,14 @@ ghost use Rattle.effects.specs.Counts.{counts_in, Counted};
 use crate::counting::follow_counts;
 use crate::counts::no_counts;
 use crate::effects::Effects;
-use crate::report::dead_lines;
+use crate::report::{dead_lines, dead_lines_about};
 use crate::tally::{enter_all, raise_each};
 use crate::use_counts::UseCounts;
 use ir_event::analysis::Analysis;
 use ir_event::event::Event;
 use ir_event::row as report;
 use ir_event::row::{Kind, Memory, ReportFault};
+use ir_event::subject::Subject;
 use ir_event::view::View;
 use ir_event::world::World;
 use std::alloc::Global;
@@ -113,6 +114,20 @@ impl Analysis for Dead {
             return Err(ReportFault::Stale);
         }
         match dead_lines(self.alloc, self.effects.rows(), &self.counts) {
+            Ok(rows) => Ok(rows),
+            Err(_) => Err(ReportFault::Memory),
+        }
+    }
+
+    fn report_about(
+        &self,
+        _world: &World,
+        subject: &Subject,
+    ) -> Result<Vec<report::Row>, ReportFault> {
+        if self.stale {
+            return Err(ReportFault::Stale);
+        }
+        match dead_lines_about(self.alloc, self.effects.rows(), &self.counts, subject) {
             Ok(rows) => Ok(rows),
             Err(_) => Err(ReportFault::Memory),
         }

@@ -8,12 +8,13 @@ ghost use Rattle.ir_event.specs.Step.{Step};
 use crate::collect::insert_module;
 use crate::effect_rows::EffectRows;
 use crate::follow::follow;
-use crate::report::lines;
+use crate::report::{lines, lines_about};
 use crate::table::no_rows;
 use ir_event::analysis::Analysis;
 use ir_event::event::Event;
 use ir_event::row as report;
 use ir_event::row::{Kind, Memory, ReportFault};
+use ir_event::subject::Subject;
 use ir_event::view::View;
 use ir_event::world::World;
 use std::alloc::Global;
@@ -100,6 +101,20 @@ impl Analysis for Effects {
             return Err(ReportFault::Stale);
         }
         match lines(self.alloc, &self.rows) {
+            Ok(rows) => Ok(rows),
+            Err(_) => Err(ReportFault::Memory),
+        }
+    }
+
+    fn report_about(
+        &self,
+        _world: &World,
+        subject: &Subject,
+    ) -> Result<Vec<report::Row>, ReportFault> {
+        if self.stale {
+            return Err(ReportFault::Stale);
+        }
+        match lines_about(self.alloc, &self.rows, subject) {
             Ok(rows) => Ok(rows),
             Err(_) => Err(ReportFault::Memory),
         }

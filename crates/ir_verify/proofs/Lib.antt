@@ -1,5 +1,6 @@
 pub mod Sets
 pub mod Gathering
+pub mod Abouts
 pub mod Telling
 pub mod Presence
 pub mod Pairs

@@ -3,6 +3,7 @@ use Rattle.std.proofs.Common.{◌≡◌, refl, sym, ap, ◌∙◌, subst, ℕ, �
 use Rattle.std.specs.Prelude.{option_map, codes, ◌==◌, ◌&&◌}
 use Rattle.std.specs.List.{All, filter}
 use Rattle.std.specs.Ordering.{nat_cmp}
+use Rattle.std.specs.BTreeMap.{BTreeMap, IsOrdered, get}
 use Rattle.std.specs.declared.cmp.Ordering.TheVariants.{Less, Equal, Greater}
 use Rattle.std.specs.FinMap.Entries.{put, by_order}
 use Rattle.std.proofs.lemmas.List.{map-append}
@@ -16,6 +17,9 @@ use Rattle.op_registry.specs.Registry.{row_of}
 use Rattle.ir_verify_base.specs.events.declared.row.Cell.{Cell}
 use Rattle.ir_verify_base.specs.events.declared.row.Cell.TheVariants.{Op, Rule}
 use Rattle.ir_verify_base.specs.events.declared.row.Row.{Row as Line}
+use Rattle.ir_verify_base.specs.events.declared.subject.Subject.{Subject}
+use Rattle.ir_verify_base.specs.events.declared.subject.Subject.TheVariants as subject
+use Rattle.ir_verify_base.specs.events.Subjects.{rows_about}
 use Rattle.ir_verify_base.specs.events.Rows.{cell_meaning, rows_meaning, CellIsOf, RowIsOf, Shows}
 use Rattle.ir_verify_base.specs.Surroundings.{surround, surroundings}
 use Rattle.ir_verify_base.specs.Facts.{fact_of, sorted_in, sorted_facts, kept_facts}
@@ -26,7 +30,8 @@ use Rattle.ir_verify.specs.Breaks.{broken_rules_in, broken, numbers_from}
 use Rattle.ir_verify.specs.Beyond.{is_beyond, is_on_types, reported}
 use Rattle.ir_verify.specs.Sets.{bits_of, rules_in, has_any, set_of, finding_of, breaks_any, is_reported, reported_rules}
 use Rattle.ir_verify.specs.Diagnostics.{broken_at, rule_rows, rows_of, diagnostics_of}
-use Rattle.ir_verify.specs.Reports.{rule_cells, rules_cells, all_cells}
+use Rattle.ir_verify.specs.Reports.{rule_cells, rules_cells, all_cells, cells_about, found_cells}
+use Rattle.ir_verify.proofs.Abouts.{about_findings, no_findings, read, rules_found}
 use Rattle.ir_verify.proofs.Sets.{unpacked, none}
 
 few : (row : Option Row) (s : Surroundings) → length (broken_rules_in row s) ≤ 24
@@ -69,9 +74,6 @@ unfolding reported_rules
 none_reported f e = ap (filter (is_reported f)) (no_rules f.broken e)
 
 -- ---- tables of findings
-abbrev read : ℕ × Finding → ℕ × List ℕ
-read e = (e.0, reported_rules e.1)
-
 put_read : (x : ℕ) (r : Finding) (es : List (ℕ × Finding)) → map read (put nat_cmp x r es) ≡ put nat_cmp x (reported_rules r) (map read es)
 put_read x r [] = refl
 put_read x r (e ∷ es) = elim (nat_cmp x e.0) as (λ o. map read (by_order o ((x, r) ∷ e ∷ es) ((e.0, r) ∷ es) (e ∷ put nat_cmp x r es)) ≡ by_order o ((x, reported_rules r) ∷ read e ∷ map read es) ((e.0, reported_rules r) ∷ map read es) (read e ∷ put nat_cmp x (reported_rules r) (map read es))) [
@@ -128,4 +130,27 @@ module _ (c : ContextModel) where
   shows_diagnostics t es rows e is = record {
     says = lines_say rows ∙ ap (map (map (cell_meaning c))) is ∙ all_say es ∙ ap (λ l. rows_of (map read l)) e ∙ all_rows (sorted_facts finding_of t) ∙ ap rows_of (facts_read t (stands [] t));
     known = lines_known rows (subst AreOf (sym is) (all_known es));
+  }
+
+  -- the rows of a table's findings are those of the tree
+  diagnostics_read : (t : Operation) (es : List (ℕ × Finding)) → es ≡ kept_facts finding_of breaks_any t → rows_of (map read es) ≡ diagnostics_of t
+  diagnostics_read t es e = ap (λ l. rows_of (map read l)) e ∙ all_rows (sorted_facts finding_of t) ∙ ap rows_of (facts_read t (stands [] t))
+
+  found_say : (x : ℕ) (f : Option Finding) → map (map (cell_meaning c)) (found_cells x f) ≡ rule_rows x (rules_found f)
+  found_say x None = refl
+  found_say x (Some f) = cells_say x (reported_rules f)
+
+  found_known : (x : ℕ) (f : Option Finding) → AreOf (found_cells x f)
+  found_known x None = All-nil (λ cells. All (CellIsOf c) cells)
+  found_known x (Some f) = cells_known x (reported_rules f)
+
+  -- the rows about a subject
+  pub shows_diagnostics_about : (s : Subject) (t : Operation) (table : BTreeMap ℕ Finding) (rows : List Line) → IsOrdered nat_cmp table → table.entries ≡ kept_facts finding_of breaks_any t → map (λ (r : Line). r.cells.items) rows ≡ cells_about s table → Shows c rows (rows_about s (diagnostics_of t))
+  shows_diagnostics_about (subject.Op x) t table rows ordered e is = record {
+    says = lines_say rows ∙ ap (map (map (cell_meaning c))) is ∙ found_say x (get nat_cmp table x) ∙ sym (about_findings x table ordered) ∙ ap (rows_about (subject.Op x)) (diagnostics_read t table.entries e);
+    known = lines_known rows (subst AreOf (sym is) (found_known x (get nat_cmp table x)));
+  }
+  shows_diagnostics_about (subject.Val v) t table rows ordered e is = record {
+    says = lines_say rows ∙ ap (map (map (cell_meaning c))) is ∙ sym (no_findings v table.entries) ∙ ap (rows_about (subject.Val v)) (diagnostics_read t table.entries e);
+    known = lines_known rows (subst AreOf (sym is) (All-nil (λ cells. All (CellIsOf c) cells)));
   }

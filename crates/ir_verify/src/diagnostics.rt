@@ -2,10 +2,11 @@
 ghost use Rattle.std.specs.Prelude.{◌≡◌, true};
 
 use crate::finding::Finding;
-use crate::report::rows;
+use crate::report::{rows, rows_about};
 use ir_verify_base::events::analysis::Analysis;
 use ir_verify_base::events::event::Event;
 use ir_verify_base::events::row::{Kind, Memory, ReportFault, Row};
+use ir_verify_base::events::subject::Subject;
 use ir_verify_base::events::view::View;
 use ir_verify_base::events::world::World;
 use ir_verify_base::fact_table::FactTable;
@@ -62,6 +63,16 @@ impl Analysis for Diagnostics {
             return Err(ReportFault::Stale);
         }
         match rows(self.alloc, self.kept.facts()) {
+            Ok(rows) => Ok(rows),
+            Err(_) => Err(ReportFault::Memory),
+        }
+    }
+
+    fn report_about(&self, _world: &World, subject: &Subject) -> Result<Vec<Row>, ReportFault> {
+        if self.kept.stale() {
+            return Err(ReportFault::Stale);
+        }
+        match rows_about(self.alloc, self.kept.facts(), subject) {
             Ok(rows) => Ok(rows),
             Err(_) => Err(ReportFault::Memory),
         }

@@ -1,13 +1,16 @@
 //! The rows of the report.
 ghost use Rattle.std.specs.Prelude.{◌≡◌, ◌++◌, [], ◌∷◌, map, OnOk, IfOk};
+ghost use Rattle.std.specs.Ordering.{nat_cmp};
+ghost use Rattle.std.specs.BTreeMap.{get};
 ghost use Rattle.ir_verify_base.specs.events.declared.row.Row.{Row as Line};
 ghost use Rattle.ir_verify.specs.Sets.{reported_rules};
-ghost use Rattle.ir_verify.specs.Reports.{rule_cells, rules_cells, all_cells};
+ghost use Rattle.ir_verify.specs.Reports.{rule_cells, rules_cells, all_cells, cells_about, found_cells};
 
 use crate::finding::Finding;
 use ir_tree::value::Value;
 use ir_types::ids::OpId;
 use ir_verify_base::events::row::{Cell, Row};
+use ir_verify_base::events::subject::Subject;
 use std::alloc::{AllocError, Global};
 use std::collections::BTreeMap;
 
@@ -71,4 +74,38 @@ fn push_all(
         push_reported(alloc, OpId::new(*op), rules, out)?;
     }
     Ok(())
+}
+
+/// Returns a row for each reported rule of the operation that the report is about. No row is about a value.
+pub(crate) fn rows_about(
+    alloc: Global,
+    table: &BTreeMap<u32, Finding>,
+    subject: &Subject,
+) -> Result<Vec<Row>, AllocError>
+    ensures { IfOk result (λ out. map (λ (r : Line). r.cells.items) out.items ≡ cells_about subject.now table.now) }
+{
+    match subject {
+        Subject::Op(op) => rows_of(alloc, table, *op),
+        Subject::Val(_) => Ok(Vec::new(alloc)),
+    }
+}
+
+/// Returns a row for each reported rule of an operation, if the table has it.
+fn rows_of(alloc: Global, table: &BTreeMap<u32, Finding>, op: OpId) -> Result<Vec<Row>, AllocError>
+    ensures { IfOk result (λ out. map (λ (r : Line). r.cells.items) out.items ≡ found_cells op (get nat_cmp table.now op)) }
+{
+    match table.get(&op.number()) {
+        None => Ok(Vec::new(alloc)),
+        Some(finding) => reported_rows(alloc, op, finding),
+    }
+}
+
+/// Returns a row for each reported rule of an operation.
+fn reported_rows(alloc: Global, op: OpId, finding: &Finding) -> Result<Vec<Row>, AllocError>
+    ensures { IfOk result (λ out. map (λ (r : Line). r.cells.items) out.items
+        ≡ rules_cells op (reported_rules finding.now)) }
+{
+    let mut out = Vec::new(alloc);
+    push_reported(alloc, op, finding, &mut out)?;
+    Ok(out)
 }

@@ -30,12 +30,16 @@ use Rattle.ir_event.specs.declared.event.Event.TheVariants.{Put, Take, SetOperan
 use Rattle.ir_event.specs.declared.row.Cell.{Cell}
 use Rattle.ir_event.specs.declared.row.Cell.TheVariants.{Val, Op, Num}
 use Rattle.ir_event.specs.declared.row.Row.{Row}
+use Rattle.ir_event.specs.declared.subject.Subject.{Subject}
+use Rattle.ir_event.specs.declared.subject.Subject.TheVariants as subject
+use Rattle.ir_event.specs.Subjects.{rows_about}
 use Rattle.ir_event.specs.Listener.{ShowsTaken}
 use Rattle.ir_event.specs.Modules.{Module, Node, module_meaning}
 use Rattle.ir_event.specs.Rows.{cell_meaning, row_meaning, rows_meaning, CellIsOf, RowIsOf, Shows}
 use Rattle.ir_event.specs.Step.{Step}
 use Rattle.listeners.specs.declared.key.Use.{Use}
 use Rattle.listeners.specs.declared.key.UseKey.{UseKey}
+use Rattle.listeners.specs.About.{about, is_use_about}
 use Rattle.listeners.specs.Uses.{in_order, operand_uses, uses_in, all_uses, use_row}
 use Rattle.listeners.specs.Keys.{key_of, keys_of, value_at, key_cells}
 use Rattle.listeners.specs.Others.{others}
@@ -190,3 +194,20 @@ rows_show c rows keys us is kept = let e = is ∙ ap (map key_cells) kept in rec
 -- the uses of a tree of numbers are those of its tree of terms
 pub meaning_uses : (c : ContextModel) (t : Tree) → all_uses (meaning c t) ≡ all_uses t
 meaning_uses c t = ap in_order (mapped_uses (name_term c) (type_term c) (attr_term c) t)
+
+-- the rows about a subject are those of the uses about it
+about_rows : (s : Subject) (us : List Use) → rows_about s (map use_row us) ≡ map use_row (about s us)
+about_rows s [] = refl
+about_rows s (u ∷ us) = same_test s u ∙ elim (is_use_about s u) as (λ b. cond b (use_row u ∷ rows_about s (map use_row us)) (rows_about s (map use_row us)) ≡ map use_row (cond b (u ∷ about s us) (about s us))) [
+  | true ↦ ap (λ l. use_row u ∷ l) (about_rows s us)
+  | false ↦ about_rows s us
+]
+  where
+    same_test : (s : Subject) (u : Use) → rows_about s (use_row u ∷ map use_row us) ≡ cond (is_use_about s u) (use_row u ∷ rows_about s (map use_row us)) (rows_about s (map use_row us))
+    same_test (subject.Op x) u = refl
+    same_test (subject.Val v) u = refl
+
+pub rows_show_about : (c : ContextModel) (s : Subject) (t : Tree) (rows : List Row) → map (λ (r : Row). r.cells.items) rows ≡ map key_cells (keys_of (about s (all_uses t))) → Shows c rows (rows_about s (map use_row (all_uses (meaning c t))))
+rows_show_about c s t rows is =
+    subst (Shows c rows) (sym (about_rows s (all_uses (meaning c t))))
+    (rows_show c rows (keys_of (about s (all_uses t))) (about s (all_uses (meaning c t))) is (ap (λ l. keys_of (about s l)) (sym (meaning_uses c t))))

@@ -1,6 +1,7 @@
 pub mod Drops
 pub mod Orders
 pub mod Sorted
+pub mod Filtered
 pub mod Listed
 pub mod Moving
 pub mod Others
@@ -10,12 +11,14 @@ pub mod Apart
 pub mod Changing
 pub mod Following
 pub mod Collecting
+pub mod ByValue
+pub mod Pushing
 pub mod Least
 pub mod Taken
 pub mod Sets
 pub mod Under
 pub mod Numbers
-pub mod Entries
 pub mod Reported
+pub mod Quiet
 pub mod Steps
 pub mod Silent

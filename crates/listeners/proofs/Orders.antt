@@ -74,11 +74,11 @@ greater Less e = absurd (true≢false (sym e))
 greater Equal e = absurd (true≢false (sym e))
 greater Greater e = refl
 
-trailing : (u v w : Use) → is_gt (use_cmp u w) ≡ true → is_gt (use_cmp v w) ≡ false → is_gt (use_cmp u v) ≡ true
+pub trailing : (u v w : Use) → is_gt (use_cmp u w) ≡ true → is_gt (use_cmp v w) ≡ false → is_gt (use_cmp u v) ≡ true
 trailing u v w a b = ap is_gt (after_by u v w (use_cmp v w) (greater (use_cmp u w) a) refl b)
 
 -- if v comes before u, u doesn't come before v
-not_both : (u v : Use) → is_gt (use_cmp u v) ≡ true → is_gt (use_cmp v u) ≡ false
+pub not_both : (u v : Use) → is_gt (use_cmp u v) ≡ true → is_gt (use_cmp v u) ≡ false
 not_both u v a = ap is_gt (use_total.antisymm v u ∙ ap ordering_reverse (greater (use_cmp u v) a))
 
 -- one step of `put_use`

@@ -34,7 +34,7 @@ use Rattle.listeners.specs.Lines.{lines_cells, is_out}
 use Rattle.listeners.proofs.Least.{in_among, among_in}
 use Rattle.listeners.proofs.Sets.{in_reached, reached_is_in}
 use Rattle.listeners.proofs.Numbers.{not_private, private_meant, definition_meant, to_tree, from_tree}
-use Rattle.listeners.proofs.Entries.{each_entry}
+use Rattle.listeners_symbols.proofs.Entries.{each_entry}
 use Rattle.ir_event.proofs.of_types.Truths.{same_bool}
 use Rattle.ir_event.proofs.of_tree_laws.Reasoned.{some_there}
 
@@ -110,8 +110,9 @@ module _ (b : ContextModel) (sound : IsSound b) (t : Operation) (d : HasDistinct
   lines_known [] k = tt
   lines_known (e ∷ es) k = each_append LineIs (line_of (is_out left e.0) e.0 (private_name (role_numbers e.1))) (lines_with (is_out left) (numbered es)) (line_known e.0 (is_out left e.0) (private_name (role_numbers e.1)) (private_known e.1 k.0)) (lines_known es k.1)
 
-  -- the rows of a table that omits plain roles
-  lines_all : lines_with (λ x. among x (reached_in t)) (meant b m.all.entries) ≡ lines_with (λ x. among x (reached_in t)) (roles_by_id t)
+-- ---- the rows of a table that omits plain roles
+module _ (b : ContextModel) (t : Operation) (m : Roles) (ordered : idmap.IsOrdered m.all) (keeps : Keeps b t (kept_at m)) where
+  pub lines_all : lines_with (λ x. among x (reached_in t)) (meant b m.all.entries) ≡ lines_with (λ x. among x (reached_in t)) (roles_by_id t)
   lines_all = sym (each (meant b m.all.entries)) ∙ contributed_all t f reports_nothing b m ordered keeps ∙ each (roles_by_id t)
     where
       f : ℕ → Role → List (ℕ × List ℕ)
@@ -160,7 +161,7 @@ shows_unreached c t m rows ordered d kept left marked is =
     let at = each_entry (λ q r. kept_at m q ≡ Some r) es ordered (λ q r i. i) in
     let known = each_entry (λ q r. RoleIsOf b r) es ordered (λ q r i. subst (λ (o : Option Numbers). IfSome o (RoleIsOf b)) i (entry_known b (role_of t q) (kept_at m q) (keeps.says q))) in
     let lk = lines_known b kept.sound t d m ordered keeps left marked es known in
-    let same = sym (lines_meant b kept.sound t d m ordered keeps left marked es at) ∙ lines_all b kept.sound t d m ordered keeps left marked in
+    let same = sym (lines_meant b kept.sound t d m ordered keeps left marked es at) ∙ lines_all b t m ordered keeps in
     record {
       says = rows_say b c kept.sound.holds kept.grown rows _ is lk ∙ ap (map (line_cells Op Name)) same;
       known = rows_known b c kept.sound.holds kept.grown rows _ is lk;

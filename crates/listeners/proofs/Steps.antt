@@ -17,7 +17,7 @@ use Rattle.listeners.specs.Unreached.{says_definition, prefixes, targets, reache
 use Rattle.listeners.specs.Marking.{Left, Marks, Removed, IsDone}
 use Rattle.listeners.specs.Marks.{parent_at, IsUnder, itself, around, IsDefinition, Reaches, TakesOut, TakesFound, StartsIn}
 use Rattle.listeners.proofs.Taken.{removed_none, removed_absent, removed_one}
-use Rattle.listeners.proofs.Entries.{found_key}
+use Rattle.listeners_symbols.proofs.Entries.{found_key}
 use Rattle.ir_event.proofs.of_tree_laws.Contents.{some_map}
 use Rattle.ir_event.proofs.of_tree_laws.Reasoned.{some_there}
 

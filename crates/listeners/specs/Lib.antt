@@ -1,5 +1,6 @@
 pub mod Uses
 pub mod Keys
+pub mod About
 pub mod Others
 pub mod Listings
 pub mod Tables

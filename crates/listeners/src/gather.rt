@@ -18,7 +18,7 @@ use std::alloc::AllocError;
 use std::collections::BTreeMap;
 
 /// Returns the key of a use.
-fn key(entry: &Use) -> UseKey
+pub(crate) fn key(entry: &Use) -> UseKey
     ensures { result ≡ key_of entry.now }
 {
     match entry.value {

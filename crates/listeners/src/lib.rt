@@ -3,6 +3,7 @@
 //! After an event each listener agrees with the module or is stale, if it agreed with the module before the event.
 #![tactic(auto)]
 
+mod about;
 mod collect;
 mod follow;
 mod gather;

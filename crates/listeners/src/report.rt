@@ -54,7 +54,7 @@ fn push_row(alloc: Global, key: &UseKey, rows: &mut Vec<Row>) -> Result<(), Allo
 }
 
 /// Returns the rows of the keys.
-fn rows_of_keys(alloc: Global, keys: &[UseKey]) -> Result<Vec<Row>, AllocError>
+pub(crate) fn rows_of_keys(alloc: Global, keys: &[UseKey]) -> Result<Vec<Row>, AllocError>
     ensures { IfOk result (λ rows. map (λ (r : Line). r.cells.items) rows.items ≡ map key_cells keys.now) }
 {
     let mut rows = Vec::with_capacity(alloc, keys.len())?;

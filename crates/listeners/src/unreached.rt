@@ -5,9 +5,11 @@ use crate::unreached_report::lines;
 use ir_event::analysis::Analysis;
 use ir_event::event::Event;
 use ir_event::row::{Kind, Memory, ReportFault, Row};
+use ir_event::subject::Subject;
+use ir_event::subject_rows::keep_rows_about;
 use ir_event::view::View;
 use ir_event::world::World;
-use listeners_symbols::roles::Roles;
+use listeners_symbols::roles::{Roles, may_hide};
 use listeners_symbols::table::{follow, tabulate};
 use std::alloc::Global;
 
@@ -93,5 +95,20 @@ impl Analysis for Unreached {
             Ok(rows) => Ok(rows),
             Err(_) => Err(ReportFault::Memory),
         }
+    }
+
+    fn report_about(&self, _world: &World, subject: &Subject) -> Result<Vec<Row>, ReportFault> {
+        if self.stale {
+            return Err(ReportFault::Stale);
+        }
+        self.roles.ordered();
+        if !may_hide(&self.roles, subject) {
+            return Ok(Vec::new(self.alloc));
+        }
+        let Ok(mut rows) = lines(self.alloc, &self.roles) else {
+            return Err(ReportFault::Memory);
+        };
+        keep_rows_about(subject, &mut rows);
+        Ok(rows)
     }
 }

@@ -8,6 +8,7 @@ ghost use Rattle.listeners.specs.Following.{adds_no_use};
 ghost use Rattle.listeners.specs.Uses.{all_uses, in_order};
 ghost use Rattle.listeners.specs.Tables.{table_uses};
 
+use crate::about::rows_about;
 use crate::collect::collect;
 use crate::follow::follow;
 use crate::listing::Listing;
@@ -16,6 +17,7 @@ use crate::table::UseTable;
 use ir_event::analysis::Analysis;
 use ir_event::event::Event;
 use ir_event::row::{Kind, Memory, ReportFault, Row};
+use ir_event::subject::Subject;
 use ir_event::view::View;
 use ir_event::world::World;
 use std::alloc::{AllocError, Global};
@@ -107,6 +109,16 @@ impl Analysis for Uses {
             return Err(ReportFault::Stale);
         }
         match rows_of_table(self.alloc, &self.table) {
+            Ok(rows) => Ok(rows),
+            Err(_) => Err(ReportFault::Memory),
+        }
+    }
+
+    fn report_about(&self, world: &World, subject: &Subject) -> Result<Vec<Row>, ReportFault> {
+        if self.stale {
+            return Err(ReportFault::Stale);
+        }
+        match rows_about(self.alloc, world, subject) {
             Ok(rows) => Ok(rows),
             Err(_) => Err(ReportFault::Memory),
         }

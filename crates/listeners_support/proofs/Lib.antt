@@ -18,3 +18,4 @@ mod Words
 mod Indexes
 pub mod Lookups
 pub mod Writes
+pub use Rattle.ir_event.proofs as of_events

@@ -1,7 +1,7 @@
 //! Tables of facts about the operations of a module, which are kept up to date.
 ghost use Rattle.std.specs.Prelude.{◌≡◌, ◌≤◌, ◌+◌, ◌⊎◌, true, false, Option, OnOk, OnErr, IfOk};
 ghost use Rattle.std.specs.Ordering.{nat_cmp};
-ghost use Rattle.std.specs.BTreeMap.{get};
+ghost use Rattle.std.specs.BTreeMap.{IsOrdered, get};
 ghost use Rattle.ir_event.specs.Modules.{Module, context_model, module_in};
 ghost use Rattle.ir_event.specs.Step.{Step};
 ghost use Rattle.ir_event.specs.trees.Meaning.{Operation};
@@ -112,6 +112,7 @@ impl<F: LocalFact> FactTable<F> {
     /// module.
     pub fn facts(&self) -> &BTreeMap<u32, F>
         ensures is { result.now ≡ self.now.table }
+        ensures ordered { IsOrdered nat_cmp result.now }
         ensures in_order { (t : Operation) → Keeps F.fact F.kept t (get nat_cmp self.now.table)
             → result.now.entries ≡ kept_facts F.fact F.kept t }
     {

@@ -10,6 +10,8 @@ pub mod Agreed
 pub mod Looks
 pub mod Lines
 pub mod Reported
+pub mod Entries
+pub mod Abouts
 pub mod Telling
 pub mod NamesAdded
 pub mod Marked

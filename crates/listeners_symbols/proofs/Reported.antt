@@ -591,7 +591,7 @@ module _ (t : Operation) (b : ContextModel) (m : Roles) (ordered : idmap.IsOrder
         each [] = refl
         each (e ∷ es) = ap (λ l. f e.0 e.1 ++ l) (each es)
 
-    lines_all : (possible : List ℕ → Bool) → lines_with bytes_eq same_type (role_of t) ds possible its ≡ lines_with bytes_eq same_type (role_of t) ds possible (roles_by_id t)
+    pub lines_all : (possible : List ℕ → Bool) → lines_with bytes_eq same_type (role_of t) ds possible its ≡ lines_with bytes_eq same_type (role_of t) ds possible (roles_by_id t)
     lines_all possible = λ i. definition_lines ds ++ (duplicate_lines bytes_eq ds ds ++ (references_all possible true i ++ (references_all possible false i ++ mismatches_all i)))
 
 pub shows_symbols : (c : ContextModel) (t : Operation) (which : Definers) (m : Roles) (rows : List Row) → idmap.IsOrdered m.all → IsKept c t (kept_at m)

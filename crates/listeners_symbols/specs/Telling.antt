@@ -5,6 +5,8 @@ use Rattle.std.specs.Ordering.{nat_cmp}
 use Rattle.listeners_support.specs.Map.{IdMap}
 use Rattle.listeners_support.specs.Map as idmap
 use Rattle.std.specs.BTreeSet.{BTreeSet, contains}
+use Rattle.ir_event.specs.declared.subject.Subject.{Subject}
+use Rattle.ir_event.specs.declared.subject.Subject.TheVariants as subject
 use Rattle.listeners_symbols.specs.declared.role.Role.{Role as Numbers}
 
 abbrev pub has_some : {X : Type 0} → List X → Bool
@@ -26,6 +28,11 @@ names r = not (is_some r.home && is_some r.symbol) && is_some r.name
 abbrev pub said_at : (Numbers → Bool) → Option Numbers → Bool
 said_at test None = false
 said_at test (Some r) = test r
+
+-- whether a subject is an operation whose entry passes the test
+abbrev pub said_about : (Numbers → Bool) → Subject → (ℕ → Option Numbers) → Bool
+said_about test (subject.Op x) kept = said_at test (kept x)
+said_about test (subject.Val v) kept = false
 
 -- the set has each operation that passes the test, and maybe others
 abbrev pub HasThose : (Numbers → Bool) → IdMap Numbers → BTreeSet ℕ → Type 0

@@ -7,9 +7,11 @@ ghost use Rattle.std.specs.BTreeSet as set;
 ghost use Rattle.std.specs.BTreeSet.{contains};
 ghost use Rattle.listeners_symbols.specs.Table.{Entered, IsPlain, role_numbers};
 ghost use Rattle.listeners_symbols.specs.Telling.{HasThose, HasThose-prop, has_some, hides, names, concerns_symbols};
+ghost use Rattle.listeners_symbols.specs.Telling.{said_about, said_at};
 
 use crate::boxed::Boxed;
 use crate::role::Role;
+use ir_event::subject::Subject;
 use ir_event::types::ids::OpId;
 use listeners_support::IdMap;
 use std::alloc::{AllocError, Global};
@@ -130,6 +132,48 @@ fn role_in(all: &IdMap<Boxed<Role>>, op: OpId) -> Option<&Role>
     ensures { option_copied result ≡ idmap.get all.now op }
 {
     unboxed(all.get(op.number()))
+}
+
+/// Returns whether a report of symbols may have rows about an operation or a value: whether it is an operation that
+/// defines, references or calls a symbol.
+pub(crate) fn may_tell(roles: &Roles, subject: &Subject) -> bool
+    ensures { result ≡ said_about concerns_symbols subject.now (idmap.get roles.now.all) }
+{
+    match subject {
+        Subject::Op(op) => says_symbols(roles, *op),
+        Subject::Val(_) => false,
+    }
+}
+
+/// Returns whether a report of unreached symbols may have rows about an operation or a value: whether it is an operation
+/// that defines a symbol with private visibility.
+pub fn may_hide(roles: &Roles, subject: &Subject) -> bool
+    ensures { result ≡ said_about hides subject.now (idmap.get roles.now.all) }
+{
+    match subject {
+        Subject::Op(op) => says_hidden(roles, *op),
+        Subject::Val(_) => false,
+    }
+}
+
+/// Returns whether the table has an operation, and the operation defines, references or calls a symbol.
+fn says_symbols(roles: &Roles, op: OpId) -> bool
+    ensures { result ≡ said_at concerns_symbols (idmap.get roles.now.all op) }
+{
+    match roles.get(op) {
+        None => false,
+        Some(role) => concerns_symbols(role),
+    }
+}
+
+/// Returns whether the table has an operation, and the operation defines a symbol with private visibility.
+fn says_hidden(roles: &Roles, op: OpId) -> bool
+    ensures { result ≡ said_at hides (idmap.get roles.now.all op) }
+{
+    match roles.get(op) {
+        None => false,
+        Some(role) => hides(role),
+    }
 }
 
 /// Returns whether an operation defines, references or calls a symbol.

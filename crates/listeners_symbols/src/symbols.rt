@@ -3,11 +3,13 @@ ghost use Rattle.std.specs.Prelude.{◌≡◌, true};
 
 use crate::definers::Definers;
 use crate::report::lines;
-use crate::roles::Roles;
+use crate::roles::{Roles, may_tell};
 use crate::table::{follow, tabulate};
 use ir_event::analysis::Analysis;
 use ir_event::event::Event;
 use ir_event::row::{Kind, Memory, ReportFault, Row};
+use ir_event::subject::Subject;
+use ir_event::subject_rows::keep_rows_about;
 use ir_event::view::View;
 use ir_event::world::World;
 use std::alloc::Global;
@@ -96,5 +98,20 @@ impl Analysis for Symbols {
             Ok(rows) => Ok(rows),
             Err(_) => Err(ReportFault::Memory),
         }
+    }
+
+    fn report_about(&self, _world: &World, subject: &Subject) -> Result<Vec<Row>, ReportFault> {
+        if self.stale {
+            return Err(ReportFault::Stale);
+        }
+        self.roles.ordered();
+        if !may_tell(&self.roles, subject) {
+            return Ok(Vec::new(self.alloc));
+        }
+        let Ok(mut rows) = lines(self.alloc, self.definers, &self.roles) else {
+            return Err(ReportFault::Memory);
+        };
+        keep_rows_about(subject, &mut rows);
+        Ok(rows)
     }
 }

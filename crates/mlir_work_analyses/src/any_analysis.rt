@@ -10,6 +10,7 @@ use effects::effects::Effects;
 use ir_event::analysis::Analysis;
 use ir_event::event::Event;
 use ir_event::row::{Kind, Memory, ReportFault, Row};
+use ir_event::subject::Subject;
 use ir_event::view::View;
 use ir_event::world::World;
 use ir_verify::diagnostics::Diagnostics;
@@ -108,6 +109,18 @@ impl Analysis for AnyAnalysis {
             AnyAnalysis::Dead(it) => it.report(),
             AnyAnalysis::Constants(it) => it.report(),
             AnyAnalysis::Unreached(it) => it.report(),
+        }
+    }
+
+    fn report_about(&self, world: &World, subject: &Subject) -> Result<Vec<Row>, ReportFault> {
+        match self {
+            AnyAnalysis::Uses(it) => it.report_about(world, subject),
+            AnyAnalysis::Symbols(it) => it.report_about(world, subject),
+            AnyAnalysis::Diagnostics(it) => it.report_about(world, subject),
+            AnyAnalysis::Effects(it) => it.report_about(world, subject),
+            AnyAnalysis::Dead(it) => it.report_about(world, subject),
+            AnyAnalysis::Constants(it) => it.report_about(world, subject),
+            AnyAnalysis::Unreached(it) => it.report_about(world, subject),
         }
     }
 }

@@ -7,6 +7,7 @@ ghost use Rattle.ir_event.specs.types.Readings.{signed_of};
 ghost use Rattle.ir_event.specs.types.Terms.{name_term};
 ghost use Rattle.ir_event.specs.types.Things.{IsName};
 ghost use Rattle.ir_event.specs.trees.declared.value.Value.{Value as TreeValue};
+ghost use Rattle.ir_event.specs.trees.declared.value.Value.TheVariants.{Result as ResultOf, Arg};
 ghost use Rattle.ir_event.specs.Rows.{CellIsOf, RowIsOf, cell_meaning, row_meaning, rows_meaning};
 ghost use Rattle.ir_text.specs.Public.{symbol_text};
 ghost use Rattle.ir_text.specs.Rows.{parted};
@@ -22,7 +23,6 @@ use ir_event::types::ids::{NameId, OpId};
 use ir_text::attributes::print_attr;
 use ir_text::printer::print_symbol;
 use itoa::Buffer;
-use mlir_work_script_base::cells;
 use std::alloc::{AllocError, Global};
 
 fn write_number(out: &mut Vec<u8>, number: u32) -> Result<(), AllocError>
@@ -35,13 +35,44 @@ fn write_number(out: &mut Vec<u8>, number: u32) -> Result<(), AllocError>
 fn write_op(out: &mut Vec<u8>, op: OpId) -> Result<(), AllocError>
     ensures { OnOk result (out.new.items ≡ out.old.items ++ op_text op) }
 {
-    cells::write_op_id(out, op).map_err(|_| AllocError)
+    out.push(b'#')?;
+    write_number(out, op.number())
+}
+
+/// Appends a result: `%v2.0`.
+fn write_result(out: &mut Vec<u8>, op: OpId, place: u32) -> Result<(), AllocError>
+    ensures { OnOk result (out.new.items ≡ out.old.items ++ value_text (ResultOf op place)) }
+{
+    out.extend_from_slice(b"%v")?;
+    write_number(out, op.number())?;
+    out.push(b'.')?;
+    write_number(out, place)
+}
+
+/// Appends a block argument: `%a1.0.0`.
+fn write_argument(
+    out: &mut Vec<u8>,
+    op: OpId,
+    region: u32,
+    place: u32,
+) -> Result<(), AllocError>
+    ensures { OnOk result (out.new.items ≡ out.old.items ++ value_text (Arg op region place)) }
+{
+    out.extend_from_slice(b"%a")?;
+    write_number(out, op.number())?;
+    out.push(b'.')?;
+    write_number(out, region)?;
+    out.push(b'.')?;
+    write_number(out, place)
 }
 
 fn write_value(out: &mut Vec<u8>, value: Value) -> Result<(), AllocError>
     ensures { OnOk result (out.new.items ≡ out.old.items ++ value_text value) }
 {
-    cells::write_value(out, value).map_err(|_| AllocError)
+    match value {
+        Value::Result(op, place) => write_result(out, op, place),
+        Value::Arg(op, region, place) => write_argument(out, op, region, place),
+    }
 }
 
 /// Appends an integer without its type: a decimal number, or `true` or `false` for an `i1`.
@@ -134,7 +165,8 @@ fn write_space(out: &mut Vec<u8>, first: bool) -> Result<(), AllocError>
     if first {
         return Ok(());
     }
-    out.extend_from_slice(b" ")
+    out.push(b' ')?;
+    Ok(())
 }
 
 /// Appends cells separated by spaces.
@@ -157,7 +189,8 @@ pub(crate) fn write_row(ctx: &Context, out: &mut Vec<u8>, row: &Row) -> Result<(
     ensures { OnOk result (out.new.items ≡ out.old.items ++ row_text (row_meaning ctx.now row.now)) }
 {
     write_cells(ctx, out, &row.cells)?;
-    out.extend_from_slice(b"\n")
+    out.push(b'\n')?;
+    Ok(())
 }
 
 /// Appends rows.
