@@ -1,5 +1,5 @@
 -- The rewrite of a cast, from queries of the module.
-use Rattle.std.proofs.Common.{◌≡◌, refl, ap, sym, ◌∙◌, ℕ, Bool, true, false, List, Some, if◌then◌else◌}
+use Rattle.std.proofs.Common.{◌≡◌, ap, sym, ◌∙◌, ℕ, Bool, true, false, List, Some, if◌then◌else◌}
 use Rattle.std.specs.Prelude.{◌&&◌, codes, eqb, not}
 use Rattle.ir_event.specs.trees.Tree.{head}
 use Rattle.ir_event.specs.trees.Ids.{find, has_id}
@@ -14,7 +14,7 @@ use Rattle.patterns_base.specs.Looks.{when, insertion_of, one}
 use Rattle.patterns_base.specs.Made.{cast}
 use Rattle.patterns_base.specs.Makes.{give_new, made_by}
 use Rattle.patterns_base.specs.declared.rule.Rule.{Rule}
-use Rattle.patterns_base.specs.Rewrites.{none, becomes, edits_of, rewrite_by, rewrite_of, eligible}
+use Rattle.patterns_base.specs.Rewrites.{none, becomes, rewrite_by, rewrite_of, eligible}
 use Rattle.patterns_base.specs.Rules.{rule}
 use Rattle.conversion_base.specs.Reconciling.{collapse, index_edits, is_cast, rewrite_or, takes_index, unused_erased}
 use Rattle.conversion_base.proofs.Makes.{given_some}

@@ -11,7 +11,7 @@ use Rattle.ir_event.specs.Modules.{Module}
 use Rattle.patterns_base.specs.Contents.{Edit, all_edited, edited}
 use Rattle.patterns_base.specs.Edits.{Insert, Make, Erase, Move, SetOperand, Replace, SetAttr, DropAttr}
 use Rattle.patterns_base.specs.Keeps.{given}
-use Rattle.patterns_base.specs.Looks.{when, insertion_of}
+use Rattle.patterns_base.specs.Looks.{insertion_of}
 use Rattle.patterns_base.specs.Makes.{makes, made_by}
 use Rattle.patterns_base.specs.declared.rule.Rule.{Rule}
 use Rattle.patterns_base.specs.RuleNames.{is_converting}

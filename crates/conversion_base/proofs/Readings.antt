@@ -1,22 +1,19 @@
 -- Queries of a module give the results that the tree of terms defines.
-use Rattle.std.proofs.Common.{◌≡◌, refl, ap, sym, ◌∙◌, subst, ℕ, ◌+◌, ◌<◌, Bool, true, false, true≢false, ◌||◌, not, eqb, eqb-true, List, [], ◌∷◌, length, map, drop, Option, Some, None, option_map, zero, suc, inl, inr, arith}
-use Rattle.std.specs.Prelude.{MatchOption, is_some, slice_get, option_and_then}
-use Rattle.std.specs.List.{list_any, list_all}
+use Rattle.std.proofs.Common.{◌≡◌, refl, ap, sym, ◌∙◌, ℕ, ◌+◌, ◌<◌, Bool, true, false, true≢false, ◌||◌, not, eqb, eqb-true, List, [], ◌∷◌, length, map, drop, Option, Some, None, option_map, zero, suc, inl, inr, arith}
+use Rattle.std.specs.Prelude.{is_some, slice_get, option_and_then}
+use Rattle.std.specs.List.{list_any}
 use Rattle.std.specs.Option.{option_eq}
 use Rattle.std.specs.Str.{bytes_eq}
 use Rattle.ir_event.specs.types.Things.{ContextModel}
 use Rattle.ir_event.specs.types.Terms.{TypeTerm, name_term, type_term, attr_term}
 use Rattle.ir_event.specs.types.SameTypes.{same_type}
 use Rattle.ir_event.specs.trees.declared.value.Value.{Value}
-use Rattle.ir_event.specs.trees.declared.value.Value.TheVariants.{Result}
 use Rattle.ir_event.specs.trees.declared.place.Place.{Place}
 use Rattle.ir_event.specs.trees.Tree.{Op, op, head}
 use Rattle.ir_event.specs.trees.Ids.{HasDistinctIds, find, has_id}
 use Rattle.ir_event.specs.trees.Places.{place_of}
-use Rattle.ir_event.specs.trees.Uses.{uses_of}
 use Rattle.ir_event.specs.trees.Meaning.{meaning}
-use Rattle.ir_event.proofs.of_trees.Mapped.{map_every, map_find}
-use Rattle.ir_event.specs.tree_laws.Members.{In}
+use Rattle.ir_event.proofs.of_trees.Mapped.{map_find}
 use Rattle.ir_event.specs.tree_laws.Stands.{OpWithPathOf, place_in}
 use Rattle.ir_event.specs.tree_laws.Values.{type_of_value}
 use Rattle.ir_event.proofs.of_tree_laws.Around.{present_stand, member_of_place}
@@ -26,14 +23,11 @@ use Rattle.ir_event.proofs.of_tree_laws.Members.{stand, itself, stand_found, sam
 use Rattle.ir_event.proofs.of_tree_laws.Shift.{inner_of, inner_place}
 use Rattle.ir_event.specs.store.Nodes.{Node, node_of}
 use Rattle.ir_event.specs.Modules.{node_meaning}
-use Rattle.ir_event.specs.store.Using.{is_use}
-use Rattle.effects.specs.Dead.{is_result_of, is_unused}
 use Rattle.patterns_base.specs.Looks.{is_of_type}
 use Rattle.conversion_base.specs.Targets.{Aim, cast_name, is_legal, is_legal_found}
 use Rattle.conversion_base.specs.Reconciling.{is_cast, is_cast_found}
 use Rattle.conversion_base.proofs.Falls.{cast_there, found_id, map_length}
 use Rattle.conversion_base.proofs.Shown.{found, meant}
-use Rattle.conversion_base.proofs.Unused.{one_used}
 
 -- ---- the root
 

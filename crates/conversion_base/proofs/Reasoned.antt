@@ -28,7 +28,7 @@ use Rattle.conversion_base.specs.Reasons.{IsReasonAt, applies, conditions, reaso
 pub answered : {P : Type 0} (f : P → List Edit) (r : Rule) (w : World) (x : ℕ) (point : Place) (a : Result P Reason)
     → ((o : Operation) → find x (module_in w).tree ≡ Some o → option_map f (result_ok a) ≡ rule r (module_in w).tree (module_in w).next point o)
     → HasReasonAt r w x a → IsReasonAt r (module_in w) x point (result_err a)
-answered f r w x point a e h o k = h o k ∙ ap (λ b. first_failed_test (tests r (module_in w).tree o b)) (one a ∙ ap is_some (e o k))
+answered {P = P} f r w x point a e h o k = h o k ∙ ap (λ b. first_failed_test (tests r (module_in w).tree o b)) (one a ∙ ap is_some (e o k))
   where
     one : (a : Result P Reason) → is_ok a ≡ is_some (option_map f (result_ok a))
     one (Ok p) = refl

@@ -1,14 +1,10 @@
 -- The set of a list's names, and duplicates in the list.
-use Rattle.std.proofs.Common.{◌≡◌, refl, sym, ap, ◌∙◌, subst, ◌<◌, ℕ, Bool, true, false, true≢false, not, ◌||◌, cond, eqb, eq-eqb, List, [], ◌∷◌, ◌++◌, arith}
+use Rattle.std.proofs.Common.{◌≡◌, refl, sym, ap, ◌∙◌, ℕ, Bool, true, false, true≢false, not, ◌||◌, cond, eqb, List, [], ◌∷◌, ◌++◌}
 use Rattle.std.specs.List.{list_any}
-use Rattle.std.specs.Cmp.{ranks}
-use Rattle.std.specs.Ordering.{nat_cmp, is_eq, MatchOrdering}
-use Rattle.std.specs.declared.cmp.Ordering.{Ordering}
-use Rattle.std.specs.declared.cmp.Ordering.TheVariants.{Less, Equal, Greater}
+use Rattle.std.specs.Ordering.{nat_cmp}
 use Rattle.std.specs.BTreeMap.{is_at}
 use Rattle.std.specs.BTreeSet.{BTreeSet}
 use Rattle.std.specs.BTreeSet as set
-use Rattle.std.proofs.lemmas.Bool.{ne_eqb}
 use Rattle.std.proofs.lemmas.List.Folds.{list_any-append}
 use Rattle.conversion_base.specs.Repeats.{AreKnown, has_duplicates}
 use Rattle.ir_event.proofs.of_types.Sorting.{flips_eq}

@@ -1,25 +1,23 @@
 -- The reported reasons.
 use Rattle.std.proofs.lemmas.Option.{same_Some}
-use Rattle.std.proofs.Common.{◌≡◌, refl, ap, sym, subst, inl, inr, ◌∙◌, ℕ, List, [], ◌∷◌, Bool, true, false, Option, Some, None}
+use Rattle.std.proofs.Common.{◌≡◌, refl, ap, sym, inl, inr, ◌∙◌, List, [], ◌∷◌, Bool, true, false, Option, Some, None}
 use Rattle.std.specs.Prelude.{◌&&◌, is_none, is_some}
 use Rattle.ir_event.specs.trees.declared.place.Place.{Place}
 use Rattle.ir_event.specs.trees.Ids.{find}
 use Rattle.ir_event.specs.trees.Meaning.{Operation}
 use Rattle.ir_event.specs.trees.Tree.{head}
 use Rattle.ir_event.specs.tree_laws.Members.{In}
-use Rattle.ir_event.specs.Modules.{Module}
 use Rattle.patterns_base.specs.Keeps.{given}
 use Rattle.patterns_base.specs.Looks.{insertion_of, when}
 use Rattle.patterns_base.specs.Contents.{Edit}
 use Rattle.patterns_base.specs.Rewrites.{edits_of, eligible}
 use Rattle.patterns_base.specs.Rules.{has_rule, rule}
 use Rattle.patterns_base.proofs.Dispatch.{only_listed}
-use Rattle.patterns_base.specs.declared.rule.Rule.{Rule}
 use Rattle.patterns_lowering.specs.region_rules.Reason.{Reason}
 use Rattle.patterns_lowering.specs.region_rules.Reason.TheVariants.{IsRoot, NotVerified, WrongOperation}
 use Rattle.patterns_lowering.specs.region_rules.Conditions.{Test, all_hold, asks, first_failed_test, unless_holds}
 use Rattle.patterns_lowering.specs.region_rules.RuleTests.{tests}
-use Rattle.conversion_base.specs.Reasons.{applies, conditions, reason_of, ReportedReasonsHold, NoReasonWhereRulesApply}
+use Rattle.conversion_base.specs.Reasons.{conditions, reason_of, ReportedReasonsHold, NoReasonWhereRulesApply}
 use Rattle.patterns_plans.proofs.Answered.{none_fails}
 use Rattle.patterns_plans.proofs.Passing.{passes}
 

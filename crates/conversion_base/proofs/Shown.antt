@@ -1,23 +1,20 @@
 -- The node that the store shows for an operation, with interned numbers and with terms.
-use Rattle.std.proofs.Common.{◌≡◌, refl, ap, sym, ◌∙◌, subst, ℕ, ◌<◌, ◌≤◌, Bool, true, false, true≢false, ◌&&◌, length, Option, Some, None, option_map, arith, leb-true}
-use Rattle.std.specs.Prelude.{nat_le, slice_get, is_some, option_and_then}
+use Rattle.std.proofs.Common.{◌≡◌, refl, ap, sym, ◌∙◌, subst, ℕ, ◌≤◌, Bool, true, ◌&&◌, length, Option, Some, None, option_map, arith, leb-true}
+use Rattle.std.specs.Prelude.{nat_le}
 use Rattle.ir_event.specs.types.Things.{ContextModel}
 use Rattle.ir_event.specs.types.Terms.{name_term, type_term, attr_term}
-use Rattle.ir_event.specs.trees.declared.value.Value.TheVariants.{Result}
-use Rattle.ir_event.specs.trees.Tree.{Op, op, RegionsOf, no_regions, region, head, region_count}
+use Rattle.ir_event.specs.trees.Tree.{Op, op, RegionsOf, no_regions, region, region_count}
 use Rattle.ir_event.specs.trees.Ids.{find}
 use Rattle.ir_event.specs.trees.Limits.{most_items, most_regions, items_fit, head_fits, all_arguments_pass, op_fits}
 use Rattle.ir_event.specs.trees.Meaning.{meaning}
 use Rattle.ir_event.specs.trees.WellFormed.{IsValidTree}
 use Rattle.ir_event.proofs.of_trees.Mapped.{map_find}
-use Rattle.ir_event.specs.tree_laws.Values.{has_value}
 use Rattle.ir_event.proofs.of_tree_laws.Wellformed.{from_wellformed}
 use Rattle.ir_event.proofs.of_tree_laws.Listed.{both}
 use Rattle.ir_event.proofs.of_tree_laws.Members.{found_stands}
 use Rattle.ir_event.specs.store.Nodes.{Node, node_of, regions_arguments}
 use Rattle.ir_event.specs.Modules.{node_meaning}
 use Rattle.ir_event.proofs.Nodes.{node_shown}
-use Rattle.std.proofs.lemmas.Option.{slice_get_within}
 
 -- the meaning of the shown node
 pub meant : (c : ContextModel) (x : ℕ) (t : Op) → option_map node_of (find x (meaning c t)) ≡ option_map (node_meaning c) (option_map node_of (find x t))

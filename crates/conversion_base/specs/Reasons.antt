@@ -1,5 +1,5 @@
 -- The reason why a rule doesn't apply at an operation: the first of its conditions that doesn't hold.
-use Rattle.std.specs.Prelude.{◌≡◌, ℕ, List, [], ◌∷◌, Bool, true, false, is_none, is_some, Option, Some, None}
+use Rattle.std.specs.Prelude.{◌≡◌, ℕ, List, [], ◌∷◌, Bool, false, is_none, is_some, Option, Some, None}
 use Rattle.ir_event.specs.trees.declared.place.Place.{Place}
 use Rattle.ir_event.specs.trees.Ids.{find}
 use Rattle.ir_event.specs.trees.Meaning.{Operation}

@@ -81,7 +81,7 @@ fn is_unused(world: &World, op: OpId, count: u32) -> bool
 {
     let mut number = 0;
     'results: while number < count {
-        if world.store.first_use(Value::Result(op, number)).is_some() {
+        if world.store.is_used(Value::Result(op, number)) {
             return false;
         }
         number += 1;

@@ -6,7 +6,6 @@ use Rattle.ir_event.specs.tree_laws.Members.{In}
 use Rattle.ir_event.proofs.of_tree_laws.Listed.{any_one, one_any, in_left, in_right}
 use Rattle.greedy.specs.LocalContext.{is_listed}
 use Rattle.greedy.specs.Adding.{Adds, Adding, Grown, OneOf}
-use Rattle.ir_event.proofs.of_types.Truths.{none_left}
 
 pub on_ok : {A E : Type 0} (P Q : Type 0) (r : Result A E) → (P → Q) → OnOk r P → OnOk r Q
 on_ok P Q (Ok a) f h = f h

@@ -1,19 +1,17 @@
 -- The pattern set of a run satisfies the driver's requirements.
-use Rattle.std.proofs.Common.{◌≡◌, ◌⊎◌, refl, ap, sym, ◌∙◌, subst, ℕ, ◌+◌, ◌<◌, inl, inr, Bool, true, false, true≢false, List, [], ◌∷◌, Option, Some, None}
+use Rattle.std.proofs.Common.{◌≡◌, refl, ap, sym, ◌∙◌, subst, ℕ, ◌+◌, ◌<◌, inl, inr, Bool, List, [], ◌∷◌, Option, Some, None}
 use Rattle.std.specs.Prelude.{All, option_map, if◌then◌else◌}
 use Rattle.std.proofs.lemmas.Bool.{cases_Bool}
 use Rattle.std.proofs.lemmas.List.Elements.{All-head, All-tail}
 use Rattle.std.proofs.lemmas.Option.{none-some}
 use Rattle.ir_event.specs.types.declared.refusal.Refusal.{Refusal}
-use Rattle.ir_event.specs.types.declared.refusal.Refusal.TheVariants.{Full, IdsExhausted}
 use Rattle.ir_event.specs.trees.Tree.{head}
 use Rattle.ir_event.specs.trees.Ids.{ids, HasDistinctIds}
 use Rattle.ir_event.specs.Modules.{Module}
 use Rattle.rewriter_machine.proofs.Trees.{found_id}
 use Rattle.rewriter_machine.specs.Contents.{Edit}
 use Rattle.patterns_base.specs.declared.rule.Rule.{Rule}
-use Rattle.patterns_base.specs.RuleNames.{is_canonical}
-use Rattle.patterns_base.specs.Looks.{insertion_of, insertion_point}
+use Rattle.patterns_base.specs.Looks.{insertion_point}
 use Rattle.patterns_base.specs.Rewrites.{Rewrite, none, refused, becomes, edits_of, rewrite_by, rewrite_of}
 use Rattle.patterns_base.specs.Canonicalization.{or_else, first_rule, greedy_rules}
 use Rattle.patterns.proofs.Firsts.{none_then}
@@ -29,7 +27,6 @@ use Rattle.greedy.specs.Ruled.{IsReady, IsReadyFor, MayTry, model_of, pattern_se
 use Rattle.greedy.specs.Work.{Right}
 use Rattle.greedy.specs.PatternSet.{MayUseAll, PatternSetModel, RuleOrPatternModel, MayUse, OfUserPattern, OfRule, rewrite_by_entry, patterns_of, pattern_set_from, by_or, by_rules, first_applicable_rewrite, first_matching_entry, traced_as}
 use Rattle.greedy.specs.Applications.{IsApplied, IsLawful}
-use Rattle.greedy.specs.declared.applied_rewrite.AppliedPattern.{AppliedPattern}
 use Rattle.greedy.specs.declared.applied_rewrite.AppliedPattern.TheVariants as by
 use Rattle.greedy.specs.declared.pattern_set.PatternSet.{PatternSet}
 use Rattle.greedy.specs.declared.pattern_set.Entries.{Entries}
@@ -40,7 +37,7 @@ use Rattle.greedy.proofs.UserPatternsAlike.{user_patterns_planned, user_pattern_
 use Rattle.greedy.proofs.Rootless.{no_edits as rootless_edits, no_rules, unplaced}
 use Rattle.greedy.proofs.OnlyAt.{only_lawful}
 use Rattle.greedy.proofs.Ruling.{canonical_rules}
-use Rattle.greedy.proofs.Scans.{by_none, no_edits, no_rewrite, none_still, or_none, becomes_none, refused_none}
+use Rattle.greedy.proofs.Scans.{by_none, no_edits, no_rewrite, none_still, or_none, becomes_none}
 
 -- ---- rules if rules make no rewrite, none of them applies
 unfired : (rs : List Rule) (m : Module) (x : ℕ) → first_rule rs m x ≡ none → first_matching_rule rs m x ≡ None

@@ -1,6 +1,6 @@
 -- Each rule of canonicalization and each shallow user pattern applies at an unlisted operation exactly if it applied
 -- there before.
-use Rattle.std.proofs.Common.{◌≡◌, refl, ap, sym, ◌∙◌, subst, ℕ, zero, suc, Bool, true, false, true≢false, ◌&&◌, not, List, [], ◌∷◌, map, Option, Some, None, inl, inr}
+use Rattle.std.proofs.Common.{◌≡◌, refl, ap, sym, ◌∙◌, subst, ℕ, zero, suc, true, false, true≢false, ◌&&◌, not, List, [], ◌∷◌, map, Option, Some, None, inl, inr}
 use Rattle.std.specs.Prelude.{option_map, option_and_then, is_some, slice_get}
 use Rattle.std.proofs.lemmas.Option.{none-some}
 use Rattle.ir_event.specs.types.Things.{ContextModel}

@@ -1,5 +1,5 @@
 -- Rules and patterns tried one after another.
-use Rattle.std.proofs.Common.{◌≡◌, ◌≢◌, ◌⊎◌, inl, inr, refl, ap, sym, ◌∙◌, subst, ℕ, ◌+◌, ◌-◌, ◌≤◌, true, false, true≢false, Bool, List, [], ◌∷◌, ◌++◌, length, take, drop, get_or, map, Option, Some, None, arith}
+use Rattle.std.proofs.Common.{◌≡◌, inl, inr, refl, ap, sym, ◌∙◌, subst, ℕ, ◌+◌, ◌-◌, ◌≤◌, true, false, true≢false, Bool, List, [], ◌∷◌, ◌++◌, length, take, drop, get_or, Option, Some, None, arith}
 use Rattle.std.proofs.lemmas.List.{take_all}
 use Rattle.ir_event.specs.types.declared.refusal.Refusal.{Refusal}
 use Rattle.ir_event.specs.types.Things.{ContextModel}
@@ -12,12 +12,12 @@ use Rattle.patterns_base.specs.Rewrites.{Rewrite, none, refused, becomes}
 use Rattle.patterns_base.specs.Canonicalization.{or_else}
 use Rattle.patterns.specs.Applied.{Applied, RewriteOutcome, IsReason}
 use Rattle.patterns.specs.RewriterCalls.{Benched, Journaled}
-use Rattle.patterns.specs.Held.{TransactionModel, open_marks}
+use Rattle.patterns.specs.Held.{open_marks}
 use Rattle.patterns.specs.rewriter.Moves.{Recorded}
 use Rattle.patterns.specs.runs.Runs.{Noted}
 use Rattle.patterns.proofs.Notified.{notified_through}
 use Rattle.patterns.proofs.of_rewriter.Noted.{recorded_more}
-use Rattle.greedy.specs.PatternSet.{RuleOrPatternModel, rule_or_pattern_of, rewrite_by_entry, patterns_of, by_or, first_applicable_rewrite, first_matching_entry, traced_as}
+use Rattle.greedy.specs.PatternSet.{rule_or_pattern_of, rewrite_by_entry, patterns_of, by_or, first_applicable_rewrite, first_matching_entry, traced_as}
 use Rattle.greedy.specs.declared.applied_rewrite.AppliedPattern.{AppliedPattern}
 use Rattle.greedy.specs.declared.pattern_set.RuleOrPattern.{RuleOrPattern}
 use Rattle.greedy.proofs.Noting.{noted_left}

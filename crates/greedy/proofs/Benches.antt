@@ -1,29 +1,27 @@
 -- Lemmas about rewriters under the driver.
-use Rattle.std.proofs.Common.{◌≡◌, refl, ap, sym, ◌∙◌, subst, ℕ, ◌+◌, ◌<◌, ◌≤◌, Bool, true, false, true≢false, ◌||◌, ◌&&◌, cond, eqb, eq-eqb, eqb-true, List, [], ◌∷◌, length, length-append, inl, inr, ◌⊎◌, arith, le-leb}
+use Rattle.std.proofs.Common.{◌≡◌, refl, ap, sym, ◌∙◌, subst, ℕ, ◌<◌, ◌≤◌, Bool, true, ◌&&◌, eqb, List, [], ◌∷◌, length, length-append, arith}
 use Rattle.std.specs.Prelude.{All, map, option_map, reverse, nat_le, ◌≢◌, Option, Some, None}
 use Rattle.std.specs.List.{IsDistinct, list_any}
 use Rattle.std.proofs.Math.Seq.{drop-length}
-use Rattle.std.proofs.lemmas.Bool.{leb-true, cases_Bool}
+use Rattle.std.proofs.lemmas.Bool.{leb-true}
 use Rattle.ir_event.specs.types.Sound.{Holds}
 use Rattle.ir_event.specs.types.Terms.{name_term, type_term, attr_term}
 use Rattle.ir_event.specs.trees.Tree.{OpOf, op, head, regions, region_count, Op}
-use Rattle.ir_event.specs.trees.Ids.{find, ids, regions_ids, has_id, HasDistinctIds}
+use Rattle.ir_event.specs.trees.Ids.{find, ids, has_id}
 use Rattle.ir_event.specs.trees.Limits.{head_fits, op_fits, items_fit, all_arguments_pass, most_regions}
 use Rattle.ir_event.specs.trees.Meaning.{Operation, meaning, isolated_in}
 use Rattle.ir_event.specs.trees.WellFormed.{ModuleOf, IsWellFormed}
 use Rattle.ir_event.proofs.of_trees.Mapped.{map_find, map_ids}
-use Rattle.ir_event.proofs.of_trees.Returns.{absent_first}
 use Rattle.ir_event.specs.tree_laws.Reads.{precedes, comes_after, is_within}
 use Rattle.ir_event.proofs.of_tree_laws.Listed.{both}
-use Rattle.ir_event.proofs.of_tree_laws.Members.{stand, itself, found_stands}
-use Rattle.ir_event.proofs.of_tree_laws.Wellformed.{from_wellformed, ids_below}
+use Rattle.ir_event.proofs.of_tree_laws.Members.{found_stands}
+use Rattle.ir_event.proofs.of_tree_laws.Wellformed.{from_wellformed}
 use Rattle.ir_event.specs.Listener.{Listener}
 use Rattle.patterns.specs.RewriterCalls.{Benched, Led, Journaled}
 use Rattle.patterns.specs.Held.{TransactionModel, module_held, module_at, open_marks, open_mark}
 use Rattle.patterns.specs.rewriter.Journals.{before}
 use Rattle.patterns.specs.rewriter.Moves.{all_noted}
 use Rattle.patterns.specs.rewriter.declared.mark.JournalMark.{JournalMark}
-use Rattle.greedy.proofs.Listed.{after_at, after_past, second_there}
 use Rattle.greedy.specs.Benches.{Wellformed, Onward}
 use Rattle.greedy.specs.Orders.{IsBeyond}
 use Rattle.greedy.specs.Following.{HasFewRegions, comes_next, following}

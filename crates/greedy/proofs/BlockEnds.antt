@@ -1,7 +1,7 @@
 -- Operations that end blocks, as the store reads them.
-use Rattle.std.proofs.Common.{◌≡◌, refl, ap, sym, ◌∙◌, subst, ℕ, zero, suc, ◌<◌, Bool, true, true≢false, eqb-true, List, [], ◌∷◌, Option, Some, None, arith}
+use Rattle.std.proofs.Common.{◌≡◌, refl, ap, sym, ◌∙◌, subst, ℕ, ◌<◌, Bool, true, true≢false, eqb-true, List, [], ◌∷◌, Option, Some, None}
 use Rattle.std.specs.Prelude.{option_map, option_and_then}
-use Rattle.ir_event.specs.trees.Tree.{HeadOf, OpOf, op, RegionsOf, no_regions, region, RegionOf, OpsOf, no_ops, next, head, regions, region_count}
+use Rattle.ir_event.specs.trees.Tree.{HeadOf, OpOf, RegionOf, OpsOf, no_ops, next, head, regions, region_count}
 use Rattle.ir_event.specs.trees.Ids.{HasDistinctIds, find}
 use Rattle.ir_event.specs.trees.Places.{place_of, first_id}
 use Rattle.ir_event.specs.store.Nodes.{NodeOf, node_of}

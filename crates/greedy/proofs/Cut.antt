@@ -20,7 +20,6 @@ use Rattle.ir_event.proofs.of_tree_laws.Stretches.{Parted, part, parted_ids, lef
 use Rattle.ir_event.proofs.of_tree_laws.Shift.{Inner, inner_of, own_distinct}
 use Rattle.ir_event.proofs.of_tree_laws.Cuts.{one_cut, absent_before}
 use Rattle.std.proofs.lemmas.Bool.{cases_Bool}
-use Rattle.rewriter_machine.proofs.Trees.{found_id}
 use Rattle.ir_event.proofs.of_trees.Facts.{ids_head}
 
 -- a list after other entries are inserted before one entry

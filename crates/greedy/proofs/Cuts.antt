@@ -1,6 +1,6 @@
 -- A rewrite that stays within the pre-order range of an operation is orderly: it replaces that range with other
 -- operations, and the old operations that remain keep their order.
-use Rattle.std.proofs.Common.{◌≡◌, refl, ap, sym, ◌∙◌, subst, ℕ, inl, inr, ◌⊎◌, Bool, true, false, eqb, eq-eqb, List, [], ◌∷◌, ◌++◌, true≢false}
+use Rattle.std.proofs.Common.{◌≡◌, refl, ap, sym, ◌∙◌, subst, ℕ, inl, inr, ◌⊎◌, true, false, eqb, eq-eqb, List, [], ◌∷◌, ◌++◌, true≢false}
 use Rattle.std.specs.List.{IsDistinct}
 use Rattle.ir_event.specs.trees.Ids.{ids, find, HasDistinctIds}
 use Rattle.ir_event.proofs.of_trees.Returns.{halves}

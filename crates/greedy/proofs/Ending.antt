@@ -1,8 +1,8 @@
 -- Operations that end a block.
 use Rattle.std.proofs.Common.{◌≡◌, refl, ap, sym, ◌∙◌, subst, ℕ, true, eqb, eq-eqb, List, [], ◌∷◌, Option, Some, None}
 use Rattle.std.specs.Prelude.{option_map, option_and_then}
-use Rattle.ir_event.specs.trees.Tree.{OpOf, op, empty, block, OpsOf, no_ops, next, head, regions}
-use Rattle.ir_event.specs.trees.Ids.{HasDistinctIds, first_of, find}
+use Rattle.ir_event.specs.trees.Tree.{OpOf, op, empty, block, OpsOf, no_ops, head, regions}
+use Rattle.ir_event.specs.trees.Ids.{HasDistinctIds, find}
 use Rattle.ir_event.specs.store.Nodes.{node_of}
 use Rattle.ir_event.specs.tree_laws.Values.{region_at}
 use Rattle.ir_event.specs.tree_laws.Reads.{last_id, ops_in, last_at}

@@ -1,10 +1,10 @@
 -- The events of a journal lead to the module of its store, and the store holds the operations that they took out.
-use Rattle.std.proofs.Common.{◌≡◌, refl, ap, sym, ◌∙◌, ℕ, zero, suc, ◌<◌, true, false, true≢false, eqb, eq-eqb, eqb-true, List, [], ◌∷◌, Option, Some, None, inl, inr, arith}
+use Rattle.std.proofs.Common.{◌≡◌, refl, ap, sym, ◌∙◌, ℕ, zero, suc, ◌<◌, true, false, true≢false, eqb, eqb-true, List, [], ◌∷◌, Option, Some, None, inl, inr, arith}
 use Rattle.std.specs.Prelude.{option_map, drop}
 use Rattle.std.specs.FinMap as finmap
 use Rattle.ir_event.specs.types.Things.{ContextModel}
 use Rattle.ir_event.specs.types.Terms.{TypeTerm, AttrTerm, name_term, type_term, attr_term}
-use Rattle.ir_event.specs.trees.Tree.{Op, op, head}
+use Rattle.ir_event.specs.trees.Tree.{Op, head}
 use Rattle.ir_event.specs.trees.Ids.{find, first_of, has_id}
 use Rattle.ir_event.specs.trees.Edits.{put_operand, change_part, change_entry}
 use Rattle.ir_event.specs.trees.Meaning.{Operation, meaning, key_before}

@@ -2,7 +2,6 @@
 use Rattle.std.proofs.Common.{◌≡◌, ap, sym, ◌∙◌, subst, ℕ, ◌+◌, ◌<◌, ◌≤◌, true, true≢false, ◌||◌, eqb, eq-eqb, eqb-true, List, [], ◌∷◌, length, Option, Some, None, inl, inr, ◌⊎◌, arith}
 use Rattle.std.specs.Prelude.{option_map}
 use Rattle.ir_event.specs.trees.declared.value.Value.TheVariants.{Result, Arg}
-use Rattle.ir_event.specs.store.Using.{is_use}
 use Rattle.ir_event.specs.trees.declared.place.Place.{Place}
 use Rattle.ir_event.specs.trees.Tree.{Op, regions, region_count}
 use Rattle.ir_event.specs.trees.Ids.{HasDistinctIds, find}
@@ -108,7 +107,3 @@ one_of_two R y z x q = elim q.1 [
   | inl i ↦ inl (subst (λ u. R u x) i q.2)
   | inr h ↦ elim h [ inl i ↦ inr (subst (λ u. R u x) i q.2) | inr none ↦ absurd none ]
 ]
-
--- ---- a value with a use
-pub used_some : (u : ℕ × ℕ) (us : List (ℕ × ℕ)) → is_use u.0 u.1 us ≡ true → us ≡ [] → ⊥
-used_some u us h e = true≢false (sym h ∙ ap (is_use u.0 u.1) e)

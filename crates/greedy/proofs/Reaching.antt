@@ -1,5 +1,5 @@
 -- Each event, and each list of events, keeps the surroundings of every operation that it doesn't reach.
-use Rattle.std.proofs.Common.{◌≡◌, refl, ap, sym, ◌∙◌, subst, ℕ, zero, suc, Bool, true, false, true≢false, ◌||◌, ◌&&◌, eqb, eq-eqb, List, [], ◌∷◌, map, Option, Some, None, inl, inr}
+use Rattle.std.proofs.Common.{◌≡◌, refl, ap, sym, ◌∙◌, subst, ℕ, zero, suc, Bool, true, false, true≢false, ◌||◌, ◌&&◌, eqb, List, [], ◌∷◌, map, Option, Some, None, inl, inr}
 use Rattle.ir_event.specs.types.Things.{ContextModel}
 use Rattle.ir_event.specs.trees.declared.place.Place.{Place}
 use Rattle.ir_event.specs.trees.Tree.{HeadOf, OpOf, RegionsOf, no_regions, region, empty, block, OpsOf, head, regions}

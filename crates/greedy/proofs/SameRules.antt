@@ -7,7 +7,7 @@ use Rattle.ir_event.specs.Modules.{Module}
 use Rattle.patterns_base.specs.Rewrites.{Rewrite, none, refused, becomes}
 use Rattle.patterns_base.specs.Canonicalization.{Canonical, canonical_from, canonicalization_of, end_of, ended, first_among, go_on, greedy_rules, highest_priority, most_rewrites, next_rewrite, or_else, aborted}
 use Rattle.greedy.specs.PatternSet.{by_rules}
-use Rattle.greedy.specs.Rewriting.{first_by, next_by, rewritten_from, rewriting_of}
+use Rattle.greedy.specs.Rewriting.{first_by, rewritten_from, rewriting_of}
 
 same_first : (xs : List ℕ) (m : Module) → first_by (by_rules greedy_rules) xs m ≡ first_among xs m
 unfolding first_by first_among

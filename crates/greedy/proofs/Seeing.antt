@@ -1,5 +1,5 @@
 -- Rules read the same at operations that aren't listed.
-use Rattle.std.proofs.Common.{◌≡◌, refl, ap, sym, ◌∙◌, ℕ, Bool, true, false, true≢false, List, map, Option, Some, None}
+use Rattle.std.proofs.Common.{◌≡◌, refl, ap, sym, ◌∙◌, ℕ, true, false, true≢false, List, map, Option, Some, None}
 use Rattle.std.specs.Prelude.{option_and_then}
 use Rattle.ir_event.specs.types.Things.{ContextModel}
 use Rattle.ir_event.specs.trees.declared.value.Value.{Value}

@@ -1,12 +1,12 @@
 -- Traces of rewrites.
-use Rattle.std.proofs.Common.{◌≡◌, ◌≢◌, refl, ap, sym, ◌∙◌, subst, ℕ, zero, suc, ◌+◌, ◌-◌, ◌≤◌, ◌<◌, Bool, true, false, true≢false, cond, eqb, eqb-true, List, [], ◌∷◌, ◌++◌, append_assoc, append-nil, length, Option, Some, None, inl, inr, arith}
+use Rattle.std.proofs.Common.{◌≡◌, refl, ap, sym, ◌∙◌, ℕ, zero, suc, ◌+◌, ◌-◌, ◌≤◌, ◌<◌, Bool, true, false, true≢false, eqb, eqb-true, List, [], ◌∷◌, ◌++◌, append_assoc, append-nil, length, Option, Some, None, inl, inr, arith}
 use Rattle.std.proofs.lemmas.Option.{none-some}
 use Rattle.ir_event.specs.trees.Ids.{has_id, ids}
-use Rattle.ir_event.specs.tree_laws.Reads.{comes_after, precedes}
+use Rattle.ir_event.specs.tree_laws.Reads.{comes_after}
 use Rattle.ir_event.proofs.of_tree_laws.Listed.{bool_cases}
 use Rattle.ir_event.specs.Modules.{Module}
 use Rattle.patterns_base.specs.Rewrites.{Rewrite, none, refused, becomes}
-use Rattle.patterns_base.specs.Canonicalization.{End, Canonical, converged, ended, go_on, or_else, aborted}
+use Rattle.patterns_base.specs.Canonicalization.{End, converged, ended, go_on, or_else, aborted}
 use Rattle.ir_event.specs.types.declared.refusal.Refusal.{Refusal}
 use Rattle.greedy.specs.Outcomes.{Applied}
 use Rattle.greedy.specs.Rewriting.{first_by, next_by, rewritten_from}

@@ -32,7 +32,7 @@ use Rattle.greedy.specs.Near.{subject, outer_ids, Unclimbed}
 use Rattle.greedy.proofs.Feeling.{climbed_from}
 use Rattle.greedy.proofs.Still.{goes_out, goes_in, goes_on, all_edited}
 use Rattle.greedy.proofs.Tracking.{Kept, kept_by, kept_like, climbs_on, climbs_past, climbs_round, feels_up, same_effects}
-use Rattle.ir_event.proofs.of_trees.Facts.{part_id, part_operands}
+use Rattle.ir_event.proofs.of_trees.Facts.{part_id}
 
 -- heads keep their id and name under both kinds of edits
 pub operand_id : {N T A : Type 0} (x k : ℕ) (v : Value) (h : HeadOf N T A) → (at x (put_operand k v) h).id ≡ h.id

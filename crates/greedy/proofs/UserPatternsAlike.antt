@@ -1,9 +1,8 @@
 -- If two trees agree on everything that rules read, and on the types one level deeper, shallow user patterns apply
 -- alike in both. The operations that a pattern makes are inserted before its root.
-use Rattle.std.proofs.Common.{◌≡◌, refl, ap, sym, ◌∙◌, subst, ℕ, ◌+◌, List, [], ◌∷◌, ◌++◌, map, Bool, true, false, true≢false, ◌&&◌, eqb, Option, Some, None, inl, inr}
+use Rattle.std.proofs.Common.{◌≡◌, refl, ap, sym, ◌∙◌, subst, ℕ, ◌+◌, List, [], ◌∷◌, ◌++◌, map, Bool, true, false, true≢false, ◌&&◌, eqb, Option, Some, None}
 use Rattle.std.specs.List.{list_all}
 use Rattle.std.specs.Prelude.{is_some, option_map, slice_get}
-use Rattle.std.proofs.lemmas.Bool.{and_parts}
 use Rattle.std.proofs.lemmas.Option.{none-some, same_Some}
 use Rattle.ir_event.specs.types.Terms.{TypeTerm}
 use Rattle.ir_event.specs.trees.declared.value.Value.{Value}
@@ -13,12 +12,11 @@ use Rattle.ir_event.specs.trees.Tree.{head, regions, no_regions}
 use Rattle.ir_event.specs.trees.Ids.{find}
 use Rattle.ir_event.specs.trees.Uses.{same_value}
 use Rattle.ir_event.specs.trees.Meaning.{Operation}
-use Rattle.ir_event.specs.tree_laws.Members.{In}
 use Rattle.ir_event.specs.Modules.{Module}
 use Rattle.rewriter_machine.specs.Contents.{Edit}
 use Rattle.rewriter_machine.specs.Edits.{Make}
 use Rattle.patterns_base.specs.Keeps.{given}
-use Rattle.patterns_base.specs.Looks.{Header, when, is_verified, insertion_of, defining_op, type_of}
+use Rattle.patterns_base.specs.Looks.{Header, when, is_verified, insertion_of, defining_op}
 use Rattle.patterns_base.specs.Makes.{give}
 use Rattle.ir_event.specs.types.declared.bits.BitsKind.{BitsKind}
 use Rattle.patterns_laws.specs.Made.{constant, made}
@@ -41,8 +39,7 @@ use Rattle.user_patterns_apply.specs.Built.{plan_of}
 use Rattle.patterns.specs.soundness.Alike.{Same, ShowsAlike}
 use Rattle.patterns.specs.soundness.Near.{Still}
 use Rattle.user_patterns_apply.specs.Own.{edits_for, is_one, user_pattern_edits}
-use Rattle.user_patterns_data.specs.Alike.{GivesAlike, Under}
-use Rattle.user_patterns_data.specs.Depth.{is_shallow}
+use Rattle.user_patterns_data.specs.Alike.{GivesAlike}
 
 -- ---- the defining operation of a value
 module _ (t u : Operation) where

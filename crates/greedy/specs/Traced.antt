@@ -1,6 +1,6 @@
 -- Joined lists of rewrites.
 use Rattle.std.specs.Prelude.{◌≡◌, ◌++◌, List, []}
-use Rattle.std.proofs.Common.{refl, ap, sym, ◌∙◌, append-nil, append_assoc}
+use Rattle.std.proofs.Common.{ap, sym, ◌∙◌, append-nil, append_assoc}
 use Rattle.greedy.specs.declared.applied_rewrite.AppliedRewrite.{AppliedRewrite}
 
 pub untouched_items : (xs : List AppliedRewrite) → xs ≡ xs ++ []

@@ -43,10 +43,10 @@ fn push_unused(store: &Store, ops: &mut Vec<OpId>, value: &Value) -> Result<(), 
     if is_listed_last(ops, value) {
         return Ok(());
     }
-    match store.first_use(*value) {
-        Some(_) => Ok(()),
-        None => push_defining_op(ops, value),
+    if store.is_used(*value) {
+        return Ok(());
     }
+    push_defining_op(ops, value)
 }
 
 /// Pushes the defining operations of the values without uses.

@@ -232,19 +232,19 @@ module _ (x : ℕ) where
     once_regions r (a ∷ ls) =
         once_joined (arguments_from x r 0 (argument_count a)) (region_arguments x (r + 1) ls) (once_arguments r 0 (argument_count a)) (once_regions (r + 1) ls)
         (λ v h k. (let q = in_arguments r v 0 (argument_count a) h in
-          let p = in_regions v (r + 1) ls k in
-          let e : Arg x r q.0 ≡ Arg x p.0 p.1 = sym q.1 ∙ p.2 in
-          let same : r ≡ p.0 = cc in
-          let l = p.3 in
-          absurd (omega (arith, same, l))))
+        let p = in_regions v (r + 1) ls k in
+        let e : Arg x r q.0 ≡ Arg x p.0 p.1 = sym q.1 ∙ p.2 in
+        let same : r ≡ p.0 = cc in
+        let l = p.3 in
+        absurd (omega (arith, same, l))))
 
   once_values : (n : NodeOf ℕ ℕ ℕ) → Once (values_of x n)
   once_values n =
       once_joined (results_from x 0 (length n.head.results)) (region_arguments x 0 n.arguments) (once_results 0 (length n.head.results)) (once_regions 0 n.arguments)
       (λ v h k. (let q = in_results v 0 (length n.head.results) h in
-        let p = in_regions v 0 n.arguments k in
-        let bad : Result x q.0 ≡ Arg x p.0 p.1 = sym q.1 ∙ p.2 in
-        absurd cc))
+      let p = in_regions v 0 n.arguments k in
+      let bad : Result x q.0 ≡ Arg x p.0 p.1 = sym q.1 ∙ p.2 in
+      absurd cc))
 
   -- the values are of the operation
   values_own : (n : NodeOf ℕ ℕ ℕ) (v : Value) → In v (values_of x n) → (owner_of v).0 ≡ x

@@ -3,6 +3,7 @@ ghost use Rattle.std.specs.Prelude.{◌≡◌, [], IfOk};
 
 use ir_event::trees::value::Value;
 use listeners_symbols::boxed::Boxed;
+use smallvec::SmallVec;
 use std::alloc::{AllocError, Global};
 use std::marker::Model;
 
@@ -12,12 +13,12 @@ pub(crate) struct OperandChange {
     pub(crate) operands: Operands,
 }
 
-/// A list of operands in 16 bytes. A contract describes it as the list.
+/// A list of operands in 16 bytes, with one allocation if there are at most two. A contract describes it as the list.
 ///
 /// A table has one for each id. Most of them are empty, because the operation was removed.
 #[derive(Drop)]
 pub(crate) struct Operands {
-    list: Option<Boxed<Vec<Value>>>,
+    list: Option<Boxed<SmallVec<Value, 2>>>,
 }
 
 impl Model for Operands {
@@ -43,7 +44,7 @@ impl Operands {
         if values.is_empty() {
             return Ok(Operands::new());
         }
-        let list = Vec::from_slice(alloc, values)?;
+        let list = SmallVec::from_slice(alloc, values)?;
         let list = Boxed::new(alloc, list)?;
         Ok(Operands { list: Some(list) })
     }

@@ -71,21 +71,13 @@ no_rows : (x : ℕ) (ls : List (LineOf (List ℕ) AttrTerm)) → Others x ls →
 no_rows x [] o = refl
 no_rows x (l ∷ ls) o = hidden (subject.Op x) (line_cells Tag Op Name Path l) (map (line_cells Tag Op Name Path) ls) (named x l ∙ o.0) (no_rows x ls o.1)
 
-module _ {N T A : Type 0} (x : ℕ) where
+module _ {N A : Type 0} (x : ℕ) where
   joined : (a b : List (LineOf N A)) → Others x a → Others x b → Others x (a ++ b)
   joined [] b o p = p
   joined (l ∷ a) b o p = (o.0, joined a b o.1 p)
 
-  -- an operation that defines, references and calls no symbol
-  abbrev IsQuiet : RoleOf N T A → Type 0
-  IsQuiet r = ((is_some r.home && is_some r.symbol) ≡ false) × (r.references ≡ []) × (r.call ≡ None)
-
-  -- x is such an operation
-  abbrev Quiet : RolesOf N T A → Type 0
-  Quiet [] = Unit {0}
-  Quiet (e ∷ es) = (eqb e.0 x ≡ true → IsQuiet e.1) × Quiet es
-
-  -- its definitions are of other operations
+module _ {N : Type 0} (x : ℕ) where
+  -- definitions of other operations
   abbrev Apart : List (DefinitionOf N) → Type 0
   Apart [] = Unit {0}
   Apart (d ∷ ds) = (eqb d.1 x ≡ false) × Apart ds
@@ -99,19 +91,30 @@ module _ {N T A : Type 0} (x : ℕ) where
   one_apart (Some t) None y q = tt
   one_apart (Some t) (Some n) y q = (elim (bool_cases (eqb y x)) [ inl e ↦ absurd (true≢false (q e)) | inr e ↦ e ], tt)
 
-  all_apart : (es : RolesOf N T A) → Quiet es → Apart (definitions es)
-  all_apart [] q = tt
-  all_apart (e ∷ es) q = apart_joined (defined e.1.home e.1.symbol e.0) (definitions es) (one_apart e.1.home e.1.symbol e.0 (λ i. (q.0 i).0)) (all_apart es q.1)
-
-  other_definitions : (ds : List (DefinitionOf N)) → Apart ds → Others x (definition_lines {N = N} {A = A} ds)
+module _ {N : Type 0} (A : Type 0) (x : ℕ) where
+  other_definitions : (ds : List (DefinitionOf N)) → Apart x ds → Others x (definition_lines {N = N} {A = A} ds)
   other_definitions [] a = tt
   other_definitions (d ∷ ds) a = (a.0, other_definitions ds a.1)
 
-  other_duplicates : (same : N → N → Bool) (all ds : List (DefinitionOf N)) → Apart ds → Others x (duplicate_lines {N = N} {A = A} same all ds)
+  other_duplicates : (same : N → N → Bool) (all ds : List (DefinitionOf N)) → Apart x ds → Others x (duplicate_lines {N = N} {A = A} same all ds)
   other_duplicates same all [] a = tt
   other_duplicates same all (d ∷ ds) a =
       let rest = other_duplicates same all ds a.1 in
-      elim (is_duplicate same all d) as (λ b. Others x (cond b (Duplicate d.0.0 d.0.1 d.1 ∷ duplicate_lines {N = N} {A = A} same all ds) (duplicate_lines {N = N} {A = A} same all ds))) [ true ↦ (a.0, rest) | false ↦ rest ]
+      elim (is_duplicate same all d) as (λ b. Others {N = N} {A = A} x (cond b (Duplicate d.0.0 d.0.1 d.1 ∷ duplicate_lines {N = N} {A = A} same all ds) (duplicate_lines {N = N} {A = A} same all ds))) [ true ↦ (a.0, rest) | false ↦ rest ]
+
+module _ {N T A : Type 0} (x : ℕ) where
+  -- an operation that defines, references and calls no symbol
+  abbrev IsQuiet : RoleOf N T A → Type 0
+  IsQuiet r = ((is_some r.home && is_some r.symbol) ≡ false) × (r.references ≡ []) × (r.call ≡ None)
+
+  -- x is such an operation
+  abbrev Quiet : RolesOf N T A → Type 0
+  Quiet [] = Unit {0}
+  Quiet (e ∷ es) = (eqb e.0 x ≡ true → IsQuiet e.1) × Quiet es
+
+  all_apart : (es : RolesOf N T A) → Quiet es → Apart x (definitions es)
+  all_apart [] q = tt
+  all_apart (e ∷ es) q = apart_joined x (defined e.1.home e.1.symbol e.0) (definitions es) (one_apart x e.1.home e.1.symbol e.0 (λ i. (q.0 i).0)) (all_apart es q.1)
 
   module _ (same : N → N → Bool) (roles : RoleAt N T A) (ds : List (DefinitionOf N)) where
     -- the references and the call of another operation
@@ -126,42 +129,42 @@ module _ {N T A : Type 0} (x : ℕ) where
       other_references : (possible : N → Bool) (resolved : Bool) (table : Option ℕ) (ps : List (ReferenceOf N A)) → Others x (reference_lines same roles ds possible resolved y table ps)
       other_references possible resolved table [] = tt
       other_references possible resolved table (p ∷ ps) =
-          joined _ (reference_lines same roles ds possible resolved y table ps) (other_reference resolved _ p.0 (resolve same roles ds table p.1)) (other_references possible resolved table ps)
+          joined x _ (reference_lines same roles ds possible resolved y table ps) (other_reference resolved _ p.0 (resolve same roles ds table p.1)) (other_references possible resolved table ps)
 
-      other_mismatch : (same_type : T → T → Bool) (call : CallOf N T) (found : Option ℕ) → Others x (mismatch_line {N = N} {T = T} {A = A} same_type roles y call found)
-      other_mismatch same_type call None = tt
-      other_mismatch same_type call (Some z) = elim (fits same_type call (function_at (roles z))) as (λ b. Others x (cond b [] (Mismatch {N = N} {A = A} y z ∷ []))) [ true ↦ tt | false ↦ (ne, tt) ]
+      other_mismatch : (same_types : T → T → Bool) (call : CallOf N T) (found : Option ℕ) → Others x (mismatch_line {N = N} {T = T} {A = A} same_types roles y call found)
+      other_mismatch same_types call None = tt
+      other_mismatch same_types call (Some z) = elim (fits same_types call (function_at (roles z))) as (λ b. Others {N = N} {A = A} x (cond b [] (Mismatch y z ∷ []))) [ true ↦ tt | false ↦ (ne, tt) ]
 
-      other_call : (same_type : T → T → Bool) (table : Option ℕ) (call : Option (CallOf N T)) → Others x (call_line {N = N} {T = T} {A = A} same same_type roles ds y table call)
-      other_call same_type table None = tt
-      other_call same_type table (Some call) = other_mismatch same_type call (resolve same roles ds table call.callee)
+      other_call : (same_types : T → T → Bool) (table : Option ℕ) (call : Option (CallOf N T)) → Others x (call_line {N = N} {T = T} {A = A} same same_types roles ds y table call)
+      other_call same_types table None = tt
+      other_call same_types table (Some call) = other_mismatch same_types call (resolve same roles ds table call.callee)
 
     all_references : (possible : N → Bool) (resolved : Bool) (es : RolesOf N T A) → Quiet es → Others x (all_reference_lines same roles ds possible resolved es)
     all_references possible resolved [] q = tt
     all_references possible resolved (e ∷ es) q =
-        joined (reference_lines same roles ds possible resolved e.0 e.1.table e.1.references) (all_reference_lines same roles ds possible resolved es)
+        joined x (reference_lines same roles ds possible resolved e.0 e.1.table e.1.references) (all_reference_lines same roles ds possible resolved es)
         (elim (bool_cases (eqb e.0 x)) [
           | inl i ↦ subst (λ ps. Others x (reference_lines same roles ds possible resolved e.0 e.1.table ps)) (sym (q.0 i).1) tt
           | inr i ↦ other_references e.0 i possible resolved e.1.table e.1.references
         ])
         (all_references possible resolved es q.1)
 
-    all_mismatches : (same_type : T → T → Bool) (es : RolesOf N T A) → Quiet es → Others x (mismatch_lines {N = N} {T = T} {A = A} same same_type roles ds es)
-    all_mismatches same_type [] q = tt
-    all_mismatches same_type (e ∷ es) q =
-        joined (call_line {N = N} {T = T} {A = A} same same_type roles ds e.0 e.1.table e.1.call) (mismatch_lines {N = N} {T = T} {A = A} same same_type roles ds es)
+    all_mismatches : (same_types : T → T → Bool) (es : RolesOf N T A) → Quiet es → Others x (mismatch_lines {N = N} {T = T} {A = A} same same_types roles ds es)
+    all_mismatches same_types [] q = tt
+    all_mismatches same_types (e ∷ es) q =
+        joined x (call_line {N = N} {T = T} {A = A} same same_types roles ds e.0 e.1.table e.1.call) (mismatch_lines {N = N} {T = T} {A = A} same same_types roles ds es)
         (elim (bool_cases (eqb e.0 x)) [
-          | inl i ↦ subst (λ k. Others x (call_line {N = N} {T = T} {A = A} same same_type roles ds e.0 e.1.table k)) (sym (q.0 i).2) tt
-          | inr i ↦ other_call e.0 i same_type e.1.table e.1.call
+          | inl i ↦ subst (λ k. Others x (call_line {N = N} {T = T} {A = A} same same_types roles ds e.0 e.1.table k)) (sym (q.0 i).2) tt
+          | inr i ↦ other_call e.0 i same_types e.1.table e.1.call
         ])
-        (all_mismatches same_type es q.1)
+        (all_mismatches same_types es q.1)
 
-    all_others : (same_type : T → T → Bool) (possible : N → Bool) (es : RolesOf N T A) → Quiet es → Apart ds → Others x (lines_with same same_type roles ds possible es)
-    all_others same_type possible es q a =
-        joined (definition_lines ds) _ (other_definitions ds a)
-        (joined (duplicate_lines same ds ds) _ (other_duplicates same ds ds a)
-        (joined (all_reference_lines same roles ds possible true es) _ (all_references possible true es q)
-        (joined (all_reference_lines same roles ds possible false es) _ (all_references possible false es q) (all_mismatches same_type es q))))
+    all_others : (same_types : T → T → Bool) (possible : N → Bool) (es : RolesOf N T A) → Quiet es → Apart x ds → Others x (lines_with same same_types roles ds possible es)
+    all_others same_types possible es q a =
+        joined x (definition_lines ds) _ (other_definitions A x ds a)
+        (joined x (duplicate_lines same ds ds) _ (other_duplicates A x same ds ds a)
+        (joined x (all_reference_lines same roles ds possible true es) _ (all_references possible true es q)
+        (joined x (all_reference_lines same roles ds possible false es) _ (all_references possible false es q) (all_mismatches same_types es q))))
 
 -- ---- an operation whose entry concerns no symbols
 
@@ -199,6 +202,6 @@ no_symbols (subject.Op x) b t which m ordered keeps e =
     let quiet : Quiet x (meant b es) = quiet_entries b x es (each_entry (λ q r. eqb q x ≡ true → concerns_symbols r ≡ false) es ordered own) in
     let all = definitions (roles_by_id t) in
     let possible = is_among bytes_eq (possible_names which (roles_by_id t)) in
-    let apart = subst (λ (ds : List (DefinitionOf (List ℕ))). Apart {N = List ℕ} {T = TypeTerm} {A = AttrTerm} x ds) (definitions_all t b m ordered keeps) (all_apart x (meant b es) quiet) in
+    let apart = subst (λ (ds : List (DefinitionOf (List ℕ))). Apart {N = List ℕ} x ds) (definitions_all t b m ordered keeps) (all_apart x (meant b es) quiet) in
     ap (λ (ls : List (LineOf (List ℕ) AttrTerm)). rows_about (subject.Op x) (map (line_cells Tag Op Name Path) ls)) (sym (lines_all t b m ordered keeps all possible))
     ∙ no_rows x (lines_with bytes_eq same_type (role_of t) all possible (meant b es)) (all_others x bytes_eq (role_of t) all same_type possible (meant b es) quiet apart)

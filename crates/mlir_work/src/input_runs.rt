@@ -8,6 +8,7 @@ use mlir_work_cli::dry_run::Bytes;
 use mlir_work_cli::files::file_if;
 use mlir_work_cli::formats::{Start, divider_in, run_given};
 use mlir_work_cli::input::split;
+use mlir_work_cli::options::CommandLine;
 use mlir_work_cli::positions::line_feeds;
 use mlir_work_cli::run::{ParseError, tree_of};
 use mlir_work_cli::runs::Runs;
@@ -19,17 +20,17 @@ use std::io::BufWriter;
 
 /// The runs of a command line's inputs.
 #[derive(Drop)]
-pub(crate) struct InputRuns<'r, 's, 'a, W: io::Write + Drop> {
+pub(crate) struct InputRuns<'r, 's, 'g, 'p, 'a, W: io::Write + Drop> {
     pub(crate) rt: &'r HostRuntime,
-    pub(crate) start: &'s Start<'a>,
-    /// The line of the module's file at which the next input begins.
+    pub(crate) start: &'s Start<'g, 'p, 'a>,
+    /// The line of the module's file at which the next input begins. It stays 1 if the file isn't split.
     pub(crate) line: usize,
     /// The writer of all outputs, or `None` if memory ran out in a run.
     pub(crate) writer: Option<Watched<BufWriter<W>>>,
 }
 
 /// Returns how many operations are in the module of a text, without the root.
-fn count_in(rt: &HostRuntime, start: &Start<'_>, text: &[u8]) -> Result<u64, ParseError> {
+fn count_in(rt: &HostRuntime, start: &Start<'_, '_, '_>, text: &[u8]) -> Result<u64, ParseError> {
     let read = tree_of(rt.alloc(), start.key, start.given.options.opaque, text)?;
     Ok(op_count(&read.1).saturating_sub(1))
 }
@@ -38,7 +39,7 @@ fn count_in(rt: &HostRuntime, start: &Start<'_>, text: &[u8]) -> Result<u64, Par
 /// `first` is the line of the file at which the input begins.
 fn comment(
     rt: &HostRuntime,
-    start: &Start<'_>,
+    start: &Start<'_, '_, '_>,
     first: usize,
     input: &[u8],
 ) -> Result<(), AllocError> {
@@ -60,10 +61,18 @@ fn comment(
     Ok(())
 }
 
-/// Returns whether a run calls for a comment: its module was refused, or it has no command.
-fn needs_comment(input: &[u8], status: u8) -> bool {
-    let (_, script) = split(input);
-    status == 3 || status == 0 && script.is_empty()
+/// Returns whether the command line has a command, by its first one. If not, the input may still have some.
+fn names_command(given: &CommandLine<'_>) -> bool {
+    match given.commands.first() {
+        Some(command) => !command.is_empty(),
+        None => false,
+    }
+}
+
+/// Returns whether a run calls for a comment: its module was refused, or it has no command. The text is searched for
+/// commands only if the command line names none.
+fn needs_comment(given: &CommandLine<'_>, input: &[u8], status: u8) -> bool {
+    status == 3 || status == 0 && !names_command(given) && split(input).1.is_empty()
 }
 
 /// Returns the line of a file at which the next module begins, after the divider.
@@ -72,7 +81,7 @@ fn line_after(first: usize, input: &[u8]) -> usize {
     first.saturating_add(line_feeds(text)).saturating_add(1)
 }
 
-impl<W: io::Write + Drop> Runs for InputRuns<'_, '_, '_, W> {
+impl<W: io::Write + Drop> Runs for InputRuns<'_, '_, '_, '_, '_, W> {
     ghost ends = { λ input status. ⊤ };
 
     ghost failed = { λ runs. true };
@@ -86,10 +95,12 @@ impl<W: io::Write + Drop> Runs for InputRuns<'_, '_, '_, W> {
         let mut reader = Bytes { rest: input };
         let (status, writer) = run_given(rt.alloc(), self.start, &mut reader, writer, boxes)?;
         self.writer = Some(writer);
-        if needs_comment(input, status) {
+        if needs_comment(given, input, status) {
             comment(rt, self.start, self.line, input)?;
         }
-        self.line = line_after(self.line, input);
+        if given.split {
+            self.line = line_after(self.line, input);
+        }
         Ok(status)
     }
 

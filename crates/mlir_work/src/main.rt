@@ -124,7 +124,7 @@ fn watched<W: io::Write + Drop>(
 /// Runs inputs one after another. Returns the status.
 fn run_all<W: io::Write + Drop>(
     rt: &HostRuntime,
-    start: &Start<'_>,
+    start: &Start<'_, '_, '_>,
     inputs: &[Vec<u8>],
     writer: W,
 ) -> Result<u8, AllocError> {
@@ -139,7 +139,7 @@ fn run_all<W: io::Write + Drop>(
 }
 
 /// Runs the inputs that the command line names. Returns the status.
-fn run_named(rt: &HostRuntime, start: &Start<'_>) -> Result<u8, AllocError> {
+fn run_named(rt: &HostRuntime, start: &Start<'_, '_, '_>) -> Result<u8, AllocError> {
     let inputs = match inputs(rt.alloc(), &mut HostFiles { rt }, start.given) {
         Ok(inputs) => inputs,
         Err(fault) => return Ok(refuse_input(rt, fault)),
@@ -159,7 +159,7 @@ fn run_named(rt: &HostRuntime, start: &Start<'_>) -> Result<u8, AllocError> {
 }
 
 /// Runs standard input, or answers each of its lines at once. Returns the status.
-fn run_standard(rt: &HostRuntime, start: &Start<'_>, live: bool) -> Result<u8, AllocError> {
+fn run_standard(rt: &HostRuntime, start: &Start<'_, '_, '_>, live: bool) -> Result<u8, AllocError> {
     let given = start.given;
     let boxes = listed_listeners(rt.alloc(), given.options.opaque, &given.analyses)?;
     let mut reader = Watched::new(rt.stdin());
@@ -176,7 +176,7 @@ fn run_standard(rt: &HostRuntime, start: &Start<'_>, live: bool) -> Result<u8, A
 }
 
 /// Runs as the command line says, with the patterns of its files. Returns the status.
-fn run_with(rt: &HostRuntime, start: &Start<'_>) -> Result<u8, AllocError> {
+fn run_with(rt: &HostRuntime, start: &Start<'_, '_, '_>) -> Result<u8, AllocError> {
     match route_of(start.given) {
         Route::Inputs => run_named(rt, start),
         Route::Lines => run_standard(rt, start, true),

@@ -23,11 +23,11 @@ use std::alloc::{AllocError, Global};
 
 /// What a run begins with.
 #[derive(Drop)]
-pub struct Start<'a> {
+pub struct Start<'g, 'p, 'a> {
     /// The command line.
-    pub given: &'a CommandLine<'a>,
+    pub given: &'g CommandLine<'a>,
     /// The pattern files of the command line.
-    pub patterns: &'a [PatternFile<'a>],
+    pub patterns: &'p [PatternFile<'a>],
     /// The key with which names are hashed. The output doesn't depend on it.
     pub key: u64,
 }
@@ -45,7 +45,7 @@ pub fn divider_in(format: Format) -> &'static [u8]
 /// Runs an input in a format, with these patterns. Returns the status and the writer.
 fn run_in<L: AnalysisSource, R: Source, W: Sink + Drop>(
     alloc: Global,
-    start: &Start<'_>,
+    start: &Start<'_, '_, '_>,
     reader: &mut R,
     writer: W,
     boxes: Vec<L>,
@@ -80,7 +80,7 @@ fn run_in<L: AnalysisSource, R: Source, W: Sink + Drop>(
 /// Errors: memory runs out for the patterns or for a line of JSON.
 pub fn run_given<L: AnalysisSource, R: Source, W: Sink + Drop>(
     alloc: Global,
-    start: &Start<'_>,
+    start: &Start<'_, '_, '_>,
     reader: &mut R,
     writer: W,
     boxes: Vec<L>,
@@ -111,7 +111,7 @@ fn live_status(ran: Result<u8, Unanswered>) -> u8
 /// Answers lines in a format, with these patterns. Returns how the run ended, and the writer.
 fn answer_in<L: AnalysisSource, R: Source, W: Sink + Drop>(
     alloc: Global,
-    start: &Start<'_>,
+    start: &Start<'_, '_, '_>,
     reader: &mut R,
     writer: W,
     boxes: Vec<L>,
@@ -139,7 +139,7 @@ fn answer_in<L: AnalysisSource, R: Source, W: Sink + Drop>(
 /// Errors: memory runs out for the patterns.
 pub fn answer_given<L: AnalysisSource, R: Source, W: Sink + Drop>(
     alloc: Global,
-    start: &Start<'_>,
+    start: &Start<'_, '_, '_>,
     reader: &mut R,
     writer: W,
     boxes: Vec<L>,

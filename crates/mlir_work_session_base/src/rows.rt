@@ -50,12 +50,7 @@ fn write_result(out: &mut Vec<u8>, op: OpId, place: u32) -> Result<(), AllocErro
 }
 
 /// Appends a block argument: `%a1.0.0`.
-fn write_argument(
-    out: &mut Vec<u8>,
-    op: OpId,
-    region: u32,
-    place: u32,
-) -> Result<(), AllocError>
+fn write_argument(out: &mut Vec<u8>, op: OpId, region: u32, place: u32) -> Result<(), AllocError>
     ensures { OnOk result (out.new.items ≡ out.old.items ++ value_text (Arg op region place)) }
 {
     out.extend_from_slice(b"%a")?;

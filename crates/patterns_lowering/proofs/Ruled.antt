@@ -1,7 +1,6 @@
 -- The results of the lowering rules at an operation that the store shows.
 use Rattle.std.proofs.Common.{◌≡◌, refl, ap, sym, ◌∙◌, subst, ℕ, ◌+◌, ◌≤◌, List, [], ◌∷◌, ◌++◌, length, map, Bool, true, false, ◌&&◌, ◌||◌, Option, Some, None, arith}
-use Rattle.std.specs.Prelude.{codes, is_ok, option_map, option_and_then, slice_get, Result, Ok, Err}
-use Rattle.std.specs.Result.{result_err}
+use Rattle.std.specs.Prelude.{codes, option_map, option_and_then, slice_get}
 use Rattle.std.specs.List.{list_all, list_any, range_with_len}
 use Rattle.std.proofs.lemmas.List.{length-map}
 use Rattle.ir_event.specs.types.Things.{ContextModel}
@@ -44,7 +43,6 @@ use Rattle.patterns_lowering.proofs.Shown.{Raw, bare_head, distinct_in, indexed_
 use Rattle.ir_event.proofs.Steps.{meaning_operands}
 use Rattle.patterns_regions.proofs.Ruled.{when_none}
 use Rattle.patterns_regions.proofs.Tested.{fails, goes_on}
-use Rattle.patterns_regions.specs.Answers.{HasReasonAt}
 use Rattle.patterns_regions.specs.Conditions.{Test, asks, first_failed_test}
 use Rattle.patterns_regions.specs.Reason.{Reason}
 use Rattle.patterns_regions.specs.Reason.TheVariants.{BlockNotVerified, NoIndex, WrongOperation}
@@ -146,7 +144,14 @@ meant_name c (op h rs) = refl
 meant_results : (c : ContextModel) (o : Op) → (head (meaning c o)).results ≡ map (type_term c) (head o).results
 meant_results c (op h rs) = refl
 
+-- c is the reason of the first test of a rule that fails at the operation, if it is in the module
+abbrev pub FirstFailed : World → ℕ → Rule → Bool → Option Reason → Type 0
+FirstFailed w x r b c = (o : Operation) → find x (module_in w).tree ≡ Some o → c ≡ first_failed_test (tests r (module_in w).tree o b)
+
 -- the operation isn't in the module
+pub not_there_tested : (w : World) (x : ℕ) (r : Rule) (b : Bool) (c : Option Reason) → None ≡ option_map node_of (find x w.store.module_of.tree) → FirstFailed w x r b c
+not_there_tested w x r b c e o f = absurd (none_there w x o e f)
+
 pub not_there : (makes : Making) (w : World) (x : ℕ) → None ≡ option_map node_of (find x w.store.module_of.tree) → IsLoweredBy makes w x None
 not_there makes w x e o f = absurd (none_there w x o e f)
 
@@ -178,8 +183,8 @@ module _ (w : World) (x : ℕ) (n : Node) (shown : Some n ≡ option_map node_of
   not_lower_choice b e f = at lower_choice None (λ k insertion. when_first _ _ _ (ap (named (codes "scf.if")) named_as ∙ sym e ∙ f))
 
   -- the first test that fails, of the operation that is in the module
-  tested : {P : Type 0} (r : Rule) (a : Result P Reason) → result_err a ≡ first_failed_test (tests r t m (is_ok a)) → HasReasonAt r w x a
-  tested r a h o f = h ∙ ap (λ o. first_failed_test (tests r t o (is_ok a))) (sym (meant_there w x s.here o s.found f))
+  tested : (r : Rule) (b : Bool) (c : Option Reason) → c ≡ first_failed_test (tests r t m b) → FirstFailed w x r b c
+  tested r b c h o f = h ∙ ap (λ o. first_failed_test (tests r t o b)) (sym (meant_there w x s.here o s.found f))
 
   abbrev block_tests : Bool → List Test
   block_tests a = asks BlockNotVerified a ∷ []
@@ -190,11 +195,11 @@ module _ (w : World) (x : ℕ) (n : Node) (shown : Some n ≡ option_map node_of
   abbrev choice_tests : Bool → List Test
   choice_tests a = asks NoIndex (list_any is_index (head m).results) ∷ block_tests a
 
-  pub other_loop : {P : Type 0} (b : Bool) → b ≡ named (codes "scf.for") (name_term w.ctx n.head.name) → b ≡ false → HasReasonAt {P = P} LowerLoop w x (Err WrongOperation)
-  other_loop b e f = tested LowerLoop (Err WrongOperation) (fails (named (codes "scf.for") (head m).name) WrongOperation (loop_tests false) (ap (named (codes "scf.for")) named_as ∙ sym e ∙ f))
+  pub other_loop : (b : Bool) → b ≡ named (codes "scf.for") (name_term w.ctx n.head.name) → b ≡ false → FirstFailed w x LowerLoop false (Some WrongOperation)
+  other_loop b e f = tested LowerLoop false (Some WrongOperation) (fails (named (codes "scf.for") (head m).name) WrongOperation (loop_tests false) (ap (named (codes "scf.for")) named_as ∙ sym e ∙ f))
 
-  pub other_choice : {P : Type 0} (b : Bool) → b ≡ named (codes "scf.if") (name_term w.ctx n.head.name) → b ≡ false → HasReasonAt {P = P} LowerChoice w x (Err WrongOperation)
-  other_choice b e f = tested LowerChoice (Err WrongOperation) (fails (named (codes "scf.if") (head m).name) WrongOperation (choice_tests false) (ap (named (codes "scf.if")) named_as ∙ sym e ∙ f))
+  pub other_choice : (b : Bool) → b ≡ named (codes "scf.if") (name_term w.ctx n.head.name) → b ≡ false → FirstFailed w x LowerChoice false (Some WrongOperation)
+  other_choice b e f = tested LowerChoice false (Some WrongOperation) (fails (named (codes "scf.if") (head m).name) WrongOperation (choice_tests false) (ap (named (codes "scf.if")) named_as ∙ sym e ∙ f))
 
   module _ (i : Indexed) (was : IsReadOf w x i) where
     abbrev r : IsReadIn w s.here i
@@ -227,14 +232,14 @@ module _ (w : World) (x : ℕ) (n : Node) (shown : Some n ≡ option_map node_of
       after_for : (a : Bool) → first_failed_test (loop_tests a) ≡ first_failed_test (tests LowerLoop t m a)
       after_for a = goes_on (named (codes "scf.for") (head m).name) WrongOperation (loop_tests a) (ap (named (codes "scf.for")) named_as ∙ sym e ∙ f)
 
-      pub unmarked_loop : {P : Type 0} → d ≡ false → HasReasonAt {P = P} LowerLoop w x (Err NoIndex)
-      unmarked_loop h = tested LowerLoop (Err NoIndex) (fails (list_any (is_index_value t) (head m).operands) NoIndex (block_tests false) (operands_marked ∙ h) ∙ after_for false)
+      pub unmarked_loop : d ≡ false → FirstFailed w x LowerLoop false (Some NoIndex)
+      unmarked_loop h = tested LowerLoop false (Some NoIndex) (fails (list_any (is_index_value t) (head m).operands) NoIndex (block_tests false) (operands_marked ∙ h) ∙ after_for false)
 
-      pub blockless_loop : {P : Type 0} → d ≡ true → HasReasonAt {P = P} LowerLoop w x (Err BlockNotVerified)
-      blockless_loop h = tested LowerLoop (Err BlockNotVerified) (goes_on (list_any (is_index_value t) (head m).operands) NoIndex (block_tests false) (operands_marked ∙ h) ∙ after_for false)
+      pub blockless_loop : d ≡ true → FirstFailed w x LowerLoop false (Some BlockNotVerified)
+      blockless_loop h = tested LowerLoop false (Some BlockNotVerified) (goes_on (list_any (is_index_value t) (head m).operands) NoIndex (block_tests false) (operands_marked ∙ h) ∙ after_for false)
 
-      pub lowered_loop_tested : {P : Type 0} (p : P) → d ≡ true → HasReasonAt LowerLoop w x (Ok p)
-      lowered_loop_tested p h = tested LowerLoop (Ok p) (goes_on (list_any (is_index_value t) (head m).operands) NoIndex (block_tests true) (operands_marked ∙ h) ∙ after_for true)
+      pub lowered_loop_tested : d ≡ true → FirstFailed w x LowerLoop true None
+      lowered_loop_tested h = tested LowerLoop true None (goes_on (list_any (is_index_value t) (head m).operands) NoIndex (block_tests true) (operands_marked ∙ h) ∙ after_for true)
 
     module _ (b d : Bool) (e : b ≡ named (codes "scf.if") (name_term w.ctx n.head.name)) (f : b ≡ true) (g : d ≡ any i.index_results.items) where
       results_marked : list_any is_index (head m).results ≡ d
@@ -243,14 +248,14 @@ module _ (w : World) (x : ℕ) (n : Node) (shown : Some n ≡ option_map node_of
       after_if : (a : Bool) → first_failed_test (choice_tests a) ≡ first_failed_test (tests LowerChoice t m a)
       after_if a = goes_on (named (codes "scf.if") (head m).name) WrongOperation (choice_tests a) (ap (named (codes "scf.if")) named_as ∙ sym e ∙ f)
 
-      pub unmarked_choice : {P : Type 0} → d ≡ false → HasReasonAt {P = P} LowerChoice w x (Err NoIndex)
-      unmarked_choice h = tested LowerChoice (Err NoIndex) (fails (list_any is_index (head m).results) NoIndex (block_tests false) (results_marked ∙ h) ∙ after_if false)
+      pub unmarked_choice : d ≡ false → FirstFailed w x LowerChoice false (Some NoIndex)
+      unmarked_choice h = tested LowerChoice false (Some NoIndex) (fails (list_any is_index (head m).results) NoIndex (block_tests false) (results_marked ∙ h) ∙ after_if false)
 
-      pub blockless_choice : {P : Type 0} → d ≡ true → HasReasonAt {P = P} LowerChoice w x (Err BlockNotVerified)
-      blockless_choice h = tested LowerChoice (Err BlockNotVerified) (goes_on (list_any is_index (head m).results) NoIndex (block_tests false) (results_marked ∙ h) ∙ after_if false)
+      pub blockless_choice : d ≡ true → FirstFailed w x LowerChoice false (Some BlockNotVerified)
+      blockless_choice h = tested LowerChoice false (Some BlockNotVerified) (goes_on (list_any is_index (head m).results) NoIndex (block_tests false) (results_marked ∙ h) ∙ after_if false)
 
-      pub lowered_choice_tested : {P : Type 0} (p : P) → d ≡ true → HasReasonAt LowerChoice w x (Ok p)
-      lowered_choice_tested p h = tested LowerChoice (Ok p) (goes_on (list_any is_index (head m).results) NoIndex (block_tests true) (results_marked ∙ h) ∙ after_if true)
+      pub lowered_choice_tested : d ≡ true → FirstFailed w x LowerChoice true None
+      lowered_choice_tested h = tested LowerChoice true None (goes_on (list_any is_index (head m).results) NoIndex (block_tests true) (results_marked ∙ h) ∙ after_if true)
 
     -- an `arith` operation
     pub is_lower_index : (b d : Bool) → b ≡ among index_users (name_term w.ctx n.head.name) → b ≡ true → d ≡ any i.index_operands.items || any i.index_results.items → d ≡ true → IsLoweredBy lower_index w x (Some (plan.Operation i))

@@ -50,6 +50,39 @@ reason_named r s w x a k h o f = h o f ∙ ap (λ r. first_failed_test (tests r 
 pub dead_reason : (w : World) (x : ℕ) (a : Result RewritePlan Reason) → result_err a ≡ first_failed_test (dead_tests x (module_in w).tree (is_ok a)) → HasReasonAt rules.EraseDead w x a
 dead_reason w x a h o f = h ∙ ap (λ y. first_failed_test (dead_tests y (module_in w).tree (is_ok a))) (sym (found_id x (module_in w).tree o f))
 
+-- a rule that neither lowers nor reads more than its operation's head
+pub reads_only_head : (r : Rule) → is_lowering r ≡ false → (r ≡ rules.EraseDead → ⊥) → (r ≡ rules.OpenBranch → ⊥) → (r ≡ rules.OpenLoop → ⊥) → (r ≡ rules.StopLoop → ⊥) → reads_head r ≡ true
+reads_only_head rules.EraseDead l a b d e = absurd (a refl)
+reads_only_head rules.FoldToConstant l a b d e = refl
+reads_only_head rules.SwapConstant l a b d e = refl
+reads_only_head rules.DropZero l a b d e = refl
+reads_only_head rules.DropOne l a b d e = refl
+reads_only_head rules.DropAllOnes l a b d e = refl
+reads_only_head rules.CancelItself l a b d e = refl
+reads_only_head rules.KeepItself l a b d e = refl
+reads_only_head rules.ZeroRemainder l a b d e = refl
+reads_only_head rules.RegroupConstants l a b d e = refl
+reads_only_head rules.AddNegative l a b d e = refl
+reads_only_head rules.CompareItself l a b d e = refl
+reads_only_head rules.MirrorComparison l a b d e = refl
+reads_only_head rules.CompareZero l a b d e = refl
+reads_only_head rules.ChooseSame l a b d e = refl
+reads_only_head rules.ChooseKnown l a b d e = refl
+reads_only_head rules.ChooseTruth l a b d e = refl
+reads_only_head rules.ChooseOpposite l a b d e = refl
+reads_only_head rules.ExtendExtension l a b d e = refl
+reads_only_head rules.CutCast l a b d e = refl
+reads_only_head rules.CastBack l a b d e = refl
+reads_only_head rules.OpenBranch l a b d e = absurd (b refl)
+reads_only_head rules.OpenLoop l a b d e = absurd (d refl)
+reads_only_head rules.StopLoop l a b d e = absurd (e refl)
+reads_only_head rules.ExpandMinMax l a b d e = refl
+reads_only_head rules.ExpandDifference l a b d e = refl
+reads_only_head rules.ExpandRemainder l a b d e = refl
+reads_only_head rules.LowerIndex l a b d e = absurd (true≢false l)
+reads_only_head rules.LowerLoop l a b d e = absurd (true≢false l)
+reads_only_head rules.LowerChoice l a b d e = absurd (true≢false l)
+
 -- a rule that reads only the head of its operation has no condition on a block
 no_block : (r : Rule) → reads_head r ≡ true → asks_block r ≡ false
 no_block r e = go (is_erasing r) (same_rule r rules.OpenBranch) (asks_block r) (is_lowering r) e

@@ -25,5 +25,5 @@ returns-then-is_lowering c =
 pub returns : goal.returns
 returns c =
     let w = c.args.world.now in
-    subst (IsReasonAt c.args.rule (module_in w) c.args.op c.args.point.now) (sym c.err.ensures.value)
-    (answered (plan_meaning w.ctx (module_in w).next c.args.op c.args.point.now) c.args.rule w c.args.op c.args.point.now c.in_ok-answer.answer c.in_ok-answer.ensures.edits c.in_ok-answer.ensures.reason)
+    subst (IsReasonAt c.args.rule (module_in w) c.args.op c.args.point.now) (sym c.err-2.ensures.value)
+    (answered (plan_meaning w.ctx (module_in w).next c.args.op c.args.point.now) c.args.rule w c.args.op c.args.point.now c.in_ok-answer-2.answer c.in_ok-answer-2.ensures.edits c.in_ok-answer-2.ensures.reason)

@@ -1,4 +1,4 @@
-use Rattle.std.proofs.Common.{◌∙◌, drop, length, arith}
+use Rattle.std.proofs.Common.{◌∙◌, arith}
 use Rattle.greedy.specs.Parts.{IsAround}
 use Rattle.greedy.proofs.Adding.{rest_all, place_more, place_done}
 use Rattle.greedy.proofs.block.push_around_listed.Goals as goal

@@ -1,10 +1,9 @@
-use Rattle.std.proofs.Common.{◌≡◌, ◌∙◌, ◌+◌, refl, ap, sym, subst, false, Some, arith}
+use Rattle.std.proofs.Common.{◌∙◌, ◌+◌, refl, ap, sym, subst, false, Some, arith}
 use Rattle.ir_event.specs.Modules.{Module}
-use Rattle.patterns_base.specs.Rewrites.{none}
 use Rattle.patterns_base.specs.Canonicalization.{or_else}
 use Rattle.patterns.specs.Applied.{RewriteOutcome, IsReason}
 use Rattle.patterns.specs.Held.{module_held}
-use Rattle.patterns.proofs.Carrying.{applied_none, journaled_none}
+use Rattle.patterns.proofs.Carrying.{journaled_none}
 use Rattle.greedy.specs.PatternSet.{rule_or_pattern_of, rewrite_by_entry, patterns_of, by_or, first_applicable_rewrite, first_matching_entry, traced_as}
 use Rattle.greedy.proofs.Attempting.{applied_more, comes_here, fires_here, gave_all, gave_first, gave_none, journaled_more, none_comes, none_fires, long, noted_after, noted_of, reason_first, tail, reported_first}
 use Rattle.greedy.proofs.first_pattern.apply_first_pattern.Goals as goal

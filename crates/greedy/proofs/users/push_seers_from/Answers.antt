@@ -1,4 +1,4 @@
-use Rattle.std.proofs.Common.{◌∙◌, drop, length, arith}
+use Rattle.std.proofs.Common.{◌∙◌, drop, arith}
 use Rattle.greedy.specs.Parts.{IsSeer}
 use Rattle.greedy.proofs.Adding.{rest_all, place_more, place_done}
 use Rattle.greedy.proofs.users.push_seers_from.Goals as goal

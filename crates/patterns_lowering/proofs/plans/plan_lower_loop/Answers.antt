@@ -1,4 +1,4 @@
-use Rattle.std.proofs.Common.{sym, ap, ◌∙◌, subst}
+use Rattle.std.proofs.Common.{Some, false, sym, ap, ◌∙◌, subst}
 use Rattle.std.specs.Prelude.{codes}
 use Rattle.ir_event.specs.types.Terms.{name_term}
 use Rattle.ir_event.specs.Modules.{module_in}
@@ -7,7 +7,9 @@ use Rattle.patterns_soundness.specs.base.Lowering.{any, lower_loop}
 use Rattle.patterns_regions.specs.Blocks.{body_at}
 use Rattle.patterns_lowering.specs.Planned.{AreTaken}
 use Rattle.patterns_lowering.proofs.Shown.{raw, types_known_at}
-use Rattle.patterns_lowering.proofs.Ruled.{not_there, not_lower_loop, unmarked_lower_loop, no_block_lower_loop, is_lower_loop, indexed_lower_loop, other_loop, unmarked_loop, blockless_loop, lowered_loop_tested}
+use Rattle.patterns_lowering.proofs.Ruled.{not_there, not_there_tested, not_lower_loop, unmarked_lower_loop, no_block_lower_loop, is_lower_loop, indexed_lower_loop, other_loop, unmarked_loop, blockless_loop, lowered_loop_tested}
+use Rattle.patterns_regions.specs.Reason.TheVariants.{WrongOperation}
+use Rattle.patterns_soundness.specs.base.declared.rule.Rule.TheVariants.{LowerLoop}
 use Rattle.patterns_lowering.proofs.plans.plan_lower_loop.Goals as goal
 
 pub returns-in_default-clause-edits : goal.returns-in_default-clause-edits
@@ -56,14 +58,17 @@ returns-then-not-any-clause-reason c =
 pub returns-clause-reason : goal.returns-clause-reason
 returns-clause-reason c =
     lowered_loop_tested c.args.world.now c.args.op c.in-Some.node c.in-Some.ensures.node c.in_ok-of.of c.in_ok-of.ensures c.is_word.result c.any.result
-    (c.is_word.ensures ∙ ap (λ n. named (codes "scf.for") (name_term c.args.world.now.ctx n)) c.name.ensures) c.if-not-is_word.false (c.any.ensures ∙ ap any c.deref.ensures.value) _ c.if-not-any.false
+    (c.is_word.ensures ∙ ap (λ n. named (codes "scf.for") (name_term c.args.world.now.ctx n)) c.name.ensures) c.if-not-is_word.false (c.any.ensures ∙ ap any c.deref.ensures.value) c.if-not-any.false
 
 pub returns-in_default-arguments-clause-reason : goal.returns-in_default-arguments-clause-reason
 returns-in_default-arguments-clause-reason c =
     blockless_loop c.args.world.now c.args.op c.in-Some.node c.in-Some.ensures.node c.in_ok-of.of c.in_ok-of.ensures c.is_word.result c.any.result
     (c.is_word.ensures ∙ ap (λ n. named (codes "scf.for") (name_term c.args.world.now.ctx n)) c.name.ensures) c.if-not-is_word.false (c.any.ensures ∙ ap any c.deref.ensures.value) c.if-not-any.false
 
-pub returns-in_default-take-clause-reason : goal.returns-in_default-take-clause-reason
-returns-in_default-take-clause-reason c =
+pub returns-in_default-2-clause-reason : goal.returns-in_default-2-clause-reason
+returns-in_default-2-clause-reason c =
     blockless_loop c.args.world.now c.args.op c.in-Some.node c.in-Some.ensures.node c.in_ok-of.of c.in_ok-of.ensures c.is_word.result c.any.result
     (c.is_word.ensures ∙ ap (λ n. named (codes "scf.for") (name_term c.args.world.now.ctx n)) c.name.ensures) c.if-not-is_word.false (c.any.ensures ∙ ap any c.deref.ensures.value) c.if-not-any.false
+
+pub returns-in_default-clause-reason : goal.returns-in_default-clause-reason
+returns-in_default-clause-reason c = not_there_tested c.args.world.now c.args.op LowerLoop false (Some WrongOperation) c.in_default.ensures.node

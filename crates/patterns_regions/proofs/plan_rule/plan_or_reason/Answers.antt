@@ -4,7 +4,7 @@ use Rattle.std.specs.Result.{result_ok}
 use Rattle.ir_event.specs.Modules.{module_in}
 use Rattle.patterns_plans.specs.Planned.{IsPlanAt}
 use Rattle.patterns_plans.specs.reads.Rule.TheVariants.{EraseDead, OpenBranch, OpenLoop, StopLoop}
-use Rattle.patterns_regions.proofs.Answered.{dead_reason, head_plan, head_reason, reason_named, when_open_branch, when_open_loop, when_stop_loop}
+use Rattle.patterns_regions.proofs.Answered.{dead_reason, head_plan, head_reason, reads_only_head, reason_named, when_open_branch, when_open_loop, when_stop_loop}
 use Rattle.patterns_regions.proofs.plan_rule.plan_or_reason.Goals as goal
 
 pub returns-in-EraseDead-clause-edits : goal.returns-in-EraseDead-clause-edits
@@ -48,9 +48,9 @@ returns-in-StopLoop-clause-reason c =
 pub returns-in_default-clause-edits : goal.returns-in_default-clause-edits
 returns-in_default-clause-edits c =
     let w = c.args.world.now in
-    IfOk-weaker c.plan_or_reason.result _ _ (λ a h. head_plan c.args.rule w c.args.op c.args.node.now c.args.point.now c.plan_or_reason-requires.rule c.requires.shown a h) c.plan_or_reason.ensures.answer
+    IfOk-weaker c.plan_or_reason.result _ _ (λ a h. head_plan c.args.rule w c.args.op c.args.node.now c.args.point.now (reads_only_head c.args.rule c.requires.rule c.in_default.not-EraseDead c.in_default.not-OpenBranch c.in_default.not-OpenLoop c.in_default.not-StopLoop) c.requires.shown a h) c.plan_or_reason.ensures.answer
 
 pub returns-in_default-clause-reason : goal.returns-in_default-clause-reason
 returns-in_default-clause-reason c =
     let w = c.args.world.now in
-    IfOk-weaker c.plan_or_reason.result _ _ (λ a h. head_reason c.args.rule w c.args.op c.args.node.now c.args.point.now c.plan_or_reason-requires.rule c.requires.shown a h) c.plan_or_reason.ensures.answer
+    IfOk-weaker c.plan_or_reason.result _ _ (λ a h. head_reason c.args.rule w c.args.op c.args.node.now c.args.point.now (reads_only_head c.args.rule c.requires.rule c.in_default.not-EraseDead c.in_default.not-OpenBranch c.in_default.not-OpenLoop c.in_default.not-StopLoop) c.requires.shown a h) c.plan_or_reason.ensures.answer

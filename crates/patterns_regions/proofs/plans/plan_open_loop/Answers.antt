@@ -1,6 +1,5 @@
 use Rattle.std.proofs.Common.{◌∙◌, sym, ap, Some, length, take, drop, ◌-◌}
 use Rattle.std.specs.Prelude.{codes, option_map}
-use Rattle.std.proofs.lemmas.Result.{IfOk-weaker}
 use Rattle.ir_event.specs.types.Terms.{name_term}
 use Rattle.ir_event.specs.Modules.{module_in}
 use Rattle.patterns_plans.specs.reads.Words.{named}
@@ -21,13 +20,22 @@ returns-in_ok-go_never-in-Zero-clause-edits c =
 pub returns-in_ok-go_never-in-Zero-clause-of : goal.returns-in_ok-go_never-in-Zero-clause-of
 returns-in_ok-go_never-in-Zero-clause-of c = c.in_ok-go_never-in-Zero.ensures.fits_in c.args.world.now.ctx
 
-pub returns-in-One-clause-edits : goal.returns-in-One-clause-edits
-returns-in-One-clause-edits c =
+pub returns-in-Some-3-clause-edits : goal.returns-in-Some-3-clause-edits
+returns-in-Some-3-clause-edits c =
     let w = c.args.world.now in
     let xs = c.operands.result.now in
-    IfOk-weaker c.go_once.result _ _
-    (λ p h. once_open_loop w.ctx c.in-Some.node c.args.op (module_in w).tree c.args.point.now c.in-Some.ensures.node c.lower-item.result c.upper-item.result c.step-item.result (take (length xs - 3) (drop 3 xs))
+    ap (option_map (plan_meaning w.ctx (module_in w).next c.args.op c.args.point.now)) (sym c.in-Some-3.is)
+    ∙ once_open_loop w.ctx c.in-Some.node c.args.op (module_in w).tree c.args.point.now c.in-Some.ensures.node c.lower-item.result c.upper-item.result c.step-item.result (take (length xs - 3) (drop 3 xs))
     (sym c.operands.ensures ∙ three_items xs c.lower-item.result c.upper-item.result c.step-item.result _ _ _ c.in-len3-up.len_at_least c.lower-item.is c.upper-item.is c.step-item.is)
     c.is_word.result (c.is_word.ensures ∙ ap (λ n. named (codes "scf.for") (name_term w.ctx n)) c.name.ensures) c.if-not-is_word.false
-    (ap Some (sym c.in-One.is) ∙ sym c.in-Some-2.is ∙ c.in_ok-times.ensures) (option_map (plan_meaning w.ctx (module_in w).next c.args.op c.args.point.now) p) h)
-    c.go_once.ensures.edits
+    (ap Some (sym c.in-One.is) ∙ sym c.in-Some-2.is ∙ c.in_ok-times.ensures) _ c.in_ok-plan-in-One.ensures.edits
+
+pub returns-in-None-clause-edits : goal.returns-in-None-clause-edits
+returns-in-None-clause-edits c =
+    let w = c.args.world.now in
+    let xs = c.operands.result.now in
+    ap (option_map (plan_meaning w.ctx (module_in w).next c.args.op c.args.point.now)) (sym c.in-None.is)
+    ∙ once_open_loop w.ctx c.in-Some.node c.args.op (module_in w).tree c.args.point.now c.in-Some.ensures.node c.lower-item.result c.upper-item.result c.step-item.result (take (length xs - 3) (drop 3 xs))
+    (sym c.operands.ensures ∙ three_items xs c.lower-item.result c.upper-item.result c.step-item.result _ _ _ c.in-len3-up.len_at_least c.lower-item.is c.upper-item.is c.step-item.is)
+    c.is_word.result (c.is_word.ensures ∙ ap (λ n. named (codes "scf.for") (name_term w.ctx n)) c.name.ensures) c.if-not-is_word.false
+    (ap Some (sym c.in-One.is) ∙ sym c.in-Some-2.is ∙ c.in_ok-times.ensures) _ c.in_ok-plan-in-One.ensures.edits

@@ -1,4 +1,4 @@
-use Rattle.std.proofs.Common.{sym, subst}
+use Rattle.std.proofs.Common.{subst}
 use Rattle.ir_event.specs.store.Stored.{Stored}
 use Rattle.greedy.specs.Orders.{IsBeyond}
 use Rattle.greedy.proofs.Benches.{held_beyond}
