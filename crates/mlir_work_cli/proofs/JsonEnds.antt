@@ -164,7 +164,7 @@ not_true : (b : Bool) → not b ≡ true → b ≡ false
 not_true true e = absurd (true≢false (sym e))
 not_true false e = refl
 
--- all objects were handed on
+-- all objects were written to the sink
 on_sound : (on broken : Bool) → (on && not broken) ≡ true → (on ≡ true) × (broken ≡ false)
 on_sound on broken e = (and_first on (not broken) e, not_true broken (and_second on (not broken) e))
 

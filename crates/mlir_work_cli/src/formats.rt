@@ -75,7 +75,7 @@ fn run_in<L: AnalysisSource, R: Source, W: Sink + Drop>(
 
 /// Reads the whole input, a module and a script, and writes its output in the format of the command line, with its
 /// options and the patterns of its files. Returns the status, which is 4 only if a read or a write failed, and the
-/// writer. What is said of failed writes is about a writer that records them (`Watched`).
+/// writer. The clause on failed writes is about a writer that records them (`Watched`).
 ///
 /// Errors: memory runs out for the patterns or for a line of JSON.
 pub fn run_given<L: AnalysisSource, R: Source, W: Sink + Drop>(

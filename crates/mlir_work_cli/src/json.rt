@@ -36,8 +36,8 @@ fn ended(printed: Result<(), PrintFault>, status: u8) -> Result<u8, AllocError>
 /// only if a read or a write failed, and the writer.
 ///
 /// Unless the status is 4, all is flushed. At most `MAX_READS` reads are made. If memory runs out for a line, the whole
-/// input was read, a prefix of the output is written, and the status is `Err`. What is said of failed writes and of
-/// flushes is about a writer that records them (`Watched`).
+/// input was read, a prefix of the output is written, and the status is `Err`. The clauses on failed writes and on
+/// flushes are about a writer that records them (`Watched`).
 pub fn run_as_json<L: AnalysisSource, R: Source, W: Sink>(
     alloc: Global,
     key: u64,
